@@ -1,0 +1,5 @@
+pub mod Joins
+pub mod Selecting
+pub mod Splitting
+pub mod Basics
+pub mod RustValues

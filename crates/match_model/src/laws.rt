@@ -1,0 +1,45 @@
+//! Laws of the definitions: each function has an empty body, and its contract is a law.
+
+ghost use Rattle.match_model.specs.Laws.{OrIsConcatenation, GoesThrough, MissedWhereUncovered, FirstWayIsTaken};
+ghost use Rattle.match_model.specs.Laws.{JoinIsAssociative, CombineIsAssociative, BareWayIsUnit, PartsSplit, RustValuesLaw};
+
+/// An or-pattern's ways are its alternatives' ways, one after the other.
+pub fn or_is_concatenation()
+    ensures { OrIsConcatenation }
+{}
+
+/// A pattern goes through references on its own, and the binding mode changes.
+pub fn goes_through()
+    ensures { GoesThrough }
+{}
+
+/// With all guards refusing a match is missed exactly where no arm without a guard matches.
+pub fn missed_where_uncovered()
+    ensures { MissedWhereUncovered }
+{}
+
+/// The first way of the first arm that covers a value is taken.
+pub fn first_way_is_taken()
+    ensures { FirstWayIsTaken }
+{}
+
+/// Joining ways is associative, and so is combining them.
+pub fn join_is_associative()
+    ensures join { JoinIsAssociative }
+    ensures combine { CombineIsAssociative }
+{}
+
+/// The bare way is a unit.
+pub fn bare_way_is_unit()
+    ensures { BareWayIsUnit }
+{}
+
+/// The ways of patterns on a list of parts are the combinations of those on its two halves, the heart of specialising.
+pub fn parts_split<T>()
+    ensures { PartsSplit T }
+{}
+
+/// Every value of a type of Rust is built by exactly one elementary constructor of the type, opaque and unseen ones apart.
+pub fn rust_values()
+    ensures { RustValuesLaw }
+{}
