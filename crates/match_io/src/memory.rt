@@ -167,7 +167,8 @@ impl Files for MemoryFiles {
             ⊎ IsNone (memory_holds self.old name.now)) }
         ensures counted { memory_calls self.new ≡ next_count (memory_calls self.old) }
         ensures risen { memory_faults self.new ≡ faults_after (is_err result) (memory_faults self.old) }
-        ensures stays { (memory_failing self.new ≡ memory_failing self.old) × (memory_step self.new ≡ memory_step self.old) }
+        ensures stays { (memory_failing self.new ≡ memory_failing self.old)
+            × (memory_step self.new ≡ memory_step self.old) }
     {
         if is_failing(&mut self.calls, &self.failing) {
             return Err(fault(&mut self.faults));
@@ -193,10 +194,12 @@ impl Files for MemoryFiles {
 
         // It fails exactly where its number is listed, and gives as much as is left, fits and the step allows.
         ensures exact { IsErr result ↔ IsTrue (is_listed (memory_failing self.old) (memory_calls self.old)) }
-        ensures amount { IfOk result (λ n. n ≡ min (min (length (memory_left self.old)) (memory_step self.old)) (length into.old)) }
+        ensures amount { IfOk result (λ n. n ≡ min (min (length (memory_left self.old)) (memory_step self.old))
+            (length into.old)) }
         ensures counted { memory_calls self.new ≡ next_count (memory_calls self.old) }
         ensures risen { memory_faults self.new ≡ faults_after (is_err result) (memory_faults self.old) }
-        ensures stays { (memory_failing self.new ≡ memory_failing self.old) × (memory_step self.new ≡ memory_step self.old) }
+        ensures stays { (memory_failing self.new ≡ memory_failing self.old)
+            × (memory_step self.new ≡ memory_step self.old) }
     {
         if is_failing(&mut self.calls, &self.failing) {
             return Err(fault(&mut self.faults));

@@ -2,7 +2,7 @@
 use Rattle.std.proofs.Common.{◌≡◌, ◌∙◌, sym, subst, ℕ, ◌+◌, ◌<◌, ◌≤◌, List, Bool, true, false, take, length, nat_lt, min, MatchBool, Result, Ok, Err, IfOk, arith}
 use Rattle.std.proofs.lemmas.List.{length-take, take_all}
 use Rattle.std.proofs.lemmas.Bool.Decides.{nat_tests}
-use Rattle.match_top.specs.Answers.{Answers, IsJudged, IsRefusedBy, taken, most_taken, longest_source}
+use Rattle.match_top.specs.Answers.{Answers, IsJudged, IsRefusedBy, taken, longest_source}
 use Rattle.match_top.specs.declared.statuses.Status.{Status}
 use Rattle.match_top.specs.declared.answering.Answer.{Answer}
 
@@ -22,13 +22,13 @@ short_taken : (n : ℕ) (bytes : List ℕ) → length (take (n + 1) bytes) ≤ n
 short_taken n bytes fits = short n (length bytes) (length (take (n + 1) bytes)) (length-take (n + 1) bytes) fits
 
 answers_long : (source bytes text : List ℕ) (status : Status) → source ≡ taken bytes → longest_source < length source → IsRefusedBy 7 text status → Answers bytes text status
-unfolding Answers taken most_taken
+unfolding Answers taken
 answers_long source bytes text status same over refused =
     let long : nat_lt longest_source (length bytes) ≡ true = long_taken longest_source bytes (subst (λ (z : List ℕ). longest_source < length z) same over) in
     subst (λ (b : Bool). MatchBool b (IsRefusedBy 7 text status) (IsJudged bytes text status)) (sym long) refused
 
 answers_short : (source bytes text : List ℕ) (status : Status) → source ≡ taken bytes → length source ≤ longest_source → IsJudged source text status → Answers bytes text status
-unfolding Answers taken most_taken
+unfolding Answers taken
 answers_short source bytes text status same fits judged =
     let within : length bytes ≤ longest_source = short_taken longest_source bytes (subst (λ (z : List ℕ). length z ≤ longest_source) same fits) in
     let whole : source ≡ bytes = same ∙ take_all (longest_source + 1) bytes (omega arith) in

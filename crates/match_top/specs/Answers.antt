@@ -9,7 +9,7 @@ unfoldable pub longest_source : ℕ
 longest_source = 16777216
 
 -- how many bytes of a file are taken at most: one more than a source may have, which tells that a file is longer
-unfoldable pub most_taken : ℕ
+abbrev pub most_taken : ℕ
 most_taken = longest_source + 1
 
 -- what is taken of a file that has these bytes

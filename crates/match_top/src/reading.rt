@@ -38,7 +38,7 @@ impl From<AllocError> for ReadError {
 }
 
 /// What is taken of a file: all its bytes, or one more than a source may have.
-#[tactic(auto, unfolding(crate::specs::Answers::taken, crate::specs::Answers::most_taken, crate::specs::Answers::longest_source))]
+#[tactic(auto, unfolding(crate::specs::Answers::taken, crate::specs::Answers::longest_source))]
 pub(crate) fn read_source<F: Files>(
     alloc: Global,
     files: &mut F,
@@ -124,7 +124,8 @@ fn read_some<F: Files>(
     ensures sure { F.sure files.old → F.sure files.new }
     ensures few { TakesAtMost (length into.old) (F.left files.old) (F.left files.new) }
     ensures later { F.faults files.old ≤ F.faults files.new }
-    ensures taken { IfOk result (λ count. TakesFront (F.left files.old) (F.left files.new) read.old.items read.new.items count (length into.old)) }
+    ensures taken { IfOk result (λ count. TakesFront (F.left files.old) (F.left files.new)
+        read.old.items read.new.items count (length into.old)) }
     ensures failed { IsErrOf result ReadError.Failed → Rose (F.faults files.old) (F.faults files.new) }
     ensures unsure { F.sure files.old → IsErrOf result ReadError.Failed → ⊥ }
 {
