@@ -3,3 +3,4 @@ pub mod Selecting
 pub mod Splitting
 pub mod Basics
 pub mod RustValues
+pub mod Agreeing

@@ -2,6 +2,7 @@
 
 ghost use Rattle.match_model.specs.Laws.{OrIsConcatenation, GoesThrough, MissedWhereUncovered, FirstWayIsTaken};
 ghost use Rattle.match_model.specs.Laws.{JoinIsAssociative, CombineIsAssociative, BareWayIsUnit, PartsSplit, RustValuesLaw};
+ghost use Rattle.match_model.specs.Readings.{ReadingsAgree};
 
 /// An or-pattern's ways are its alternatives' ways, one after the other.
 pub fn or_is_concatenation()
@@ -37,6 +38,11 @@ pub fn bare_way_is_unit()
 /// The ways of patterns on a list of parts are the combinations of those on its two halves, the heart of specialising.
 pub fn parts_split<T>()
     ensures { PartsSplit T }
+{}
+
+/// It does not count what becomes of the binding mode at a `&` or a `mut` where it is a move there already.
+pub fn readings_agree()
+    ensures { ReadingsAgree }
 {}
 
 /// Every value of a type of Rust is built by exactly one elementary constructor of the type, opaque and unseen ones apart.
