@@ -4,3 +4,7 @@ pub mod Splitting
 pub mod Basics
 pub mod RustValues
 pub mod Agreeing
+pub mod Empty
+pub mod Inhabited
+pub mod RustParts
+pub mod Marked
