@@ -3,3 +3,8 @@ pub mod Selecting
 pub mod Splitting
 pub mod Basics
 pub mod RustValues
+pub mod Agreeing
+pub mod Empty
+pub mod Inhabited
+pub mod RustParts
+pub mod Marked

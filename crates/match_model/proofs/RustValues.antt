@@ -20,7 +20,7 @@ flag_built b = record { by = OneFlag b; of_set = refl; build = flag_itself b; on
     only (OneFlag c) h k = ap OneFlag (flag_equal c b k)
     only _ h k = cc
 
-one_number : (m n : ℤ) → IsTrue (builds_one (OneNumber m) (Num n)) → m ≡ n
+pub one_number : (m n : ℤ) → IsTrue (builds_one (OneNumber m) (Num n)) → m ≡ n
 one_number m n h = grind arith
 
 itself : (n : ℤ) → IsTrue (builds_one (OneNumber n) (Num n))

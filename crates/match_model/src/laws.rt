@@ -2,6 +2,8 @@
 
 ghost use Rattle.match_model.specs.Laws.{OrIsConcatenation, GoesThrough, MissedWhereUncovered, FirstWayIsTaken};
 ghost use Rattle.match_model.specs.Laws.{JoinIsAssociative, CombineIsAssociative, BareWayIsUnit, PartsSplit, RustValuesLaw};
+ghost use Rattle.match_model.specs.Emptiness.{RustPartsLaw, RustEmptyLaw, RustUnsureLaw};
+ghost use Rattle.match_model.specs.Readings.{ReadingsAgree};
 
 /// An or-pattern's ways are its alternatives' ways, one after the other.
 pub fn or_is_concatenation()
@@ -39,7 +41,24 @@ pub fn parts_split<T>()
     ensures { PartsSplit T }
 {}
 
+/// It does not count what becomes of the binding mode at a `&` or a `mut` where it is a move there already.
+pub fn readings_agree()
+    ensures { ReadingsAgree }
+{}
+
 /// Every value of a type of Rust is built by exactly one elementary constructor of the type, opaque and unseen ones apart.
 pub fn rust_values()
     ensures { RustValuesLaw }
+{}
+
+/// A tree that a constructor of a type of Rust builds is a value exactly where its parts are.
+pub fn rust_parts()
+    ensures { RustPartsLaw }
+{}
+
+/// Marks that came about one by one and are stable tell exactly which types have no value at a sure place; at an unsure
+/// place every type has one.
+pub fn rust_emptiness()
+    ensures sure { RustEmptyLaw }
+    ensures unsure { RustUnsureLaw }
 {}
