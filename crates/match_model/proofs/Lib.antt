@@ -8,3 +8,8 @@ pub mod Empty
 pub mod Inhabited
 pub mod RustParts
 pub mod Marked
+pub mod ExamplesValues
+pub mod ExamplesWays
+pub mod ExamplesMatch
+pub mod ExamplesWitness
+pub mod ExamplesTree
