@@ -13,3 +13,5 @@ pub mod ExamplesWays
 pub mod ExamplesMatch
 pub mod ExamplesWitness
 pub mod ExamplesTree
+pub mod ExamplesRanges
+pub mod OneMeaning
