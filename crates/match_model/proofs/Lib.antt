@@ -15,3 +15,5 @@ pub mod ExamplesWitness
 pub mod ExamplesTree
 pub mod ExamplesRanges
 pub mod OneMeaning
+pub mod OnePieces
+pub mod OneAnswer
