@@ -1,5 +1,5 @@
 -- Small facts on tests and options.
-use Rattle.std.proofs.Common.{◌≡◌, ℕ, ℤ, ◌<◌, Bool, true, false, ◌&&◌, ◌||◌, List, length, Option, Some, None, is_some, nat_eq, int_eq, refl, arith, slice_get}
+use Rattle.std.proofs.Common.{◌≡◌, ◌⊎◌, inl, inr, ℕ, ℤ, ◌<◌, Bool, true, false, ◌&&◌, ◌||◌, List, length, Option, Some, None, is_some, nat_eq, int_eq, refl, arith, slice_get}
 use Rattle.std.proofs.lemmas.Bool.Decides.{nat_tests}
 use Rattle.std.proofs.lemmas.Option.{slice_get_within}
 use Rattle.std.proofs.lemmas.Slice.Eq.{bytes_eq-Decides}
@@ -45,6 +45,13 @@ or_left false b h = cc
 pub or_right : (a b : Bool) → b ≡ true → (a || b) ≡ true
 or_right true b h = refl
 or_right false b h = h
+
+pub either : (a b : Bool) → (a || b) ≡ true → (a ≡ true) ⊎ (b ≡ true)
+either true b h = inl refl
+either false b h = inr h
+
+pub untrue : {A : Type 0} → false ≡ true → A
+untrue e = cc
 
 -- what was found, where a test of it holds
 pub found : {A : Type 0} (o : Option A) (f : A → Bool) → (elim o [ None ↦ false | Some x ↦ f x ]) ≡ true →

@@ -17,7 +17,7 @@ use Rattle.match_model.specs.ArenaUnreachable.{in_reading_order}
 use Rattle.match_model.specs.Unreachable.{Entry}
 use Rattle.match_model.specs.Matrices.{matrix_ways, first_rows}
 use Rattle.match_model.specs.OfType.{type_at, case_is_of, node_is_of}
-use Rattle.match_model.specs.PlainTree.{MTree, SwitchTree, TakeTree, MissTree, no_branch, more_branches, nodes_from, switches, takes, one_case, no_case, with_else, no_row_left, IsPlainTree, by_rows}
+use Rattle.match_model.specs.PlainTree.{MTree, SwitchTree, TakeTree, MissTree, no_branch, more_branches, nodes_from, switches, takes, one_case, no_case, with_else, no_row_left, IsPlainTree, lowered}
 use Rattle.match_model.specs.RustTypes.{rust_context, RustValue}
 use Rattle.match_model.proofs.ExamplesValues.{program}
 use Rattle.match_model.proofs.ExamplesWays.{x_name, number, tuple, row, bound}
@@ -118,7 +118,7 @@ more_than_unseen only = no_unseen (only (Flag true) refl)
 
 pub only_true_lowers : IsPlainTree (rust_context program) (RustValue program) only_true (nodes_from 0 only_true_tree)
 only_true_lowers =
-    by_rows (Flag true) only_true_tree refl
+    lowered (Flag true) only_true_tree refl
     (switches (record { place = []; type = BoolType; sure = true }) [] _ [] (FlagCtor false ∷ FlagCtor true ∷ []) _ refl refl refl refl
     (no_case _ _ _ _ (FlagCtor false) (FlagCtor true ∷ []) _ (inl refl)
     (one_case _ _ _ _ (FlagCtor true) [] (TakeTree 0 []) _ refl (Flag true, refl, refl) (takes [] _ [] refl refl)

@@ -13,3 +13,7 @@ pub mod ExamplesWays
 pub mod ExamplesMatch
 pub mod ExamplesWitness
 pub mod ExamplesTree
+pub mod ExamplesRanges
+pub mod OneMeaning
+pub mod OnePieces
+pub mod OneAnswer

@@ -226,8 +226,8 @@ mutual
 -- the plain tree of a match: a lone node where the domain is empty, else that of the arms over the one column of the
 -- scrutinee, its nodes numbered in preorder
 pub data IsPlainTree {T : Type 0} (cx : Context T) (IsValue : T → Bool → MValue → Type 0) (m : MDeMatch T) : List MNode → Type 0 where
-  nothing_to_match : ((v : MValue) → ¬ IsValue m.type m.sure v) → IsPlainTree cx IsValue m (VoidNode ∷ [])
-  by_rows : (v : MValue) (tree : MTree) → IsValue m.type m.sure v →
+  nothing_to_lower : ((v : MValue) → ¬ IsValue m.type m.sure v) → IsPlainTree cx IsValue m (VoidNode ∷ [])
+  lowered : (v : MValue) (tree : MTree) → IsValue m.type m.sure v →
       Lowers cx IsValue ((u : MValue) → IsValue m.type m.sure u → u ≡ Unseen)
       (record { place = []; type = m.type; sure = m.sure } ∷ []) (first_rows 0 m.arms) tree →
       IsPlainTree cx IsValue m (nodes_from 0 tree)

@@ -1,6 +1,6 @@
 -- When a match, a row or a matrix of the engine is well typed for a context.
-use Rattle.std.specs.Prelude.{◌≡◌, ◌≢◌, ⊤, ℕ, suc, Bool, true, false, not, ◌&&◌, List, [], ◌∷◌, ◌++◌, map, length, nat_eq, nat_le, Some, None, slice_get, IsTrue}
-use Rattle.std.specs.List.{list_any, list_all, flat_map, Contains}
+use Rattle.std.specs.Prelude.{◌≡◌, ⊤, ℕ, suc, Bool, true, false, not, ◌&&◌, List, [], ◌∷◌, ◌++◌, map, length, nat_eq, nat_le, Some, None, IsTrue}
+use Rattle.std.specs.List.{list_any, list_all, flat_map, Contains, IsDistinct}
 use Rattle.match_model.specs.Texts.{text_eq}
 use Rattle.match_model.specs.Constructors.{LongerShape, MCtor, LaterCtor, OtherTextCtor, RowCtor, WildCtor, OrCtor, least_length, belongs}
 use Rattle.match_model.specs.Contexts.{Context}
@@ -107,17 +107,13 @@ abbrev mutual
   uids_in_all no_de_pats = []
   uids_in_all (more_de_pats p ps) = uids_in p ++ uids_in_all ps
 
--- no number stands twice
-abbrev pub Differ : List ℕ → Type 0
-Differ uids = (i j : ℕ) (u w : ℕ) → slice_get uids i ≡ Some u → slice_get uids j ≡ Some w → i ≢ j → u ≢ w
-
 -- the match is well typed: its type is one of the context's, each arm's pattern has it, the names of an arm differ, and no two
 -- patterns have one uid
 pub record IsWellTyped {T : Type 0} (IsType : T → Type 0) (cx : Context T) (m : MDeMatch T) : Type 0 where
   pub type : IsType m.type
   pub typed : (a : MDeArm T) → Contains m.arms a → IsTyped cx m.type a.pat
   pub names : (a : MDeArm T) → Contains m.arms a → IsTrue (names_differ a.pat)
-  pub uids : Differ (flat_map (λ a. uids_in a.pat) m.arms)
+  pub uids : IsDistinct nat_eq (flat_map (λ a. uids_in a.pat) m.arms)
 
 -- a head is a wildcard, or well typed for the type of its column
 abbrev pub IsHeadTyped : {T : Type 0} → Context T → T → Head T → Type 0

@@ -4,6 +4,7 @@ ghost use Rattle.match_model.specs.Laws.{OrIsConcatenation, GoesThrough, MissedW
 ghost use Rattle.match_model.specs.Laws.{JoinIsAssociative, CombineIsAssociative, BareWayIsUnit, PartsSplit, RustValuesLaw};
 ghost use Rattle.match_model.specs.Emptiness.{RustPartsLaw, RustEmptyLaw, RustUnsureLaw};
 ghost use Rattle.match_model.specs.Readings.{ReadingsAgree};
+ghost use Rattle.match_model.specs.Uniqueness.{MeaningIsOne, UnreachableListIsOne, PiecesAreOne, WitnessListIsOne, PlainTreeIsOne};
 
 /// An or-pattern's ways are its alternatives' ways, one after the other.
 pub fn or_is_concatenation()
@@ -61,4 +62,29 @@ pub fn rust_parts()
 pub fn rust_emptiness()
     ensures sure { RustEmptyLaw }
     ensures unsure { RustUnsureLaw }
+{}
+
+/// A tree means one thing alone for a value and answers.
+pub fn meaning_is_one()
+    ensures { MeaningIsOne }
+{}
+
+/// A match has one list of what is unreachable.
+pub fn unreachable_list_is_one()
+    ensures { UnreachableListIsOne }
+{}
+
+/// A column has one list of pieces.
+pub fn pieces_are_one()
+    ensures { PiecesAreOne }
+{}
+
+/// A match has one witness list.
+pub fn witness_list_is_one<T>()
+    ensures { WitnessListIsOne T }
+{}
+
+/// A match has one plain tree.
+pub fn plain_tree_is_one<T>()
+    ensures { PlainTreeIsOne T }
 {}
