@@ -17,3 +17,4 @@ pub mod ExamplesRanges
 pub mod OneMeaning
 pub mod OnePieces
 pub mod OneAnswer
+pub mod FirstMatrix

@@ -36,18 +36,23 @@ abbrev pub de_pats_of : {T : Type 0} → List (MDePat T) → MDePats T
 de_pats_of [] = no_de_pats
 de_pats_of (p ∷ ps) = more_de_pats p (de_pats_of ps)
 
+-- the pattern's constructor
 abbrev pub ctor_of : {T : Type 0} → MDePat T → MCtor
 ctor_of (de_pat c t uid at subs binds) = c
 
+-- the pattern's type
 abbrev pub type_of : {T : Type 0} → MDePat T → T
 type_of (de_pat c t uid at subs binds) = t
 
+-- the number that a trace knows the pattern by
 abbrev pub uid_of : {T : Type 0} → MDePat T → ℕ
 uid_of (de_pat c t uid at subs binds) = uid
 
+-- the pattern's offset
 abbrev pub at_of : {T : Type 0} → MDePat T → ℕ
 at_of (de_pat c t uid at subs binds) = at
 
+-- the patterns of its parts, or its alternatives
 abbrev pub subs_of : {T : Type 0} → MDePat T → List (MDePat T)
 subs_of (de_pat c t uid at subs binds) = de_pats_list subs
 

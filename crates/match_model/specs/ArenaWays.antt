@@ -91,10 +91,12 @@ abbrev mutual
   arena_alternatives (de_pat c t uid at subs binds) =
       alternatives_by_ctor c subs (choices_in subs) (alternatives_in_subs subs)
 
+  -- the alternatives inside the patterns, one pattern after the other
   pub alternatives_in_subs : {T : Type 0} → MDePats T → Alternatives
   alternatives_in_subs no_de_pats = no_alternative
   alternatives_in_subs (more_de_pats p ps) = and_others (arena_alternatives p) (alternatives_in_subs ps)
 
+  -- each pattern as an alternative, with those inside it
   pub choices_in : {T : Type 0} → MDePats T → Alternatives
   choices_in no_de_pats = no_alternative
   choices_in (more_de_pats p ps) = alternative (uid_of p) (at_of p) (arena_alternatives p) (choices_in ps)

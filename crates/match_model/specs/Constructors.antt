@@ -102,6 +102,7 @@ is_of_set TextSet (OneText t) = list_all is_scalar t
 is_of_set (RowSet len) (OneLength n) = allows_length len n
 is_of_set _ _ = false
 
+-- the end has no bound
 abbrev pub is_free : MEnd → Bool
 is_free Free = true
 is_free (At n) = false
@@ -115,6 +116,7 @@ last_range first (Some second) = second
 abbrev pub greatest_held : ℤ
 greatest_held = pos (2 ^ 128 - 1)
 
+-- the least number that the program can hold
 abbrev pub least_held : ℤ
 least_held = negsuc (2 ^ 128 - 2)
 

@@ -22,10 +22,12 @@ abbrev mutual
   has_value marks (NamedType ResultOwner arguments) = some_has_value marks arguments
   has_value marks _ = true
 
+  -- by the marks each of the types has a value
   pub all_have_value : (marks : List Bool) → MTypes → Bool
   all_have_value marks no_types = true
   all_have_value marks (more_types t ts) = has_value marks t && all_have_value marks ts
 
+  -- by the marks some of the types has a value
   pub some_has_value : (marks : List Bool) → MTypes → Bool
   some_has_value marks no_types = false
   some_has_value marks (more_types t ts) = has_value marks t || some_has_value marks ts

@@ -8,8 +8,9 @@ use Rattle.match_model.specs.Ways.{Way, bare_way, join, combine, choosing, under
 use Rattle.match_model.specs.Matching.{ways, mode_behind}
 use Rattle.match_model.specs.Match.{ArmWays, is_covered}
 use Rattle.match_model.specs.Select.{tries_from, select, Took, Missed}
-use Rattle.match_model.specs.ArenaPatterns.{MDePat, de_pats_of}
-use Rattle.match_model.specs.ArenaWays.{Numbered, subs_ways}
+use Rattle.match_model.specs.ArenaPatterns.{MDePat, de_pats_of, MDeMatch}
+use Rattle.match_model.specs.ArenaWays.{Numbered, subs_ways, arena_arm}
+use Rattle.match_model.specs.Matrices.{first_matrix, matrix_ways}
 use Rattle.match_model.specs.ContextLaws.{ValuesLaw}
 use Rattle.match_model.specs.RustTypes.{is_type, rust_context, RustValue}
 
@@ -52,6 +53,7 @@ FirstWayIsTaken =
 abbrev pub JoinIsAssociative : Type 0
 JoinIsAssociative = (a b c : Way) → join (join a b) c ≡ join a (join b c)
 
+-- it does not count in which groups lists of ways are combined
 abbrev pub CombineIsAssociative : Type 0
 CombineIsAssociative = (xs ys zs : List Way) → combine (combine xs ys) zs ≡ combine xs (combine ys zs)
 
@@ -64,6 +66,11 @@ abbrev pub PartsSplit : (T : Type 0) → Type 0
 PartsSplit T =
     (ps qs : List (MDePat T)) (us vs : List Numbered) → length ps ≡ length us →
     subs_ways (de_pats_of (ps ++ qs)) (us ++ vs) ≡ combine (subs_ways (de_pats_of ps) us) (subs_ways (de_pats_of qs) vs)
+
+-- the matrix of the arms' patterns over the scrutinee has the arms' ways
+abbrev pub FirstMatrixHasTheArms : (T : Type 0) → Type 0
+FirstMatrixHasTheArms T =
+    (m : MDeMatch T) (v : MValue) → matrix_ways (first_matrix m) v ≡ tries_from 0 (map arena_arm m.arms) v
 
 -- Rust's own types keep the law on values: exactly one elementary constructor builds each
 abbrev pub RustValuesLaw : Type 0

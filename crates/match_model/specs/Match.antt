@@ -36,14 +36,17 @@ abbrev mutual
   alternatives_in (OrPat choices) = alternatives_of choices
   alternatives_in _ = no_alternative
 
+  -- the alternatives of the patterns of a list, one pattern after the other
   pub alternatives_in_items : MPats → Alternatives
   alternatives_in_items no_pats = no_alternative
   alternatives_in_items (more_pats p ps) = and_others (alternatives_in p) (alternatives_in_items ps)
 
+  -- the alternatives of the patterns of a form, as they are written
   pub alternatives_in_fields : MNumbered → Alternatives
   alternatives_in_fields no_numbered = no_alternative
   alternatives_in_fields (more_numbered n p ps) = and_others (alternatives_in p) (alternatives_in_fields ps)
 
+  -- each alternative of an or-pattern, with those inside it
   pub alternatives_of : MNumbered → Alternatives
   alternatives_of no_numbered = no_alternative
   alternatives_of (more_numbered at p ps) = alternative at at (alternatives_in p) (alternatives_of ps)
@@ -58,6 +61,7 @@ arm_ways a = record {
   alternatives = alternatives_in a.pat;
 }
 
+-- the list has nothing in it
 abbrev pub is_empty_list : {A : Type 0} → List A → Bool
 is_empty_list [] = true
 is_empty_list (_ ∷ _) = false

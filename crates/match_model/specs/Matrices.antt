@@ -6,7 +6,7 @@ use Rattle.match_model.specs.Ways.{Way, bare_way, combine, under, bindings_of_bo
 use Rattle.match_model.specs.Select.{Try, try_of}
 use Rattle.match_model.specs.Places.{MStep, part_at, position_at}
 use Rattle.match_model.specs.Trees.{MBind, bindings_in, places_are}
-use Rattle.match_model.specs.ArenaPatterns.{MDeArm}
+use Rattle.match_model.specs.ArenaPatterns.{MDeArm, MDeMatch}
 use Rattle.match_model.specs.ArenaWays.{arena_ways}
 use Rattle.match_model.specs.Rows.{Head}
 
@@ -73,6 +73,13 @@ abbrev pub first_rows : {T : Type 0} → ℕ → List (MDeArm T) → List (MRow 
 first_rows j [] = []
 first_rows j (a ∷ rest) =
     record { heads = Some a.pat ∷ []; arm = j; guarded = a.guarded; chosen = []; caught = [] } ∷ first_rows (suc j) rest
+
+-- the first matrix of a match: one column, the scrutinee's, and one row for each arm
+abbrev pub first_matrix : {T : Type 0} → MDeMatch T → MMatrix T
+first_matrix m = record {
+  columns = record { place = []; type = m.type; sure = m.sure } ∷ [];
+  rows = first_rows 0 m.arms;
+}
 
 -- the value is one that a matrix speaks of: at each column's place stands a value of its type, and each place is there
 -- that a row has caught

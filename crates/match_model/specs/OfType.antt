@@ -50,6 +50,7 @@ pub record Entered : Type 0 where
   pub ctor : MCtor
   pub part : ℕ
 
+-- the constructor and the part that a step enters, where it enters one
 abbrev pub entered : MSet → MStep → Option Entered
 entered set ThroughStep = Some (record { ctor = PointCtor; part = 0 })
 entered set (FieldStep k i) = Some (record { ctor = node_ctor set k; part = i })
@@ -86,6 +87,7 @@ case_ctor (LengthCase n) = Some (RowCtor (FixedShape n))
 case_ctor (LongerCase f b) = Some (RowCtor (LongerShape f b))
 case_ctor ElseCase = None
 
+-- the constructor, where there is one, is the type's
 abbrev pub ctor_is_of : {T : Type 0} → Context T → T → Option MCtor → Bool
 ctor_is_of cx t None = true
 ctor_is_of cx t (Some c) = has_ctor cx t c
@@ -94,6 +96,7 @@ ctor_is_of cx t (Some c) = has_ctor cx t c
 abbrev pub case_is_of : {T : Type 0} → Context T → T → MCase → Bool
 case_is_of cx t c = ctor_is_of cx t (case_ctor c)
 
+-- there is a type, and the cases are of it
 abbrev pub cases_are_of : {T : Type 0} → Context T → Option T → List MBranch → Bool
 cases_are_of cx None branches = false
 cases_are_of cx (Some t) branches = list_all (λ b. case_is_of cx t b.case) branches

@@ -67,6 +67,7 @@ longest_front [] = 0
 longest_front (RowCtor (LongerShape f b) ∷ heads) = max f (longest_front heads)
 longest_front (_ ∷ heads) = longest_front heads
 
+-- the longest back of a head with a rest
 abbrev pub longest_back : List MCtor → ℕ
 longest_back [] = 0
 longest_back (RowCtor (LongerShape f b) ∷ heads) = max b (longest_back heads)
@@ -82,6 +83,7 @@ slice_pieces heads =
     each_below (λ n. RowCtor (FixedShape n)) (lengths_end heads)
     ++ RowCtor (LongerShape (lengths_end heads - longest_back heads) (longest_back heads)) ∷ []
 
+-- the constructor is a row of one length
 abbrev pub is_fixed : MCtor → Bool
 is_fixed (RowCtor (FixedShape n)) = true
 is_fixed _ = false

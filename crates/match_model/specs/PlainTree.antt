@@ -36,6 +36,7 @@ abbrev mutual
   size_of MissTree = 1
   size_of VoidTree = 1
 
+  -- how many nodes the trees of the cases have
   pub sizes_of : MBranches → ℕ
   sizes_of no_branch = 0
   sizes_of (more_branches c t rest) = size_of t + sizes_of rest
@@ -54,6 +55,7 @@ abbrev mutual
   nodes_from n MissTree = MissNode ∷ []
   nodes_from n VoidTree = VoidNode ∷ []
 
+  -- the nodes of the cases' trees, one tree after the other, numbered from `n`
   pub branch_nodes : ℕ → MBranches → List MNode
   branch_nodes n no_branch = []
   branch_nodes n (more_branches c t rest) = nodes_from n t ++ branch_nodes (n + size_of t) rest
@@ -82,6 +84,7 @@ abbrev pub put_bind : MBind → List MBind → List MBind
 put_bind b [] = b ∷ []
 put_bind b (c ∷ rest) = match_ordering (compare_texts c.name b.name) (c ∷ put_bind b rest) (b ∷ c ∷ rest) (b ∷ c ∷ rest)
 
+-- the names ascending
 abbrev pub by_name : List MBind → List MBind
 by_name [] = []
 by_name (b ∷ rest) = put_bind b (by_name rest)
@@ -101,6 +104,7 @@ expand_first place r (None ∷ rest) = r ∷ []
 expand_first place r (Some p ∷ rest) =
     map (λ c. row_with r (Some c.pat ∷ rest) (map (bind_at place) c.binds)) (choices_of p)
 
+-- the rows once for each alternative of their first heads
 abbrev pub expand_rows : {T : Type 0} → List MStep → List (MRow T) → List (MRow T)
 expand_rows place rows = flat_map (λ r. expand_first place r r.heads) rows
 
@@ -165,6 +169,7 @@ case_of _ = ElseCase
 abbrev pub is_present : (heads : List MCtor) → (piece : MCtor) → Bool
 is_present heads piece = list_any (λ h. has_piece h piece) heads
 
+-- the open place of a column
 abbrev pub open_of : {T : Type 0} → MColumn T → Open T
 open_of c = record { type = c.type; sure = c.sure }
 

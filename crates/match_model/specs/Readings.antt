@@ -14,6 +14,7 @@ Test = MValue → Bool
 abbrev pub passes : Test
 passes v = true
 
+-- the mode is a move
 abbrev pub is_move : Mode → Bool
 is_move Move = true
 is_move Ref = false
@@ -26,6 +27,7 @@ move_if_mut WrittenMut m = is_move m
 move_if_mut WrittenRef m = true
 move_if_mut WrittenRefMut m = true
 
+-- a rest with a `mut` stands only where the mode is a move
 abbrev pub move_if_rest_mut : MRest → Mode → Bool
 move_if_rest_mut NoRest m = true
 move_if_rest_mut SomeRest m = true
@@ -41,6 +43,7 @@ abbrev pub test_parts : (ℕ → Test) → ℕ → List MValue → Bool
 test_parts f i [] = true
 test_parts f i (v ∷ vs) = f i v && test_parts f (suc i) vs
 
+-- the parts of a node pass
 abbrev pub test_form : (ℕ → Test) → Test
 test_form f (Node k parts) = test_parts f 0 (values_list parts)
 test_form f _ = true
@@ -51,9 +54,11 @@ test_items [] vs = true
 test_items (f ∷ fs) [] = true
 test_items (f ∷ fs) (v ∷ vs) = f v && test_items fs vs
 
+-- the rest and the items pass
 abbrev pub test_row : List Test → MRest → List Test → Mode → List MValue → Bool
 test_row front rest back m items = move_if_rest_mut rest m && test_items (laid_out passes front rest back (length items)) items
 
+-- the items of a tuple or row pass
 abbrev pub test_list : List Test → MRest → List Test → Mode → Test
 test_list front rest back m (Node k parts) = test_row front rest back m (values_list parts)
 test_list front rest back m (Row items) = test_row front rest back m (values_list items)
@@ -79,14 +84,17 @@ abbrev mutual
   moves_at (PointPat mutable p) m v = is_move m && test_inside (λ w. moves_at p Move w) v
   moves_at (OrPat alternatives) m v = alternatives_move alternatives m v
 
+  -- the test of each pattern of a list
   pub items_move : MPats → Mode → List Test
   items_move no_pats m = []
   items_move (more_pats p ps) m = (λ v. moves_at p m v) ∷ items_move ps m
 
+  -- the test of the field with this number
   pub field_moves : MNumbered → Mode → ℕ → Test
   field_moves no_numbered m i v = true
   field_moves (more_numbered j p ps) m i v = if nat_eq i j then moves_at p m v else field_moves ps m i v
 
+  -- every alternative passes
   pub alternatives_move : MNumbered → Mode → Test
   alternatives_move no_numbered m v = true
   alternatives_move (more_numbered at p ps) m v = moves_at p m v && alternatives_move ps m v

@@ -15,6 +15,7 @@ abbrev pub is_wild_ctor : MCtor → Bool
 is_wild_ctor WildCtor = true
 is_wild_ctor _ = false
 
+-- the head is a wildcard or a lone name
 abbrev pub is_wild : {T : Type 0} → Head T → Bool
 is_wild None = true
 is_wild (Some (de_pat c t uid at subs binds)) = is_wild_ctor c
@@ -24,6 +25,7 @@ pub record Choice (T : Type 0) : Type 0 where
   pub pat : MDePat T
   pub binds : List MBound
 
+-- the alternative with the names around it in front
 abbrev pub with_binds : {T : Type 0} → List MBound → Choice T → Choice T
 with_binds binds c = record c { binds = binds ++ c.binds }
 
@@ -40,6 +42,7 @@ abbrev mutual
       choices_by c (map (with_binds binds) (all_choices_of subs))
       (record { pat = de_pat c t uid at subs binds; binds = [] } ∷ [])
 
+  -- what stands in place of the patterns, one after the other
   pub all_choices_of : {T : Type 0} → MDePats T → List (Choice T)
   all_choices_of no_de_pats = []
   all_choices_of (more_de_pats p ps) = choices_of p ++ all_choices_of ps
@@ -65,6 +68,7 @@ abbrev pub ctor_unless_wild : MCtor → Option MCtor
 ctor_unless_wild WildCtor = None
 ctor_unless_wild c = Some c
 
+-- the constructor of the row's first head, where that is no wildcard
 abbrev pub first_ctor : {T : Type 0} → List (Head T) → Option MCtor
 first_ctor (Some (de_pat c t uid at subs binds) ∷ rest) = ctor_unless_wild c
 first_ctor _ = None
@@ -73,6 +77,7 @@ first_ctor _ = None
 abbrev pub column_of : {T : Type 0} → List (List (Head T)) → List MCtor
 column_of rows = filter_map first_ctor rows
 
+-- so many wildcards
 abbrev pub wildcards : {T : Type 0} → ℕ → List (Head T)
 wildcards n = replicate n None
 

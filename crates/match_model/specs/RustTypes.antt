@@ -20,6 +20,7 @@ enum_set false [] = NothingSet
 enum_set true [] = VariantSet 0 true
 enum_set marked (v ∷ vs) = VariantSet (suc (length vs)) marked
 
+-- the constructors of a declared type, by its item
 abbrev pub item_set : Option MItem → MSet
 item_set (Some (StructItem v)) = SingleSet
 item_set (Some (EnumItem name marked variants)) = enum_set marked variants
@@ -42,6 +43,7 @@ rust_set program (NamedType (DeclaredItem i) arguments) = item_set (slice_get pr
 rust_set program (NamedType OptionOwner arguments) = VariantSet 2 false
 rust_set program (NamedType ResultOwner arguments) = VariantSet 2 false
 
+-- how many types there are, none where nothing is found
 abbrev pub count_of_types : Option MTypes → ℕ
 count_of_types None = 0
 count_of_types (Some ts) = length (types_list ts)

@@ -11,6 +11,7 @@ pub record Try : Type 0 where
   pub guarded : Bool
   pub way : Way
 
+-- the way as a thing to try, of an arm with or without a guard
 abbrev pub try_of : (arm : ℕ) → (guarded : Bool) → Way → Try
 try_of j guarded w = record { arm = j; guarded = guarded; way = w }
 
@@ -34,9 +35,11 @@ pub record Selected : Type 0 where
   pub asked : List Asked
   pub outcome : Outcome
 
+-- the guard that is asked at this try
 abbrev pub asked_of : Try → Asked
 asked_of t = record { arm = t.arm; bindings = t.way.bindings }
 
+-- the arm of this try is taken
 abbrev pub took : Try → Outcome
 took t = Took t.arm t.way.bindings
 

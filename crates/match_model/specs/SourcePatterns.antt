@@ -91,10 +91,12 @@ abbrev mutual
   is_formed (PointPat mutable p) = is_formed p
   is_formed (OrPat alternatives) = two_or_more alternatives && numbered_are_formed alternatives
 
+  -- the patterns of a list are as the source can have them
   pub items_are_formed : MPats → Bool
   items_are_formed no_pats = true
   items_are_formed (more_pats p ps) = is_formed p && items_are_formed ps
 
+  -- the fields or alternatives are as the source can have them
   pub numbered_are_formed : MNumbered → Bool
   numbered_are_formed no_numbered = true
   numbered_are_formed (more_numbered n p ps) = is_formed p && numbered_are_formed ps

@@ -49,6 +49,7 @@ case_has (LengthCase n) (Row items) = nat_eq n (length (values_list items))
 case_has (LongerCase f b) (Row items) = nat_le (f + b) (length (values_list items))
 case_has _ _ = false
 
+-- the case is the else
 abbrev pub is_else : MCase → Bool
 is_else ElseCase = true
 is_else _ = false

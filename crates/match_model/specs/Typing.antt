@@ -9,14 +9,17 @@ use Rattle.match_model.specs.Values.{MValue, Flag, Num, Text, Node, Point, Row, 
 use Rattle.match_model.specs.Texts.{is_scalar}
 use Rattle.match_model.specs.Numbers.{has_number}
 
+-- the type is `bool`
 abbrev pub is_bool : MType → Bool
 is_bool BoolType = true
 is_bool _ = false
 
+-- the type is `str`
 abbrev pub is_str : MType → Bool
 is_str StrType = true
 is_str _ = false
 
+-- the type is an opaque one
 abbrev pub is_opaque : MType → Bool
 is_opaque (OpaqueType name arguments) = true
 is_opaque _ = false

@@ -21,6 +21,7 @@ are_distinct (name ∷ rest) = is_new rest name && are_distinct rest
 abbrev pub are_apart : List (List ℕ) → List (List ℕ) → Bool
 are_apart names others = list_all (is_new names) others
 
+-- the names that are bound
 abbrev pub bound_names : List MBound → List (List ℕ)
 bound_names binds = map (λ b. b.name) binds
 
@@ -29,6 +30,7 @@ abbrev mutual
   pub names_in : {T : Type 0} → MDePat T → List (List ℕ)
   names_in (de_pat c t uid at subs binds) = bound_names binds ++ names_in_all subs
 
+  -- the names that the patterns bind
   pub names_in_all : {T : Type 0} → MDePats T → List (List ℕ)
   names_in_all no_de_pats = []
   names_in_all (more_de_pats p ps) = names_in p ++ names_in_all ps
@@ -45,10 +47,12 @@ abbrev mutual
       are_distinct (bound_names binds)
       && (are_apart (bound_names binds) (names_in_all subs) && if_or c (names_differ_in_each subs) (names_differ_in_all subs))
 
+  -- the names of each pattern differ
   pub names_differ_in_each : {T : Type 0} → MDePats T → Bool
   names_differ_in_each no_de_pats = true
   names_differ_in_each (more_de_pats p ps) = names_differ p && names_differ_in_each ps
 
+  -- the names of all the patterns differ
   pub names_differ_in_all : {T : Type 0} → MDePats T → Bool
   names_differ_in_all no_de_pats = true
   names_differ_in_all (more_de_pats p ps) =
@@ -103,6 +107,7 @@ abbrev mutual
   pub uids_in : {T : Type 0} → MDePat T → List ℕ
   uids_in (de_pat c t uid at subs binds) = uid ∷ uids_in_all subs
 
+  -- the uids of the patterns and of those inside them
   pub uids_in_all : {T : Type 0} → MDePats T → List ℕ
   uids_in_all no_de_pats = []
   uids_in_all (more_de_pats p ps) = uids_in p ++ uids_in_all ps
@@ -127,10 +132,12 @@ AreHeadsTyped cx [] (h ∷ heads) = ⊥
 AreHeadsTyped cx (c ∷ columns) [] = ⊥
 AreHeadsTyped cx (c ∷ columns) (h ∷ heads) = IsHeadTyped cx c.type h × AreHeadsTyped cx columns heads
 
+-- the names that a head binds
 abbrev pub head_names : {T : Type 0} → Head T → List (List ℕ)
 head_names None = []
 head_names (Some p) = names_in p
 
+-- the names of a head differ
 abbrev pub head_names_differ : {T : Type 0} → Head T → Bool
 head_names_differ None = true
 head_names_differ (Some p) = names_differ p

@@ -34,30 +34,37 @@ abbrev pub witnesses_of : List MWitness → MWitnesses
 witnesses_of [] = no_witnesses
 witnesses_of (w ∷ ws) = more_witnesses w (witnesses_of ws)
 
+-- the value is the flag
 abbrev pub flag_fits : Bool → MValue → Bool
 flag_fits b (Flag c) = beq b c
 flag_fits b _ = false
 
+-- the value is a number in the range
 abbrev pub span_fits : MRange → MValue → Bool
 span_fits r (Num n) = in_range r n
 span_fits r _ = false
 
+-- the value is the text
 abbrev pub text_fits : List ℕ → MValue → Bool
 text_fits t (Text u) = text_eq t u
 text_fits t _ = false
 
+-- the value is a text, and none of these
 abbrev pub else_fits : List (List ℕ) → MValue → Bool
 else_fits ts (Text u) = not (list_any (text_eq u) ts)
 else_fits ts _ = false
 
+-- the value is a variant that is not declared yet
 abbrev pub later_fits : MValue → Bool
 later_fits Later = true
 later_fits _ = false
 
+-- the value is a node of the variant whose parts fit
 abbrev pub node_fits : ℕ → (List MValue → Bool) → MValue → Bool
 node_fits k fit (Node j parts) = nat_eq k j && fit (values_list parts)
 node_fits k fit _ = false
 
+-- the value is a reference, and what it points to fits
 abbrev pub point_fits : (MValue → Bool) → MValue → Bool
 point_fits fit (Point mutable v) = fit v
 point_fits fit _ = false

@@ -25,12 +25,15 @@ compared true before = Same
 compared false true = Before
 compared false false = NotBefore
 
+-- two numbers from 0
 abbrev pub compare_nat : ℕ → ℕ → Compared
 compare_nat a b = compared (nat_eq a b) (nat_lt a b)
 
+-- two texts, by scalar values, which is also the order of their bytes
 abbrev pub compare_text : List ℕ → List ℕ → Compared
 compare_text a b = compared (text_eq a b) (is_lt (compare_texts a b))
 
+-- two flags
 abbrev pub compare_flag : Bool → Bool → Compared
 compare_flag false true = Before
 compare_flag true false = NotBefore
@@ -51,6 +54,7 @@ compare_high Free (At b) = NotBefore
 compare_high (At a) Free = Before
 compare_high (At a) (At b) = compared (int_eq a b) (int_lt a b)
 
+-- two ranges, by their low ends and then their high ends
 abbrev pub compare_range : MRange → MRange → Compared
 compare_range r s = and_then (compare_low r.low s.low) (compare_high r.high s.high)
 

@@ -1,7 +1,7 @@
 //! Laws of the definitions: each function has an empty body, and its contract is a law.
 
 ghost use Rattle.match_model.specs.Laws.{OrIsConcatenation, GoesThrough, MissedWhereUncovered, FirstWayIsTaken};
-ghost use Rattle.match_model.specs.Laws.{JoinIsAssociative, CombineIsAssociative, BareWayIsUnit, PartsSplit, RustValuesLaw};
+ghost use Rattle.match_model.specs.Laws.{JoinIsAssociative, CombineIsAssociative, BareWayIsUnit, PartsSplit, FirstMatrixHasTheArms, RustValuesLaw};
 ghost use Rattle.match_model.specs.Emptiness.{RustPartsLaw, RustEmptyLaw, RustUnsureLaw};
 ghost use Rattle.match_model.specs.Readings.{ReadingsAgree};
 ghost use Rattle.match_model.specs.Uniqueness.{MeaningIsOne, UnreachableListIsOne, PiecesAreOne, WitnessListIsOne, PlainTreeIsOne};
@@ -88,3 +88,22 @@ pub fn witness_list_is_one<T>()
 pub fn plain_tree_is_one<T>()
     ensures { PlainTreeIsOne T }
 {}
+
+/// The first matrix has the ways of the arms.
+pub fn first_matrix_has_the_arms<T>()
+    ensures { FirstMatrixHasTheArms T }
+{}
+
+#[cfg(test)]
+mod tests {
+    use super::*;
+
+    // a generic law is proved from its bounds alone, so each is called once at a type
+    #[test]
+    fn generic_laws_hold_at_a_type(_rt: HostRuntime) {
+        parts_split::<u32>();
+        first_matrix_has_the_arms::<u32>();
+        witness_list_is_one::<u32>();
+        plain_tree_is_one::<u32>();
+    }
+}
