@@ -1,11 +1,11 @@
 -- The two readings of `&` and `mut` agree where the mode there is a move.
-use Rattle.std.proofs.Common.{◌≡◌, ℕ, zero, suc, ◌+◌, ◌-◌, Bool, true, false, List, [], ◌∷◌, ◌++◌, map, length, replicate, nat_eq, if◌then◌else◌, refl, ap}
+use Rattle.std.proofs.Common.{◌≡◌, ℕ, zero, suc, ◌+◌, ◌-◌, Bool, true, false, ◌&&◌, List, [], ◌∷◌, ◌++◌, map, length, replicate, nat_eq, if◌then◌else◌, refl, ap}
 use Rattle.match_model.specs.declared.Mode.{Mode}
 use Rattle.match_model.specs.declared.Mode.TheVariants.{Move, Ref, RefMut}
 use Rattle.match_model.specs.Values.{MValue, Flag, Num, Text, Node, Point, Row, Thing, Later, Unseen, values_list}
-use Rattle.match_model.specs.Patterns.{Written, WrittenPlain, WrittenMut, WrittenRef, WrittenRefMut, MRest, NoRest, SomeRest, BoundRest, MPat, WildPat, NumPat, FlagPat, TextPat, SpanPat, BindPat, FormPat, ListPat, PointPat, OrPat, MPats, no_pats, more_pats, MNumbered, no_numbered, more_numbered}
+use Rattle.match_model.specs.Patterns.{Written, WrittenPlain, WrittenMut, WrittenRef, WrittenRefMut, MRest, NoRest, SomeRest, BoundRest, MPat, WildPat, NumPat, FlagPat, TextPat, SpanPat, BindPat, FormPat, ListPat, PointPat, OrPat, MPats, no_pats, more_pats, MNumbered, no_numbered, more_numbered, numbers_in}
 use Rattle.match_model.specs.Ways.{Way, under, binding}
-use Rattle.match_model.specs.Matching.{Matcher, wild, mode_written, mode_behind, through_points, parts_ways, form_ways, items_ways, laid_out, middle_of, bind_rest, rows_ways, list_ways, point_ways, ways_by, matchers, field_ways, alternatives_ways, to_move}
+use Rattle.match_model.specs.Matching.{Matcher, wild, mode_written, mode_behind, through_points, parts_ways, are_parts, form_ways, items_ways, laid_out, middle_of, bind_rest, rows_ways, list_ways, point_ways, ways_by, matchers, field_ways, alternatives_ways, to_move}
 use Rattle.match_model.specs.Readings.{Test, passes, is_move, move_if_mut, move_if_rest_mut, test_through, test_parts, test_form, test_items, test_row, test_list, test_inside, moves_at, items_move, field_moves, alternatives_move}
 use Rattle.match_model.proofs.Basics.{both}
 
@@ -32,16 +32,20 @@ parts_same t f g same i (v ∷ vs) h =
     let b = both (t i v) (test_parts t (suc i) vs) h in
     rw (same i v b.0, parts_same t f g same (suc i) vs b.1) refl
 
-form_same : (k : ℕ) (t : ℕ → Test) (f g : ℕ → Matcher) → ((i : ℕ) → Same (t i) (f i) (g i)) → Same (test_form t) (form_ways k f) (form_ways k g)
-form_same k t f g same (Node j parts) h = ap (λ ws. if nat_eq k j then ws else []) (parts_same t f g same 0 (values_list parts) h)
-form_same k t f g same (Flag b) h = refl
-form_same k t f g same (Num n) h = refl
-form_same k t f g same (Text u) h = refl
-form_same k t f g same (Point m v) h = refl
-form_same k t f g same (Row items) h = refl
-form_same k t f g same Thing h = refl
-form_same k t f g same Later h = refl
-form_same k t f g same Unseen h = refl
+form_same : (k : ℕ) (is : List ℕ) (t : ℕ → Test) (f g : ℕ → Matcher) → ((i : ℕ) → Same (t i) (f i) (g i)) → Same (test_form k t) (form_ways k is f) (form_ways k is g)
+form_same k is t f g same (Node j parts) h =
+    elim (nat_eq k j) as
+    (λ b. (if b then test_parts t 0 (values_list parts) else true) ≡ true →
+    (if b && are_parts is (length (values_list parts)) then parts_ways f 0 (values_list parts) else []) ≡ (if b && are_parts is (length (values_list parts)) then parts_ways g 0 (values_list parts) else []))
+    [ true ↦ (λ e. ap (λ ws. if are_parts is (length (values_list parts)) then ws else []) (parts_same t f g same 0 (values_list parts) e)) | false ↦ (λ e. refl) ] h
+form_same k is t f g same (Flag b) h = refl
+form_same k is t f g same (Num n) h = refl
+form_same k is t f g same (Text u) h = refl
+form_same k is t f g same (Point m v) h = refl
+form_same k is t f g same (Row items) h = refl
+form_same k is t f g same Thing h = refl
+form_same k is t f g same Later h = refl
+form_same k is t f g same Unseen h = refl
 
 -- the same of lists, one by one
 data AllSame : List Test → List Matcher → List Matcher → Type 0 where
@@ -170,10 +174,10 @@ module _ (back : Mode → Mode) (fixed : back Move ≡ Move) where
         let b = both (move_if_mut written m) (moves_at p m v) h in
         rw (agree p m v b.1, mode_same written m b.0) refl
     agree (FormPat k fields) m v h =
-        through_same (λ m' w. test_form (λ i u. field_moves fields m' i u) w)
-        (λ m' w. form_ways k (λ i u. field_ways back fields m' i u) w)
-        (λ m' w. form_ways k (λ i u. field_ways to_move fields m' i u) w)
-        (λ m' w. form_same k (λ i u. field_moves fields m' i u) (λ i u. field_ways back fields m' i u) (λ i u. field_ways to_move fields m' i u) (λ i u. field_agrees fields m' i u) w)
+        through_same (λ m' w. test_form k (λ i u. field_moves fields m' i u) w)
+        (λ m' w. form_ways k (numbers_in fields) (λ i u. field_ways back fields m' i u) w)
+        (λ m' w. form_ways k (numbers_in fields) (λ i u. field_ways to_move fields m' i u) w)
+        (λ m' w. form_same k (numbers_in fields) (λ i u. field_moves fields m' i u) (λ i u. field_ways back fields m' i u) (λ i u. field_ways to_move fields m' i u) (λ i u. field_agrees fields m' i u) w)
         m v h
     agree (ListPat front rest tail) m v h =
         through_same (λ m' w. test_list (items_move front m') rest (items_move tail m') m' w)

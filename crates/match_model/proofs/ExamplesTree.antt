@@ -8,7 +8,7 @@ use Rattle.match_model.specs.Patterns.{SpanPat}
 use Rattle.match_model.specs.Match.{alternative, no_alternative}
 use Rattle.match_model.specs.Select.{Took, Missed, Short, tries_from}
 use Rattle.match_model.specs.Places.{ThroughStep, FieldStep, FrontStep, BackStep, MiddleStep, part_at, position_at}
-use Rattle.match_model.specs.Trees.{FlagCase, VariantCase, ElseCase, LengthCase, LongerCase, SpanCase, TextCase, case_has, MBind, MBranch, MNode, SwitchNode, AskNode, TakeNode, MissNode, by_case, by_refusal, at_once, after, Means, looked_at, number_for, one_has}
+use Rattle.match_model.specs.Trees.{FlagCase, VariantCase, ElseCase, LengthCase, LongerCase, SpanCase, TextCase, case_has, MBind, MBranch, MNode, SwitchNode, AskNode, TakeNode, MissNode, GoesOn, by_case, by_refusal, at_once, after, Means, looked_at, number_for, one_has}
 use Rattle.match_model.specs.Overlaps.{Overlaps}
 use Rattle.match_model.specs.Constructors.{LongerShape, FlagCtor, NumbersCtor, RowCtor, WildCtor, OrCtor, PointCtor}
 use Rattle.match_model.specs.ArenaPatterns.{WholePart, MDePat, de_pat, no_de_pats, de_pats_of, MDeArm, MDeMatch}
@@ -63,27 +63,52 @@ abbrev false_false : MValue
 false_false = tuple (Flag false ∷ Flag false ∷ [])
 
 -- what it takes, and with which bindings
+abbrev to_else : GoesOn small_tree false_false (record { node = 0; left = []; asked = [] }) (record { node = 2; left = []; asked = [] })
+to_else = by_case 0 [] [] (FieldStep 0 0 ∷ []) (true_or_else 1 2) (record { case = ElseCase; next = 2 }) refl refl
+
 pub tree_takes : Means small_tree true_false [] (record { asked = []; outcome = Took 0 (bound x_name Move (Flag false) ∷ []) })
 tree_takes = record {
-  last = record { node = 1; left = []; asked = [] };
-  comes = after _ _ _ (by_case 0 [] [] (FieldStep 0 0 ∷ []) (true_or_else 1 2) (record { case = FlagCase true; next = 1 }) refl refl) (at_once _);
-  ends = refl;
+  asked_nodes = [];
+  walk = record {
+    last = record { node = 1; left = []; asked = [] };
+    comes = after _ _ _ (by_case 0 [] [] (FieldStep 0 0 ∷ []) (true_or_else 1 2) (record { case = FlagCase true; next = 1 }) refl refl) (at_once _);
+    ends = refl;
+    asks = refl;
+  };
+  asked = refl;
 }
 
--- it is short of an answer, or missed where the guard refuses
+-- it is short of an answer, missed where the guard refuses, or takes the arm whose guard does not
 pub tree_short : Means small_tree false_false [] (record { asked = []; outcome = Short })
 tree_short = record {
-  last = record { node = 2; left = []; asked = [] };
-  comes = after _ _ _ (by_case 0 [] [] (FieldStep 0 0 ∷ []) (true_or_else 1 2) (record { case = ElseCase; next = 2 }) refl refl) (at_once _);
-  ends = refl;
+  asked_nodes = [];
+  walk = record { last = record { node = 2; left = []; asked = [] }; comes = after _ _ _ to_else (at_once _); ends = refl; asks = refl };
+  asked = refl;
 }
 
 pub tree_misses : Means small_tree false_false (false ∷ true ∷ []) (record { asked = record { arm = 1; bindings = bound x_name Move (Flag false) ∷ [] } ∷ []; outcome = Missed })
 tree_misses = record {
-  last = record { node = 3; left = true ∷ []; asked = record { arm = 1; bindings = bound x_name Move (Flag false) ∷ [] } ∷ [] };
-  comes = after _ _ _ (by_case 0 (false ∷ true ∷ []) [] (FieldStep 0 0 ∷ []) (true_or_else 1 2) (record { case = ElseCase; next = 2 }) refl refl)
-      (after _ _ _ (by_refusal 2 (true ∷ []) [] 1 x_there 3 refl) (at_once _));
-  ends = refl;
+  asked_nodes = 2 ∷ [];
+  walk = record {
+    last = record { node = 3; left = true ∷ []; asked = 2 ∷ [] };
+    comes = after _ _ _ (by_case 0 (false ∷ true ∷ []) [] (FieldStep 0 0 ∷ []) (true_or_else 1 2) (record { case = ElseCase; next = 2 }) refl refl)
+        (after _ _ _ (by_refusal 2 (true ∷ []) [] 1 x_there 3 refl) (at_once _));
+    ends = refl;
+    asks = refl;
+  };
+  asked = refl;
+}
+
+pub tree_asks : Means small_tree false_false (true ∷ []) (record { asked = record { arm = 1; bindings = bound x_name Move (Flag false) ∷ [] } ∷ []; outcome = Took 1 (bound x_name Move (Flag false) ∷ []) })
+tree_asks = record {
+  asked_nodes = 2 ∷ [];
+  walk = record {
+    last = record { node = 2; left = true ∷ []; asked = [] };
+    comes = after _ _ _ (by_case 0 (true ∷ []) [] (FieldStep 0 0 ∷ []) (true_or_else 1 2) (record { case = ElseCase; next = 2 }) refl refl) (at_once _);
+    ends = refl;
+    asks = refl;
+  };
+  asked = refl;
 }
 
 -- the tree of `[true, .., true] => .., _ => ..` on `[bool; 3]` looks at two positions of a value of the type

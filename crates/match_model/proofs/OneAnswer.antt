@@ -7,10 +7,10 @@ use Rattle.match_model.specs.Trees.{MNode}
 use Rattle.match_model.specs.Constructors.{MCtor}
 use Rattle.match_model.specs.Contexts.{Context, Open}
 use Rattle.match_model.specs.ArenaPatterns.{MDeMatch}
-use Rattle.match_model.specs.Rows.{Head, expand_row, starts_wild, row_rest, column_of, rows_for, parts_open}
-use Rattle.match_model.specs.Matrices.{MColumn, MRow, first_rows}
+use Rattle.match_model.specs.Rows.{Head, expand_row, starts_wild, row_rest, column_of, all_specialised, parts_open}
+use Rattle.match_model.specs.Matrices.{MColumn, MRow, first_matrix, expand_rows, first_wild, specialised_rows, default_rows, part_columns}
 use Rattle.match_model.specs.Trees.{ElseCase}
-use Rattle.match_model.specs.PlainTree.{MTree, SwitchTree, AskTree, MBranches, no_branch, more_branches, nodes_from, row_binds, expand_rows, all_wild, first_wild, column_ctors, rows_behind, rows_else, part_columns, is_switchless, is_present, Lowers, no_value_left, no_row_left, takes, asks, drops, opens, switches, Branches, no_else, with_else, no_case, one_case, IsPlainTree, nothing_to_lower, lowered}
+use Rattle.match_model.specs.PlainTree.{MTree, SwitchTree, AskTree, MBranches, no_branch, more_branches, nodes_from, row_binds, all_wild, column_ctors, is_switchless, is_present, Lowers, no_value_left, no_row_left, takes, asks, drops, opens, switches, Branches, no_else, with_else, no_case, one_case, IsPlainTree, nothing_to_lower, lowered}
 use Rattle.match_model.specs.WitnessList.{named_in, Witnesses, taken, no_row, anything, by_pieces, PieceWitnesses, no_piece, with_value, without_value, IsWitnessList, nothing_to_match, by_rows}
 use Rattle.match_model.proofs.Basics.{untrue}
 use Rattle.match_model.proofs.OnePieces.{one_pieces}
@@ -50,7 +50,7 @@ module _ {T : Type 0} (cx : Context T) (IsValue : T → Bool → MValue → Type
     one_piece_witnesses _ _ _ _ _ _ _ (no_piece named o places rows) (no_piece _ _ _ _) = refl
     one_piece_witnesses _ _ _ _ _ _ _ (with_value named o places rows piece pieces ws vs h a b) (with_value _ _ _ _ _ _ us ts k c d) =
         rw (
-          one_witnesses (parts_open cx o piece ++ places) (rows_for piece (cx.arity piece o.type) rows) ws us a c,
+          one_witnesses (parts_open cx o piece ++ places) (all_specialised piece (cx.arity piece o.type) rows) ws us a c,
           one_piece_witnesses named o places rows pieces vs ts b d,
         ) refl
     one_piece_witnesses _ _ _ _ _ _ _ (with_value named o places rows piece pieces ws vs h a b) (without_value _ _ _ _ _ _ ts n d) = absurd (n h)
@@ -90,7 +90,7 @@ module _ {T : Type 0} (cx : Context T) (IsValue : T → Bool → MValue → Type
     one_tree _ _ _ _ (drops c columns r rows s w d a) (takes _ _ _ x h) = clash (all_wild r) x w
     one_tree _ _ _ _ (drops c columns r rows s w d a) (asks _ _ _ t x h b) = clash (all_wild r) x w
     one_tree _ _ _ _ (drops c columns r rows s w d a) (drops _ _ _ _ t x h b) =
-        one_tree columns (rows_else c.place (expand_rows c.place (r ∷ rows))) s t a b
+        one_tree columns (default_rows c.place (expand_rows c.place (r ∷ rows))) s t a b
     one_tree _ _ _ _ (drops c columns r rows s w d a) (opens _ _ _ _ q t x h k p b) = clash (list_all first_wild (expand_rows c.place (r ∷ rows))) d h
     one_tree _ _ _ _ (drops c columns r rows s w d a) (switches _ _ _ _ qs t x h k p b) = clash (list_all first_wild (expand_rows c.place (r ∷ rows))) d h
     one_tree _ _ _ _ (opens c columns r rows p s w d k e a) (takes _ _ _ x h) = clash (all_wild r) x w
@@ -99,8 +99,8 @@ module _ {T : Type 0} (cx : Context T) (IsValue : T → Bool → MValue → Type
     one_tree _ _ _ _ (opens c columns r rows p s w d k e a) (opens _ _ _ _ q t x h l f b) =
         let same : p ∷ [] ≡ q ∷ [] = one_pieces (cx.set_of c.type) (column_ctors (expand_rows c.place (r ∷ rows))) (p ∷ []) (q ∷ []) e f in
         let piece : q ≡ p = cc in
-        one_tree (part_columns cx c p ++ columns) (rows_behind c.place p (cx.arity p c.type) (expand_rows c.place (r ∷ rows))) s t a
-        (subst (λ y. Lowers cx IsValue BareOnly (part_columns cx c y ++ columns) (rows_behind c.place y (cx.arity y c.type) (expand_rows c.place (r ∷ rows))) t) piece b)
+        one_tree (part_columns cx c p ++ columns) (specialised_rows c.place p (cx.arity p c.type) (expand_rows c.place (r ∷ rows))) s t a
+        (subst (λ y. Lowers cx IsValue BareOnly (part_columns cx c y ++ columns) (specialised_rows c.place y (cx.arity y c.type) (expand_rows c.place (r ∷ rows))) t) piece b)
     one_tree _ _ _ _ (opens c columns r rows p s w d k e a) (switches _ _ _ _ qs t x h l f b) = clash (is_switchless (cx.set_of c.type)) k l
     one_tree _ _ _ _ (switches c columns r rows ps s w d k e a) (takes _ _ _ x h) = clash (all_wild r) x w
     one_tree _ _ _ _ (switches c columns r rows ps s w d k e a) (asks _ _ _ t x h b) = clash (all_wild r) x w
@@ -118,14 +118,14 @@ module _ {T : Type 0} (cx : Context T) (IsValue : T → Bool → MValue → Type
     one_branches _ _ _ _ _ _ _ (no_else c columns rows all n) (with_else _ _ _ _ q t m v b) = absurd (n q m v)
     one_branches _ _ _ _ _ _ _ (with_else c columns rows all p s m v a) (no_else _ _ _ _ n) = absurd (n p m v)
     one_branches _ _ _ _ _ _ _ (with_else c columns rows all p s m v a) (with_else _ _ _ _ q t o w b) =
-        ap (λ y. more_branches ElseCase y no_branch) (one_tree columns (rows_else c.place rows) s t a b)
+        ap (λ y. more_branches ElseCase y no_branch) (one_tree columns (default_rows c.place rows) s t a b)
     one_branches _ _ _ _ _ _ _ (no_case c columns rows all p ps s n a) (no_case _ _ _ _ _ _ t m b) = one_branches c columns rows all ps s t a b
     one_branches _ _ _ _ _ _ _ (no_case c columns rows all p ps s n a) (one_case _ _ _ _ _ _ t ts h v b d) =
         no_and_one (is_present (column_ctors rows) p) n h v
     one_branches _ _ _ _ _ _ _ (one_case c columns rows all p ps s ss h v a b) (no_case _ _ _ _ _ _ t n d) =
         no_and_one (is_present (column_ctors rows) p) n h v
     one_branches _ _ _ _ _ _ _ (one_case c columns rows all p ps s ss h v a b) (one_case _ _ _ _ _ _ t ts k w d e) =
-        rw (one_tree (part_columns cx c p ++ columns) (rows_behind c.place p (cx.arity p c.type) rows) s t a d, one_branches c columns rows all ps ss ts b e) refl
+        rw (one_tree (part_columns cx c p ++ columns) (specialised_rows c.place p (cx.arity p c.type) rows) s t a d, one_branches c columns rows all ps ss ts b e) refl
 
 pub one_plain_tree : {T : Type 0} (cx : Context T) (IsValue : T → Bool → MValue → Type 0) (m : MDeMatch T) (ns ms : List MNode) →
     IsPlainTree cx IsValue m ns → IsPlainTree cx IsValue m ms → ns ≡ ms
@@ -133,4 +133,4 @@ one_plain_tree cx V m _ _ (nothing_to_lower none) (nothing_to_lower _) = refl
 one_plain_tree cx V m _ _ (nothing_to_lower none) (lowered v t h b) = absurd (none v h)
 one_plain_tree cx V m _ _ (lowered v s h a) (nothing_to_lower none) = absurd (none v h)
 one_plain_tree cx V m _ _ (lowered v s h a) (lowered u t k b) =
-    ap (nodes_from 0) (one_tree cx V ((u : MValue) → V m.type m.sure u → u ≡ Unseen) (record { place = []; type = m.type; sure = m.sure } ∷ []) (first_rows 0 m.arms) s t a b)
+    ap (nodes_from 0) (one_tree cx V ((u : MValue) → V m.type m.sure u → u ≡ Unseen) (first_matrix m).columns (first_matrix m).rows s t a b)

@@ -1,34 +1,35 @@
--- The ways in which a pattern of the engine matches a value; they are the source's, by constructors.
-use Rattle.std.specs.Prelude.{ℕ, suc, ◌-◌, List, [], ◌∷◌, ◌++◌, map, length, take, drop, Option, Some, None}
+-- The ways in which a pattern of the engine matches a value; they are the source's, by constructors (Rust Reference,
+-- Patterns; the documentation of `rustc_pattern_analysis`, deconstructed patterns).
+use Rattle.std.specs.Prelude.{ℕ, suc, ◌-◌, Bool, List, [], ◌∷◌, ◌++◌, map, length, take, drop, Option, Some, None}
 use Rattle.match_model.specs.Values.{MValue, Row, parts_of, values_list}
 use Rattle.match_model.specs.Ways.{Way, bare_way, combine, under, choosing, binding}
 use Rattle.match_model.specs.Matching.{middle_of, span_way}
 use Rattle.match_model.specs.Match.{ArmWays, Alternatives, no_alternative, alternative, and_others}
 use Rattle.match_model.specs.Constructors.{LongerShape, MCtor, NumbersCtor, RowCtor, WildCtor, OrCtor, builds}
-use Rattle.match_model.specs.ArenaPatterns.{MPart, WholePart, MiddlePart, MBound, MDePat, de_pat, MDePats, no_de_pats, more_de_pats, MDeArm, uid_of, at_of}
+use Rattle.match_model.specs.ArenaPatterns.{MPart, WholePart, MiddlePart, MBound, MDePat, de_pat, MDePats, no_de_pats, more_de_pats, MDeArm, MDeMatch, uid_of, at_of}
 use Rattle.match_model.specs.Places.{some_if}
 
 -- a part of a value, and its number there
-pub record Numbered : Type 0 where
+pub record NumberedPart : Type 0 where
   pub number : ℕ
   pub part : MValue
 
 -- the values numbered from `i`
-abbrev pub numbered_from : ℕ → List MValue → List Numbered
+abbrev pub numbered_from : ℕ → List MValue → List NumberedPart
 numbered_from i [] = []
 numbered_from i (v ∷ vs) = record { number = i; part = v } ∷ numbered_from (suc i) vs
 
 -- the parts that the patterns of a constructor meet: of a row with a rest those at each end, else all
-abbrev pub parts_met : MCtor → List Numbered → List Numbered
+abbrev pub parts_met : MCtor → List NumberedPart → List NumberedPart
 parts_met (RowCtor (LongerShape f b)) parts = take f parts ++ drop (length parts - b) parts
 parts_met _ parts = parts
 
 -- the parts of the value that the patterns meet, where the constructor builds it
-abbrev pub parts_built : MCtor → MValue → Option (List Numbered)
+abbrev pub parts_built : MCtor → MValue → Option (List NumberedPart)
 parts_built c v = some_if (builds [] c v) (parts_met c (numbered_from 0 (parts_of v)))
 
 -- the ways on the parts, where the value is built
-abbrev pub ways_where : Option (List Numbered) → (List Numbered → List Way) → List Way
+abbrev pub ways_where : Option (List NumberedPart) → (List NumberedPart → List Way) → List Way
 ways_where None ways_on = []
 ways_where (Some parts) ways_on = ways_on parts
 
@@ -49,7 +50,7 @@ with_spans_of s w = record w { spans = s.spans ++ w.spans }
 
 -- the ways by the constructor: a wildcard has one; an or-pattern has those of its alternatives; any other those on the
 -- parts of a value that it builds, a range of more than one number being met
-abbrev pub ways_by_ctor : MCtor → (at : ℕ) → (alternatives : MValue → List Way) → (ways_on : List Numbered → List Way) → MValue → List Way
+abbrev pub ways_by_ctor : MCtor → (at : ℕ) → (alternatives : MValue → List Way) → (ways_on : List NumberedPart → List Way) → MValue → List Way
 ways_by_ctor WildCtor at alternatives ways_on v = bare_way ∷ []
 ways_by_ctor OrCtor at alternatives ways_on v = alternatives v
 ways_by_ctor (NumbersCtor r) at alternatives ways_on v =
@@ -69,7 +70,7 @@ abbrev mutual
       map (with_bounds binds v) (ways_by_ctor c at (λ u. arena_alternatives_ways (chosen_of subs) subs u) (λ parts. subs_ways subs parts) v)
 
   -- the combinations of one way per part, the first varying slowest; none where there are not as many patterns as parts
-  pub subs_ways : {T : Type 0} → MDePats T → List Numbered → List Way
+  pub subs_ways : {T : Type 0} → MDePats T → List NumberedPart → List Way
   subs_ways no_de_pats [] = bare_way ∷ []
   subs_ways no_de_pats (_ ∷ _) = []
   subs_ways (more_de_pats p ps) [] = []
@@ -110,3 +111,11 @@ arena_arm a = record {
   at = at_of a.pat;
   alternatives = arena_alternatives a.pat;
 }
+
+-- the arms of a match of the engine
+abbrev pub match_arms : {T : Type 0} → MDeMatch T → List ArmWays
+match_arms m = map arena_arm m.arms
+
+-- the domain of a match of the engine: the values of the scrutinee's type at a place that is as sure as it says
+abbrev pub InMatchDomain : {T : Type 0} → (T → (sure : Bool) → MValue → Type 0) → MDeMatch T → MValue → Type 0
+InMatchDomain IsValue m v = IsValue m.type m.sure v

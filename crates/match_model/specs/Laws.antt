@@ -9,7 +9,7 @@ use Rattle.match_model.specs.Matching.{ways, mode_behind}
 use Rattle.match_model.specs.Match.{ArmWays, is_covered}
 use Rattle.match_model.specs.Select.{tries_from, select, Took, Missed}
 use Rattle.match_model.specs.ArenaPatterns.{MDePat, de_pats_of, MDeMatch}
-use Rattle.match_model.specs.ArenaWays.{Numbered, subs_ways, arena_arm}
+use Rattle.match_model.specs.ArenaWays.{NumberedPart, subs_ways, match_arms}
 use Rattle.match_model.specs.Matrices.{first_matrix, matrix_ways}
 use Rattle.match_model.specs.ContextLaws.{ValuesLaw}
 use Rattle.match_model.specs.RustTypes.{is_type, rust_context, RustValue}
@@ -64,13 +64,13 @@ BareWayIsUnit = (w : Way) → (join w bare_way ≡ w) × (join bare_way w ≡ w)
 -- the ways of patterns on a list of parts are the combinations of those on its two halves
 abbrev pub PartsSplit : (T : Type 0) → Type 0
 PartsSplit T =
-    (ps qs : List (MDePat T)) (us vs : List Numbered) → length ps ≡ length us →
+    (ps qs : List (MDePat T)) (us vs : List NumberedPart) → length ps ≡ length us →
     subs_ways (de_pats_of (ps ++ qs)) (us ++ vs) ≡ combine (subs_ways (de_pats_of ps) us) (subs_ways (de_pats_of qs) vs)
 
 -- the matrix of the arms' patterns over the scrutinee has the arms' ways
 abbrev pub FirstMatrixHasTheArms : (T : Type 0) → Type 0
 FirstMatrixHasTheArms T =
-    (m : MDeMatch T) (v : MValue) → matrix_ways (first_matrix m) v ≡ tries_from 0 (map arena_arm m.arms) v
+    (m : MDeMatch T) (v : MValue) → matrix_ways (first_matrix m) v ≡ tries_from 0 (match_arms m) v
 
 -- Rust's own types keep the law on values: exactly one elementary constructor builds each
 abbrev pub RustValuesLaw : Type 0

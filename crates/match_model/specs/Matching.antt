@@ -1,6 +1,7 @@
 -- The ways in which a pattern of the source matches a value, in order (Rust Reference, Patterns and binding modes; the
 -- order of the ways is our own choice).
-use Rattle.std.specs.Prelude.{ℕ, suc, ℤ, Bool, true, false, List, [], ◌∷◌, ◌++◌, map, length, take, drop, replicate, ◌+◌, ◌-◌, nat_eq, if◌then◌else◌}
+use Rattle.std.specs.Prelude.{ℕ, suc, ℤ, Bool, true, false, ◌&&◌, List, [], ◌∷◌, ◌++◌, map, length, take, drop, replicate, ◌+◌, ◌-◌, nat_eq, nat_lt, if◌then◌else◌}
+use Rattle.std.specs.List.{list_all}
 use Rattle.std.specs.Ordering.{int_eq}
 use mathlib.Core.Bool.{beq}
 use Rattle.match_model.specs.declared.Mode.{Mode}
@@ -8,7 +9,7 @@ use Rattle.match_model.specs.declared.Mode.TheVariants.{Move, Ref, RefMut}
 use Rattle.match_model.specs.Values.{MValue, Flag, Num, Text, Node, Point, Row, values_list, values_of}
 use Rattle.match_model.specs.Texts.{text_eq}
 use Rattle.match_model.specs.Numbers.{MRange, in_range, is_one}
-use Rattle.match_model.specs.Patterns.{Written, WrittenPlain, WrittenMut, WrittenRef, WrittenRefMut, MRest, NoRest, SomeRest, BoundRest, MPat, WildPat, NumPat, FlagPat, TextPat, SpanPat, BindPat, FormPat, ListPat, PointPat, OrPat, MPats, no_pats, more_pats, MNumbered, no_numbered, more_numbered}
+use Rattle.match_model.specs.Patterns.{Written, WrittenPlain, WrittenMut, WrittenRef, WrittenRefMut, MRest, NoRest, SomeRest, BoundRest, MPat, WildPat, NumPat, FlagPat, TextPat, SpanPat, BindPat, FormPat, ListPat, PointPat, OrPat, MPats, no_pats, more_pats, MNumbered, no_numbered, more_numbered, numbers_in, all_differ}
 use Rattle.match_model.specs.Ways.{Way, bare_way, combine, under, choosing, binding}
 
 -- how a part of a value is matched
@@ -71,10 +72,15 @@ abbrev pub parts_ways : (ℕ → Matcher) → ℕ → List MValue → List Way
 parts_ways f i [] = bare_way ∷ []
 parts_ways f i (v ∷ vs) = combine (map (under i) (f i v)) (parts_ways f (suc i) vs)
 
--- the value is a node of the variant whose parts match
-abbrev pub form_ways : (variant : ℕ) → (ℕ → Matcher) → Matcher
-form_ways k f (Node j parts) = if nat_eq k j then parts_ways f 0 (values_list parts) else []
-form_ways k f _ = []
+-- each number is that of one of so many parts, and none stands twice
+abbrev pub are_parts : List ℕ → (count : ℕ) → Bool
+are_parts is n = all_differ is && list_all (λ i. nat_lt i n) is
+
+-- the value is a node of the variant that has each written field, none of them twice, and whose parts match
+abbrev pub form_ways : (variant : ℕ) → (written : List ℕ) → (ℕ → Matcher) → Matcher
+form_ways k written f (Node j parts) =
+    if nat_eq k j && are_parts written (length (values_list parts)) then parts_ways f 0 (values_list parts) else []
+form_ways k written f _ = []
 
 -- the combinations of one way per item, the items being numbered from `i`; none where there are not as many matchers
 abbrev pub items_ways : List Matcher → ℕ → List MValue → List Way
@@ -127,7 +133,7 @@ abbrev mutual
   ways_by back (TextPat t) m v = text_ways t v
   ways_by back (SpanPat at r) m v = through_points (λ m' w. span_ways at r w) m v
   ways_by back (BindPat name written p) m v = map (binding name (mode_written back written m) v) (ways_by back p m v)
-  ways_by back (FormPat k fields) m v = through_points (λ m' w. form_ways k (λ i u. field_ways back fields m' i u) w) m v
+  ways_by back (FormPat k fields) m v = through_points (λ m' w. form_ways k (numbers_in fields) (λ i u. field_ways back fields m' i u) w) m v
   ways_by back (ListPat front rest tail) m v =
       through_points (λ m' w. list_ways back (matchers back front m') rest (matchers back tail m') m' w) m v
   ways_by back (PointPat mutable p) m v = point_ways mutable (λ w. ways_by back p (back m) w) v

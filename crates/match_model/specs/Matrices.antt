@@ -1,14 +1,18 @@
--- The ways of a matrix: rows of heads over columns, with what was chosen and caught on the way (Maranget 2007, 2008).
-use Rattle.std.specs.Prelude.{◌≡◌, ℕ, suc, Bool, List, [], ◌∷◌, ◌++◌, map, Option, Some, None, IsTrue}
+-- Matrices: rows of heads over columns, with what was chosen and caught on the way; their ways, and the steps that expand
+-- or-patterns and specialise (Maranget 2007, 2008).
+use Rattle.std.specs.Prelude.{◌≡◌, ℕ, suc, ◌+◌, ◌-◌, Bool, List, [], ◌∷◌, ◌++◌, map, nat_lt, Option, Some, None, IsTrue, cond}
 use Rattle.std.specs.List.{flat_map, Contains}
 use Rattle.match_model.specs.Values.{MValue}
 use Rattle.match_model.specs.Ways.{Way, bare_way, combine, under, bindings_of_both}
 use Rattle.match_model.specs.Select.{Try, try_of}
-use Rattle.match_model.specs.Places.{MStep, part_at, position_at}
+use Rattle.match_model.specs.Places.{MStep, ThroughStep, FieldStep, FrontStep, BackStep, MiddleStep, part_at, position_at}
 use Rattle.match_model.specs.Trees.{MBind, bindings_in, places_are}
-use Rattle.match_model.specs.ArenaPatterns.{MDeArm, MDeMatch}
+use Rattle.match_model.specs.Constructors.{FixedShape, LongerShape, MCtor, PointCtor, VariantCtor, RowCtor}
+use Rattle.match_model.specs.Contexts.{Context, Open}
+use Rattle.match_model.specs.ArenaPatterns.{MPart, WholePart, MiddlePart, MBound, de_pat, MDeArm, MDeMatch}
 use Rattle.match_model.specs.ArenaWays.{arena_ways}
-use Rattle.match_model.specs.Rows.{Head}
+use Rattle.match_model.specs.Pieces.{each_below}
+use Rattle.match_model.specs.Rows.{Head, choices_of, starts_wild, row_rest, specialised_heads, part_open}
 
 -- a column: the place that it looks at, its type, and whether the place is sure
 pub record MColumn (T : Type 0) : Type 0 where
@@ -86,3 +90,72 @@ first_matrix m = record {
 pub record IsMatrixValue {T : Type 0} (IsValue : T → Bool → MValue → Type 0) (m : MMatrix T) (v : MValue) : Type 0 where
   pub held : (c : MColumn T) → Contains m.columns c → (u : MValue) × (part_at c.place v ≡ Some u) × IsValue c.type c.sure u
   pub there : (r : MRow T) → Contains m.rows r → IsTrue (places_are v r.caught)
+
+-- a name with the place of what it holds
+abbrev pub bind_at : List MStep → MBound → MBind
+bind_at place b = record { name = b.name; mode = b.mode; place = part_place b.part }
+  where
+    part_place : MPart → List MStep
+    part_place WholePart = place
+    part_place (MiddlePart f b) = place ++ MiddleStep f b ∷ []
+
+-- the names that a head binds by itself, at the place of its column
+abbrev pub head_binds : {T : Type 0} → List MStep → Head T → List MBind
+head_binds place None = []
+head_binds place (Some (de_pat c t uid at subs binds)) = map (bind_at place) binds
+
+-- the row with another list of heads, more alternatives chosen, and more names caught
+abbrev pub row_with : {T : Type 0} → MRow T → List (Head T) → (chosen : List ℕ) → (caught : List MBind) → MRow T
+row_with r heads chosen caught = record r { heads = heads; chosen = r.chosen ++ chosen; caught = r.caught ++ caught }
+
+-- the row once for each alternative of its first head, whose place this is
+abbrev pub expand_first : {T : Type 0} → List MStep → MRow T → List (Head T) → List (MRow T)
+expand_first place r [] = r ∷ []
+expand_first place r (None ∷ rest) = r ∷ []
+expand_first place r (Some p ∷ rest) =
+    map (λ c. row_with r (Some c.pat ∷ rest) c.chosen (map (bind_at place) c.binds)) (choices_of p)
+
+-- the rows once for each alternative of their first heads
+abbrev pub expand_rows : {T : Type 0} → List MStep → List (MRow T) → List (MRow T)
+expand_rows place rows = flat_map (λ r. expand_first place r r.heads) rows
+
+-- the first head is a wildcard or a name
+abbrev pub first_wild : {T : Type 0} → MRow T → Bool
+first_wild r = starts_wild r.heads
+
+-- the open place of a column
+abbrev pub open_of : {T : Type 0} → MColumn T → Open T
+open_of c = record { type = c.type; sure = c.sure }
+
+-- the column of an open place
+abbrev pub column_at : {T : Type 0} → List MStep → Open T → MColumn T
+column_at place o = record { place = place; type = o.type; sure = o.sure }
+
+-- the names that the first head binds by itself, at its place
+abbrev pub first_binds : {T : Type 0} → List MStep → List (Head T) → List MBind
+first_binds place [] = []
+first_binds place (h ∷ rest) = head_binds place h
+
+-- the rows specialised by a piece of so many parts (Maranget 2008): those whose first head has it, with the heads of its
+-- parts in place of that head
+abbrev pub specialised_rows : {T : Type 0} → List MStep → (piece : MCtor) → (count : ℕ) → List (MRow T) → List (MRow T)
+specialised_rows place piece n rows =
+    flat_map (λ r. map (λ heads. row_with r heads [] (first_binds place r.heads)) (specialised_heads piece n r.heads)) rows
+
+-- the default rows (Maranget 2008): those whose first head is a wildcard or a name, without it
+abbrev pub default_rows : {T : Type 0} → List MStep → List (MRow T) → List (MRow T)
+default_rows place rows =
+    flat_map (λ r. cond (first_wild r) (row_with r (row_rest r.heads) [] (first_binds place r.heads) ∷ []) []) rows
+
+-- the step to part `i` of a piece: the items of one length from the front, those behind a rest from the back
+abbrev pub part_step : MCtor → ℕ → MStep
+part_step PointCtor i = ThroughStep
+part_step (VariantCtor k) i = FieldStep k i
+part_step (RowCtor (FixedShape n)) i = FrontStep i
+part_step (RowCtor (LongerShape f b)) i = cond (nat_lt i f) (FrontStep i) (BackStep (f + b - i))
+part_step _ i = FieldStep 0 i
+
+-- the columns of the parts of a piece
+abbrev pub part_columns : {T : Type 0} → Context T → MColumn T → (piece : MCtor) → List (MColumn T)
+part_columns cx c piece =
+    each_below (λ i. column_at (c.place ++ part_step piece i ∷ []) (part_open cx (open_of c) piece i)) (cx.arity piece c.type)

@@ -1,29 +1,25 @@
--- When a witness, a place or a case is of a type, as a context tells it.
+-- When a witness, a place, a case or a tree is of a type, as a context tells it (our own choice, after the documentation
+-- of `rustc_pattern_analysis`, constructors).
 use Rattle.std.specs.Prelude.{ℕ, zero, suc, ◌+◌, Bool, true, false, ◌&&◌, List, [], ◌∷◌, length, nat_eq, nat_lt, Option, Some, None}
 use Rattle.std.specs.List.{list_all}
-use Rattle.match_model.specs.Witness.{MWitness, AnyOf, LaterOf, FlagOf, SpanOf, TextOf, ElseOf, NodeOf, PointOf, RowOf, MWitnesses, no_witnesses, more_witnesses, witnesses_list}
+use Rattle.match_model.specs.Witness.{MWitness, AnyOf, LaterOf, FlagOf, SpanOf, TextOf, ElseOf, NodeOf, PointOf, RowOf, MWitnesses, no_witnesses, more_witnesses, witnesses_list, row_shape, back_is_allowed}
 use Rattle.match_model.specs.Constructors.{MShape, FixedShape, LongerShape, MCtor, SingleCtor, PointCtor, LaterCtor, OtherTextCtor, VariantCtor, FlagCtor, NumbersCtor, TextCtor, RowCtor, MSet, SingleSet, belongs}
 use Rattle.match_model.specs.Contexts.{Context}
 use Rattle.match_model.specs.Places.{MStep, ThroughStep, FieldStep, FrontStep, BackStep, MiddleStep}
-use Rattle.match_model.specs.Trees.{MCase, VariantCase, FlagCase, SpanCase, TextCase, LengthCase, LongerCase, ElseCase, MBranch, MNode, SwitchNode, AskNode, TakeNode, MissNode, VoidNode}
+use Rattle.match_model.specs.Trees.{MCase, case_ctor, MBranch, MNode, SwitchNode, AskNode, TakeNode, MissNode, VoidNode}
 
 -- the constructor of a node: the one of a struct or tuple, or a variant
 abbrev pub node_ctor : MSet → (variant : ℕ) → MCtor
 node_ctor SingleSet zero = SingleCtor
 node_ctor _ k = VariantCtor k
 
--- the shape of a row witness
-abbrev pub row_shape : (front : ℕ) → (longer : Bool) → (back : ℕ) → MShape
-row_shape f true b = LongerShape f b
-row_shape f false b = FixedShape (f + b)
-
--- the constructor of the type
+-- the constructor belongs to the type's set
 abbrev pub has_ctor : {T : Type 0} → Context T → T → MCtor → Bool
 has_ctor cx t c = belongs (cx.set_of t) c
 
 abbrev mutual
   -- the witness is of the type: it is anything, or its constructor belongs to the type's set, and its parts are as many and
-  -- of the types that this constructor has
+  -- of the types that this constructor has; a row of one length has all its items in front
   pub witness_is_of : {T : Type 0} → Context T → T → MWitness → Bool
   witness_is_of cx t AnyOf = true
   witness_is_of cx t LaterOf = has_ctor cx t LaterCtor
@@ -37,7 +33,7 @@ abbrev mutual
   witness_is_of cx t (PointOf w) = has_ctor cx t PointCtor && witness_is_of cx (cx.sub PointCtor t 0) w
   witness_is_of cx t (RowOf front longer back) =
       let c : MCtor = RowCtor (row_shape (length (witnesses_list front)) longer (length (witnesses_list back))) in
-      has_ctor cx t c
+      has_ctor cx t c && back_is_allowed longer (length (witnesses_list back))
       && (witnesses_are_of cx (cx.sub c t) 0 front && witnesses_are_of cx (cx.sub c t) (length (witnesses_list front)) back)
 
   -- the witnesses are of the types of the parts from number `i` on
@@ -76,16 +72,6 @@ place_is_of cx t [] = true
 place_is_of cx t (MiddleStep f b ∷ []) = has_ctor cx t (RowCtor (LongerShape f b))
 place_is_of cx t (s ∷ steps) =
     elim (type_entered cx t (entered (cx.set_of t) s)) [ None ↦ false | Some u ↦ place_is_of cx u steps ]
-
--- the constructor of a case, where it is no else
-abbrev pub case_ctor : MCase → Option MCtor
-case_ctor (VariantCase k) = Some (VariantCtor k)
-case_ctor (FlagCase b) = Some (FlagCtor b)
-case_ctor (SpanCase r) = Some (NumbersCtor r)
-case_ctor (TextCase u) = Some (TextCtor u)
-case_ctor (LengthCase n) = Some (RowCtor (FixedShape n))
-case_ctor (LongerCase f b) = Some (RowCtor (LongerShape f b))
-case_ctor ElseCase = None
 
 -- the constructor, where there is one, is the type's
 abbrev pub ctor_is_of : {T : Type 0} → Context T → T → Option MCtor → Bool

@@ -1,6 +1,7 @@
 -- Patterns as the source has them, with names resolved (Rust Reference, Patterns). Parentheses are left out, and
 -- inserted dereferences are not there yet.
-use Rattle.std.specs.Prelude.{ℕ, ℤ, Bool, List}
+use Rattle.std.specs.Prelude.{ℕ, ℤ, Bool, true, not, ◌&&◌, List, [], ◌∷◌, nat_eq}
+use Rattle.std.specs.List.{list_any}
 use Rattle.match_model.specs.Numbers.{MRange}
 
 -- how a binding is written: `x`, `mut x`, `ref x` or `ref mut x`
@@ -44,3 +45,17 @@ pub record MArm : Type 0 where
   pub pat : MPat
   pub at : ℕ
   pub guarded : Bool
+
+-- the numbers of the patterns, in order
+abbrev pub numbers_in : MNumbered → List ℕ
+numbers_in no_numbered = []
+numbers_in (more_numbered n p ps) = n ∷ numbers_in ps
+
+-- the number is none of these
+abbrev pub is_other : List ℕ → ℕ → Bool
+is_other ns n = not (list_any (nat_eq n) ns)
+
+-- no number stands twice
+abbrev pub all_differ : List ℕ → Bool
+all_differ [] = true
+all_differ (n ∷ ns) = is_other ns n && all_differ ns

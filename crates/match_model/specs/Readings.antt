@@ -1,4 +1,5 @@
--- Where the binding mode is a move at each `&` and each `mut` of a pattern, as edition 2024 asks.
+-- Where the binding mode is a move at each `&` and each `mut` of a pattern, as edition 2024 asks (Rust Reference,
+-- binding modes; Rust Edition Guide, match ergonomics reservations).
 use Rattle.std.specs.Prelude.{◌≡◌, ℕ, suc, Bool, true, false, ◌&&◌, List, [], ◌∷◌, length, nat_eq, if◌then◌else◌, IsTrue}
 use Rattle.match_model.specs.declared.Mode.{Mode}
 use Rattle.match_model.specs.declared.Mode.TheVariants.{Move, Ref, RefMut}
@@ -43,10 +44,10 @@ abbrev pub test_parts : (ℕ → Test) → ℕ → List MValue → Bool
 test_parts f i [] = true
 test_parts f i (v ∷ vs) = f i v && test_parts f (suc i) vs
 
--- the parts of a node pass
-abbrev pub test_form : (ℕ → Test) → Test
-test_form f (Node k parts) = test_parts f 0 (values_list parts)
-test_form f _ = true
+-- the parts of a node of the variant pass; no part of another one is looked at
+abbrev pub test_form : (variant : ℕ) → (ℕ → Test) → Test
+test_form k f (Node j parts) = if nat_eq k j then test_parts f 0 (values_list parts) else true
+test_form k f _ = true
 
 -- the items pass one by one
 abbrev pub test_items : List Test → List MValue → Bool
@@ -78,7 +79,7 @@ abbrev mutual
   moves_at (TextPat t) m v = true
   moves_at (SpanPat at r) m v = true
   moves_at (BindPat name written p) m v = move_if_mut written m && moves_at p m v
-  moves_at (FormPat k fields) m v = test_through (λ m' w. test_form (λ i u. field_moves fields m' i u) w) m v
+  moves_at (FormPat k fields) m v = test_through (λ m' w. test_form k (λ i u. field_moves fields m' i u) w) m v
   moves_at (ListPat front rest back) m v =
       test_through (λ m' w. test_list (items_move front m') rest (items_move back m') m' w) m v
   moves_at (PointPat mutable p) m v = is_move m && test_inside (λ w. moves_at p Move w) v

@@ -1,5 +1,5 @@
--- What a match does with a value: arms in order, in an arm its ways in order, guards asked one after the other (Rust
--- Reference, Match expressions; that a guard is asked once for each way is our own reading of or-patterns with guards).
+-- What a match does with a value: arms in order, in an arm its ways in order, guards asked one after the other, once for
+-- each way (Rust Reference, Match expressions and match guards).
 use Rattle.std.specs.Prelude.{ℕ, suc, Bool, true, false, List, [], ◌∷◌, ◌++◌, map}
 use Rattle.match_model.specs.Values.{MValue}
 use Rattle.match_model.specs.Ways.{Way, Binding}

@@ -1,11 +1,10 @@
 -- What the patterns of the source keep to: how the ends of a written range are brought to numbers of its type, and what
 -- numbers and offsets they have.
-use Rattle.std.specs.Prelude.{ℕ, ℤ, pos, ◌-ℤ◌, Bool, true, false, not, ◌&&◌, List, [], ◌∷◌, ◌++◌, nat_eq, Option, Some, None, int_le}
-use Rattle.std.specs.List.{list_any}
+use Rattle.std.specs.Prelude.{ℕ, ℤ, pos, ◌-ℤ◌, Bool, true, false, ◌&&◌, List, [], ◌∷◌, ◌++◌, Option, Some, None, int_le}
 use Rattle.match_model.specs.declared.Width.{Width}
 use Rattle.match_model.specs.Types.{MType}
 use Rattle.match_model.specs.Numbers.{MEnd, Free, At, is_at, MRange, numbers_of}
-use Rattle.match_model.specs.Patterns.{MPat, WildPat, NumPat, FlagPat, TextPat, SpanPat, BindPat, FormPat, ListPat, PointPat, OrPat, MPats, no_pats, more_pats, MNumbered, no_numbered, more_numbered}
+use Rattle.match_model.specs.Patterns.{MPat, WildPat, NumPat, FlagPat, TextPat, SpanPat, BindPat, FormPat, ListPat, PointPat, OrPat, MPats, no_pats, more_pats, MNumbered, no_numbered, more_numbered, numbers_in, all_differ}
 use Rattle.match_model.specs.Match.{Alternatives, no_alternative, alternative, alternatives_in}
 
 -- the last number of the range before, where the number begins the range behind it; else one less
@@ -55,20 +54,6 @@ abbrev pub in_order : MEnd → MEnd → Bool
 in_order (At a) (At b) = int_le a b
 in_order Free high = true
 in_order (At a) Free = true
-
--- the number is none of these
-abbrev pub is_other : List ℕ → ℕ → Bool
-is_other ns n = not (list_any (nat_eq n) ns)
-
--- no number stands twice
-abbrev pub all_differ : List ℕ → Bool
-all_differ [] = true
-all_differ (n ∷ ns) = is_other ns n && all_differ ns
-
--- the numbers of the patterns, in order
-abbrev pub numbers_in : MNumbered → List ℕ
-numbers_in no_numbered = []
-numbers_in (more_numbered n p ps) = n ∷ numbers_in ps
 
 -- two alternatives or more
 abbrev pub two_or_more : MNumbered → Bool

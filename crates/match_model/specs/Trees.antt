@@ -1,13 +1,12 @@
 -- Decision trees, and what one means (Maranget 2008).
-use Rattle.std.specs.Prelude.{◌≡◌, ◌<◌, ◌⊎◌, ℕ, ◌+◌, Bool, true, false, ◌&&◌, ◌||◌, List, [], ◌∷◌, ◌++◌, length, nat_eq, nat_le, position, count_by, is_some, Option, Some, None, slice_get, IsTrue}
-use Rattle.std.specs.List.{list_all}
-use mathlib.Core.Bool.{beq}
+use Rattle.std.specs.Prelude.{◌≡◌, ◌<◌, ◌⊎◌, ℕ, Bool, true, false, ◌&&◌, ◌||◌, List, [], ◌∷◌, ◌++◌, map, length, nat_eq, position, count_by, is_some, Option, Some, None, slice_get, IsTrue}
+use Rattle.std.specs.List.{flat_map, list_all, Contains}
 use Rattle.match_model.specs.declared.Mode.{Mode}
-use Rattle.match_model.specs.Values.{MValue, Flag, Num, Text, Node, Row, values_list}
-use Rattle.match_model.specs.Texts.{text_eq}
-use Rattle.match_model.specs.Numbers.{MRange, in_range}
+use Rattle.match_model.specs.Values.{MValue}
+use Rattle.match_model.specs.Numbers.{MRange}
+use Rattle.match_model.specs.Constructors.{FixedShape, LongerShape, MCtor, VariantCtor, FlagCtor, NumbersCtor, TextCtor, RowCtor, builds}
 use Rattle.match_model.specs.Ways.{Binding, bind_into}
-use Rattle.match_model.specs.Select.{Took, Missed, Short, Asked, Selected}
+use Rattle.match_model.specs.Select.{Outcome, Took, Missed, Short, Asked, Selected}
 use Rattle.match_model.specs.Places.{MStep, part_at, position_at}
 
 -- a case of a switch: a variant, a flag, a range, a text, a length, every length from `front + back` on, all other parts
@@ -39,15 +38,31 @@ pub data MNode : Type 0 where
   TakeNode : (arm : ℕ) → List MBind → MNode
   MissNode VoidNode : MNode
 
--- the case, which is no else, has the part
+-- the numbers of the nodes where a node may go on
+abbrev pub successors : MNode → List ℕ
+successors (SwitchNode place branches) = map (λ b. b.next) branches
+successors (AskNode arm binds refused) = refused ∷ []
+successors (TakeNode arm binds) = []
+successors MissNode = []
+successors VoidNode = []
+
+-- each node goes on at nodes with greater numbers alone, so that every walk ends (our own choice)
+abbrev pub IsForward : List MNode → Type 0
+IsForward nodes = (n m : ℕ) (x : MNode) → slice_get nodes n ≡ Some x → Contains (successors x) m → n < m
+
+-- the constructor of a case, where it is no else
+abbrev pub case_ctor : MCase → Option MCtor
+case_ctor (VariantCase k) = Some (VariantCtor k)
+case_ctor (FlagCase b) = Some (FlagCtor b)
+case_ctor (SpanCase r) = Some (NumbersCtor r)
+case_ctor (TextCase u) = Some (TextCtor u)
+case_ctor (LengthCase n) = Some (RowCtor (FixedShape n))
+case_ctor (LongerCase f b) = Some (RowCtor (LongerShape f b))
+case_ctor ElseCase = None
+
+-- the case is no else, and its constructor builds the part
 abbrev pub case_has : MCase → MValue → Bool
-case_has (VariantCase k) (Node j parts) = nat_eq k j
-case_has (FlagCase b) (Flag c) = beq b c
-case_has (SpanCase r) (Num n) = in_range r n
-case_has (TextCase t) (Text u) = text_eq t u
-case_has (LengthCase n) (Row items) = nat_eq n (length (values_list items))
-case_has (LongerCase f b) (Row items) = nat_le (f + b) (length (values_list items))
-case_has _ _ = false
+case_has c v = elim (case_ctor c) [ None ↦ false | Some k ↦ builds [] k v ]
 
 -- the case is the else
 abbrev pub is_else : MCase → Bool
@@ -84,11 +99,11 @@ bindings_in v (b ∷ rest) =
 abbrev pub asked_at : (arm : ℕ) → List MBind → MValue → Asked
 asked_at arm binds v = record { arm = arm; bindings = bindings_in v binds }
 
--- a stop of a walk through the tree: the node, the answers that are left, and the guards that refused so far
+-- a stop of a walk through the tree: the node, the answers that are left, and the nodes whose guards refused so far
 pub record Visit : Type 0 where
   pub node : ℕ
   pub left : List Bool
-  pub asked : List Asked
+  pub asked : List ℕ
 
 -- where every walk begins
 abbrev pub root : (answers : List Bool) → Visit
@@ -96,13 +111,13 @@ root answers = record { node = 0; left = answers; asked = [] }
 
 -- one step of a walk: along the case that has the part, or on from a guard that refuses
 pub data GoesOn (nodes : List MNode) (v : MValue) : Visit → Visit → Type 0 where
-  by_case : (n : ℕ) (left : List Bool) (asked : List Asked) (place : List MStep) (branches : List MBranch) (b : MBranch) →
+  by_case : (n : ℕ) (left : List Bool) (asked : List ℕ) (place : List MStep) (branches : List MBranch) (b : MBranch) →
       slice_get nodes n ≡ Some (SwitchNode place branches) → branch_at place branches v ≡ Some b →
       GoesOn nodes v (record { node = n; left = left; asked = asked }) (record { node = b.next; left = left; asked = asked })
-  by_refusal : (n : ℕ) (left : List Bool) (asked : List Asked) (arm : ℕ) (binds : List MBind) (refused : ℕ) →
+  by_refusal : (n : ℕ) (left : List Bool) (asked : List ℕ) (arm : ℕ) (binds : List MBind) (refused : ℕ) →
       slice_get nodes n ≡ Some (AskNode arm binds refused) →
       GoesOn nodes v (record { node = n; left = false ∷ left; asked = asked })
-      (record { node = refused; left = left; asked = asked ++ asked_at arm binds v ∷ [] })
+      (record { node = refused; left = left; asked = asked ++ n ∷ [] })
 
 -- a walk comes from one stop to another, in no step or more
 pub data ComesTo (nodes : List MNode) (v : MValue) : Visit → Visit → Type 0 where
@@ -110,26 +125,47 @@ pub data ComesTo (nodes : List MNode) (v : MValue) : Visit → Visit → Type 0 
   after : (a b c : Visit) → GoesOn nodes v a b → ComesTo nodes v b c → ComesTo nodes v a c
 
 -- how a walk ends at a guard: short of an answer, or with the arm taken
-abbrev pub end_at_guard : (arm : ℕ) → List MBind → MValue → (left : List Bool) → (asked : List Asked) → Option Selected
-end_at_guard arm binds v [] asked = Some (record { asked = asked; outcome = Short })
-end_at_guard arm binds v (true ∷ left) asked =
-    Some (record { asked = asked ++ asked_at arm binds v ∷ []; outcome = Took arm (bindings_in v binds) })
-end_at_guard arm binds v (false ∷ left) asked = None
+abbrev pub outcome_at_guard : (arm : ℕ) → List MBind → MValue → (left : List Bool) → Option Outcome
+outcome_at_guard arm binds v [] = Some Short
+outcome_at_guard arm binds v (true ∷ left) = Some (Took arm (bindings_in v binds))
+outcome_at_guard arm binds v (false ∷ left) = None
 
--- how a walk ends at a stop, where it does
-abbrev pub end_at : Option MNode → MValue → (left : List Bool) → (asked : List Asked) → Option Selected
-end_at (Some (AskNode arm binds refused)) v left asked = end_at_guard arm binds v left asked
-end_at (Some (TakeNode arm binds)) v left asked = Some (record { asked = asked; outcome = Took arm (bindings_in v binds) })
-end_at (Some MissNode) v left asked = Some (record { asked = asked; outcome = Missed })
-end_at (Some VoidNode) v left asked = Some (record { asked = asked; outcome = Missed })
-end_at (Some (SwitchNode place branches)) v left asked = None
-end_at None v left asked = None
+-- how a walk ends at a node, where it does
+abbrev pub outcome_at : Option MNode → MValue → (left : List Bool) → Option Outcome
+outcome_at (Some (AskNode arm binds refused)) v left = outcome_at_guard arm binds v left
+outcome_at (Some (TakeNode arm binds)) v left = Some (Took arm (bindings_in v binds))
+outcome_at (Some MissNode) v left = Some Missed
+outcome_at (Some VoidNode) v left = Some Missed
+outcome_at (Some (SwitchNode place branches)) v left = None
+outcome_at None v left = None
 
--- what the tree means for a value and the answers of its guards: the walk from node 0 comes to a stop and ends there so
-pub record Means (nodes : List MNode) (v : MValue) (answers : List Bool) (s : Selected) : Type 0 where
+-- the nodes whose guards got an answer in a walk that ends at this node: those that refused, and the node itself where an
+-- answer is left for its guard
+abbrev pub answered : Option MNode → (number : ℕ) → (left : List Bool) → (refused : List ℕ) → List ℕ
+answered (Some (AskNode arm binds next)) n (answer ∷ left) refused = refused ++ n ∷ []
+answered _ n left refused = refused
+
+-- the walk from node 0 with these answers asks the guards of these nodes, in order, and ends so
+pub record EndsIn (nodes : List MNode) (v : MValue) (answers : List Bool) (asked : List ℕ) (outcome : Outcome) : Type 0 where
   pub last : Visit
   pub comes : ComesTo nodes v (root answers) last
-  pub ends : end_at (slice_get nodes last.node) v last.left last.asked ≡ Some s
+  pub ends : outcome_at (slice_get nodes last.node) v last.left ≡ Some outcome
+  pub asks : answered (slice_get nodes last.node) last.node last.left last.asked ≡ asked
+
+-- what the guard at a node is asked with, where one stands there
+abbrev pub guard_at : MValue → Option MNode → List Asked
+guard_at v (Some (AskNode arm binds refused)) = asked_at arm binds v ∷ []
+guard_at v _ = []
+
+-- what the guards at these nodes are asked with
+abbrev pub guards_at : List MNode → MValue → List ℕ → List Asked
+guards_at nodes v ns = flat_map (λ n. guard_at v (slice_get nodes n)) ns
+
+-- what the tree means for a value and the answers of its guards: a walk asks the guards of these nodes and ends so
+pub record Means (nodes : List MNode) (v : MValue) (answers : List Bool) (s : Selected) : Type 0 where
+  pub asked_nodes : List ℕ
+  pub walk : EndsIn nodes v answers asked_nodes s.outcome
+  pub asked : guards_at nodes v asked_nodes ≡ s.asked
 
 -- exactly one of the branches has the part; an else has it where no other has
 abbrev pub one_has : MValue → List MBranch → Bool
@@ -165,7 +201,8 @@ abbrev pub looked_at : MValue → Option MNode → Option (List ℕ)
 looked_at v (Some (SwitchNode place branches)) = position_at place v
 looked_at v _ = None
 
--- on the way of no value of the domain do two switches look at one position
+-- on the way of no value of the domain do two switches look at one position; a step to middle items has none, so this is
+-- said of trees whose places are of the scrutinee's type
 abbrev pub IsOnce : (Domain : MValue → Type 0) → List MNode → Type 0
 IsOnce Domain nodes =
     (v : MValue) → Domain v → (answers : List Bool) (a b c : Visit) (p : List ℕ) →

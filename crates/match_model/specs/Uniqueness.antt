@@ -1,10 +1,10 @@
--- The relations of these definitions allow one answer alone.
-use Rattle.std.specs.Prelude.{◌≡◌, Bool, List, IsTrue}
+-- The relations of these definitions allow one answer alone (our own choice of laws).
+use Rattle.std.specs.Prelude.{◌≡◌, ℕ, Bool, List, IsTrue}
 use Rattle.match_model.specs.Values.{MValue}
 use Rattle.match_model.specs.Match.{ArmWays}
-use Rattle.match_model.specs.Select.{Selected}
+use Rattle.match_model.specs.Select.{Outcome, Selected}
 use Rattle.match_model.specs.Unreachable.{Entry, IsUnreachableList}
-use Rattle.match_model.specs.Trees.{MNode, Means}
+use Rattle.match_model.specs.Trees.{MNode, EndsIn, Means}
 use Rattle.match_model.specs.Witness.{MWitness}
 use Rattle.match_model.specs.Constructors.{MCtor, MSet}
 use Rattle.match_model.specs.Contexts.{Context}
@@ -12,6 +12,12 @@ use Rattle.match_model.specs.ArenaPatterns.{MDeMatch}
 use Rattle.match_model.specs.Pieces.{ArePieces}
 use Rattle.match_model.specs.WitnessList.{IsWitnessList}
 use Rattle.match_model.specs.PlainTree.{IsPlainTree}
+
+-- a tree asks one list of nodes alone for a value and answers, and ends in one way
+abbrev pub WalkIsOne : Type 0
+WalkIsOne =
+    (nodes : List MNode) (v : MValue) (answers : List Bool) (ns ms : List ℕ) (o p : Outcome) →
+    EndsIn nodes v answers ns o → EndsIn nodes v answers ms p → (ns ≡ ms) × (o ≡ p)
 
 -- a tree means one thing alone for a value and answers
 abbrev pub MeaningIsOne : Type 0

@@ -7,7 +7,7 @@ use Rattle.match_model.specs.Values.{MValue}
 use Rattle.match_model.specs.Texts.{compare_texts}
 use Rattle.match_model.specs.Numbers.{MRange}
 
--- what a name is bound to, and how
+-- what a name, by its UTF-8 bytes, is bound to, and how
 pub record Binding : Type 0 where
   pub name : List ℕ
   pub mode : Mode
@@ -29,11 +29,15 @@ pub record Way : Type 0 where
 abbrev pub bare_way : Way
 bare_way = record { trace = []; bindings = []; spans = [] }
 
--- the bindings with one more, in its place by name; of equal names, which no well-typed pattern has, the new one stands first
+-- the things with one more, in its place by name; of equal names, which no well-typed pattern has, the new one stands first
+abbrev pub put_by : {A : Type 0} → (name_of : A → List ℕ) → A → List A → List A
+put_by name_of a [] = a ∷ []
+put_by name_of a (c ∷ rest) =
+    match_ordering (compare_texts (name_of c) (name_of a)) (c ∷ put_by name_of a rest) (a ∷ c ∷ rest) (a ∷ c ∷ rest)
+
+-- the bindings with one more, in its place by name
 abbrev pub bind_into : Binding → List Binding → List Binding
-bind_into b [] = b ∷ []
-bind_into b (c ∷ rest) =
-    match_ordering (compare_texts c.name b.name) (c ∷ bind_into b rest) (b ∷ c ∷ rest) (b ∷ c ∷ rest)
+bind_into b bs = put_by (λ c. c.name) b bs
 
 -- both lists of bindings together, ascending by name
 abbrev pub bindings_of_both : List Binding → List Binding → List Binding

@@ -1,10 +1,9 @@
--- Witnesses: patterns that show what a match leaves out, and the values that fit one.
-use Rattle.std.specs.Prelude.{ℕ, Bool, true, false, not, ◌&&◌, List, [], ◌∷◌, length, take, drop, ◌+◌, ◌-◌, nat_eq, nat_le}
-use Rattle.std.specs.List.{list_any}
-use mathlib.Core.Bool.{beq}
-use Rattle.match_model.specs.Values.{MValue, Flag, Num, Text, Node, Point, Row, Later, values_list}
-use Rattle.match_model.specs.Texts.{text_eq}
-use Rattle.match_model.specs.Numbers.{MRange, in_range}
+-- Witnesses: patterns that show what a match leaves out, and the values that fit one (Maranget 2007; the documentation of
+-- `rustc_pattern_analysis`, witness patterns).
+use Rattle.std.specs.Prelude.{ℕ, Bool, true, false, ◌&&◌, List, [], ◌∷◌, length, take, drop, ◌+◌, ◌-◌, nat_eq}
+use Rattle.match_model.specs.Values.{MValue, Node, Point, Row, values_list}
+use Rattle.match_model.specs.Numbers.{MRange}
+use Rattle.match_model.specs.Constructors.{MShape, FixedShape, LongerShape, LaterCtor, OtherTextCtor, FlagCtor, NumbersCtor, TextCtor, covers, builds}
 
 mutual
   -- a witness: anything; a flag; a range; a text; every text but these; a tuple, struct or variant; a reference; a row by
@@ -34,30 +33,15 @@ abbrev pub witnesses_of : List MWitness → MWitnesses
 witnesses_of [] = no_witnesses
 witnesses_of (w ∷ ws) = more_witnesses w (witnesses_of ws)
 
--- the value is the flag
-abbrev pub flag_fits : Bool → MValue → Bool
-flag_fits b (Flag c) = beq b c
-flag_fits b _ = false
+-- the shape of a row witness with so many items in front and at the back
+abbrev pub row_shape : (front : ℕ) → (longer : Bool) → (back : ℕ) → MShape
+row_shape f true b = LongerShape f b
+row_shape f false b = FixedShape (f + b)
 
--- the value is a number in the range
-abbrev pub span_fits : MRange → MValue → Bool
-span_fits r (Num n) = in_range r n
-span_fits r _ = false
-
--- the value is the text
-abbrev pub text_fits : List ℕ → MValue → Bool
-text_fits t (Text u) = text_eq t u
-text_fits t _ = false
-
--- the value is a text, and none of these
-abbrev pub else_fits : List (List ℕ) → MValue → Bool
-else_fits ts (Text u) = not (list_any (text_eq u) ts)
-else_fits ts _ = false
-
--- the value is a variant that is not declared yet
-abbrev pub later_fits : MValue → Bool
-later_fits Later = true
-later_fits _ = false
+-- items at the back stand only where more may stand between
+abbrev pub back_is_allowed : (longer : Bool) → (back : ℕ) → Bool
+back_is_allowed true b = true
+back_is_allowed false b = nat_eq b 0
 
 -- the value is a node of the variant whose parts fit
 abbrev pub node_fits : ℕ → (List MValue → Bool) → MValue → Bool
@@ -69,27 +53,22 @@ abbrev pub point_fits : (MValue → Bool) → MValue → Bool
 point_fits fit (Point mutable v) = fit v
 point_fits fit _ = false
 
--- the length is the sum of the two sides, or more where that is allowed
-abbrev pub length_fits : (front : ℕ) → (longer : Bool) → (back len : ℕ) → Bool
-length_fits f true b len = nat_le (f + b) len
-length_fits f false b len = nat_eq len (f + b)
-
 -- a row whose first items fit the front and whose last items fit the back
 abbrev pub row_fits : ℕ → (longer : Bool) → ℕ → (List MValue → Bool) → (List MValue → Bool) → MValue → Bool
 row_fits f longer b front back (Row items) =
-    length_fits f longer b (length (values_list items))
+    covers (row_shape f longer b) (length (values_list items))
     && (front (take f (values_list items)) && back (drop (length (values_list items) - b) (values_list items)))
 row_fits f longer b front back _ = false
 
 abbrev mutual
-  -- the value fits the witness
+  -- the value fits the witness: the witness's constructor builds it, and its parts fit
   pub fits : MWitness → MValue → Bool
   fits AnyOf v = true
-  fits LaterOf v = later_fits v
-  fits (FlagOf b) v = flag_fits b v
-  fits (SpanOf r) v = span_fits r v
-  fits (TextOf t) v = text_fits t v
-  fits (ElseOf ts) v = else_fits ts v
+  fits LaterOf v = builds [] LaterCtor v
+  fits (FlagOf b) v = builds [] (FlagCtor b) v
+  fits (SpanOf r) v = builds [] (NumbersCtor r) v
+  fits (TextOf t) v = builds [] (TextCtor t) v
+  fits (ElseOf ts) v = builds ts OtherTextCtor v
   fits (NodeOf k parts) v = node_fits k (λ vs. all_fit parts vs) v
   fits (PointOf w) v = point_fits (λ u. fits w u) v
   fits (RowOf front longer back) v =

@@ -6,8 +6,9 @@ use Rattle.match_model.specs.Witness.{MWitness, AnyOf, LaterOf, FlagOf, SpanOf, 
 use Rattle.match_model.specs.Constructors.{MShape, FixedShape, LongerShape, MCtor, SingleCtor, PointCtor, LaterCtor, OtherTextCtor, VariantCtor, FlagCtor, NumbersCtor, TextCtor, RowCtor, WildCtor, OrCtor, builds}
 use Rattle.match_model.specs.Contexts.{Context, Open}
 use Rattle.match_model.specs.ArenaPatterns.{MDePat, MDeArm, MDeMatch}
+use Rattle.match_model.specs.ArenaWays.{InMatchDomain}
 use Rattle.match_model.specs.Pieces.{ArePieces, text_of}
-use Rattle.match_model.specs.Rows.{Head, expand_row, starts_wild, row_rest, column_of, rows_for, parts_open}
+use Rattle.match_model.specs.Rows.{Head, expand_row, starts_wild, row_rest, column_of, all_specialised, parts_open}
 
 -- the first of the witnesses, or anything
 abbrev pub first_witness : List MWitness → MWitness
@@ -70,7 +71,7 @@ mutual
         PieceWitnesses cx IsValue named o places rows [] []
     with_value : (named : List (List ℕ)) (o : Open T) (places : List (Open T)) (rows : List (List (Head T))) (piece : MCtor) (pieces : List MCtor) (ws us : List (List MWitness)) →
         HasValue IsValue o named piece →
-        Witnesses cx IsValue (parts_open cx o piece ++ places) (rows_for piece (cx.arity piece o.type) rows) ws →
+        Witnesses cx IsValue (parts_open cx o piece ++ places) (all_specialised piece (cx.arity piece o.type) rows) ws →
         PieceWitnesses cx IsValue named o places rows pieces us →
         PieceWitnesses cx IsValue named o places rows (piece ∷ pieces) (map (wrapped piece named (cx.arity piece o.type)) ws ++ us)
     without_value : (named : List (List ℕ)) (o : Open T) (places : List (Open T)) (rows : List (List (Head T))) (piece : MCtor) (pieces : List MCtor) (us : List (List MWitness)) →
@@ -78,7 +79,7 @@ mutual
         PieceWitnesses cx IsValue named o places rows pieces us →
         PieceWitnesses cx IsValue named o places rows (piece ∷ pieces) us
 
--- the rows of the arms without a guard, in order
+-- the row of the arm where it has no guard, else none
 abbrev pub row_of : {T : Type 0} → MDeArm T → List (List (Head T))
 row_of a = row_unless a.guarded a.pat
   where
@@ -89,7 +90,7 @@ row_of a = row_unless a.guarded a.pat
 -- the witness list of a match: empty where the scrutinee has no value but maybe a bare unseen, else by the rows of the
 -- arms without a guard over the one open place
 pub data IsWitnessList {T : Type 0} (cx : Context T) (IsValue : T → Bool → MValue → Type 0) (m : MDeMatch T) : List MWitness → Type 0 where
-  nothing_to_match : ((v : MValue) → IsValue m.type m.sure v → v ≡ Unseen) → IsWitnessList cx IsValue m []
-  by_rows : (v : MValue) (ws : List MWitness) → IsValue m.type m.sure v → v ≢ Unseen →
+  nothing_to_match : ((v : MValue) → InMatchDomain IsValue m v → v ≡ Unseen) → IsWitnessList cx IsValue m []
+  by_rows : (v : MValue) (ws : List MWitness) → InMatchDomain IsValue m v → v ≢ Unseen →
       Witnesses cx IsValue (record { type = m.type; sure = m.sure } ∷ []) (flat_map row_of m.arms) (map (λ w. w ∷ []) ws) →
       IsWitnessList cx IsValue m ws

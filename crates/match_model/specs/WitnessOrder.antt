@@ -58,7 +58,8 @@ compare_high (At a) (At b) = compared (int_eq a b) (int_lt a b)
 abbrev pub compare_range : MRange → MRange → Compared
 compare_range r s = and_then (compare_low r.low s.low) (compare_high r.high s.high)
 
--- the shapes of two rows: by their least lengths; two shapes of one least length stand in no order
+-- the shapes of two rows: by their least lengths; two shapes of one least length stand in no order (rows of one length have
+-- no items at the back, so theirs are equal then)
 abbrev pub compare_shape : (front : ℕ) → (longer : Bool) → (back : ℕ) → (front : ℕ) → (longer : Bool) → (back : ℕ) → Compared
 compare_shape f longer b g wider c =
     and_then (compare_nat (f + b) (g + c)) (compared (nat_eq f g && beq longer wider) false)
@@ -82,7 +83,7 @@ abbrev mutual
       (and_then (compare_witnesses f g) (compare_witnesses b c))
   compare_witness _ _ = NotBefore
 
-  -- what the first difference of the two lists says, part by part
+  -- what the first difference of two lists of one length says, part by part
   pub compare_witnesses : MWitnesses → MWitnesses → Compared
   compare_witnesses (more_witnesses w ws) (more_witnesses u us) = and_then (compare_witness w u) (compare_witnesses ws us)
   compare_witnesses _ _ = Same

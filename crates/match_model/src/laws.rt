@@ -4,7 +4,7 @@ ghost use Rattle.match_model.specs.Laws.{OrIsConcatenation, GoesThrough, MissedW
 ghost use Rattle.match_model.specs.Laws.{JoinIsAssociative, CombineIsAssociative, BareWayIsUnit, PartsSplit, FirstMatrixHasTheArms, RustValuesLaw};
 ghost use Rattle.match_model.specs.Emptiness.{RustPartsLaw, RustEmptyLaw, RustUnsureLaw};
 ghost use Rattle.match_model.specs.Readings.{ReadingsAgree};
-ghost use Rattle.match_model.specs.Uniqueness.{MeaningIsOne, UnreachableListIsOne, PiecesAreOne, WitnessListIsOne, PlainTreeIsOne};
+ghost use Rattle.match_model.specs.Uniqueness.{WalkIsOne, MeaningIsOne, UnreachableListIsOne, PiecesAreOne, WitnessListIsOne, PlainTreeIsOne};
 
 /// An or-pattern's ways are its alternatives' ways, one after the other.
 pub fn or_is_concatenation()
@@ -64,9 +64,10 @@ pub fn rust_emptiness()
     ensures unsure { RustUnsureLaw }
 {}
 
-/// A tree means one thing alone for a value and answers.
+/// A tree asks one list of nodes, ends in one way, and so means one thing alone for a value and answers.
 pub fn meaning_is_one()
-    ensures { MeaningIsOne }
+    ensures walk { WalkIsOne }
+    ensures meaning { MeaningIsOne }
 {}
 
 /// A match has one list of what is unreachable.
