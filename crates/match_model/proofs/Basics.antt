@@ -1,10 +1,12 @@
 -- Small facts on tests and options.
-use Rattle.std.proofs.Common.{◌≡◌, ◌⊎◌, inl, inr, ℕ, ℤ, ◌<◌, Bool, true, false, ◌&&◌, ◌||◌, List, length, Option, Some, None, is_some, nat_eq, int_eq, refl, arith, slice_get}
+use Rattle.std.proofs.Common.{◌≡◌, ◌⊎◌, inl, inr, ℕ, suc, ℤ, ◌<◌, Bool, true, false, ◌&&◌, ◌||◌, List, length, Option, Some, None, is_some, nat_eq, int_eq, refl, arith, slice_get}
 use Rattle.std.proofs.lemmas.Bool.Decides.{nat_tests}
 use Rattle.std.proofs.lemmas.Option.{slice_get_within}
 use Rattle.std.proofs.lemmas.Slice.Eq.{bytes_eq-Decides}
 use Rattle.std.specs.Cmp.{signed_Decides, booleans_Decides}
 use mathlib.Core.Bool.{beq}
+use Rattle.match_model.specs.Types.{MTypes, no_types, more_types}
+use Rattle.match_model.specs.Declarations.{variant_types, some_variants, result_variants}
 use Rattle.match_model.specs.Texts.{text_eq}
 
 pub flag_equal : (a b : Bool) → beq a b ≡ true → a ≡ b
@@ -68,3 +70,19 @@ within {A = A} xs i h = go (slice_get xs i) refl h
     go : (o : Option A) → slice_get xs i ≡ o → is_some o ≡ true → i < length xs
     go None e k = cc
     go (Some x) e k = slice_get_within xs i x e
+
+-- nothing is not something
+pub nothing : {A : Type 0} (x : A) → None ≡ Some x → ⊥
+nothing x e = cc
+
+-- `Option` and `Result` have no third variant
+pub third_of_option : (args : MTypes) (k : ℕ) → variant_types (slice_get (some_variants args) (suc k)) ≡ None
+third_of_option no_types k = refl
+third_of_option (more_types t no_types) k = refl
+third_of_option (more_types t (more_types u us)) k = refl
+
+pub third_of_result : (args : MTypes) (k : ℕ) → variant_types (slice_get (result_variants args) (suc (suc k))) ≡ None
+third_of_result no_types k = refl
+third_of_result (more_types t no_types) k = refl
+third_of_result (more_types t (more_types u no_types)) k = refl
+third_of_result (more_types t (more_types u (more_types w ws))) k = refl

@@ -1,12 +1,12 @@
 -- A type without a value by stable marks has none.
-use Rattle.std.proofs.Common.{◌≡◌, ℕ, zero, suc, Bool, true, false, ◌||◌, List, [], ◌∷◌, Option, Some, None, ℤ, nat_eq, length, refl, ap, ◌∙◌, slice_get}
+use Rattle.std.proofs.Common.{◌≡◌, ℕ, zero, suc, Bool, true, false, ◌||◌, List, [], ◌∷◌, Option, Some, None, ℤ, nat_eq, length, refl, ap, sym, ◌∙◌, slice_get}
 use Rattle.std.specs.List.{list_any}
 use Rattle.match_model.specs.Types.{DeclaredItem, OptionOwner, ResultOwner, MType, BoolType, CharType, StrType, IntType, OpaqueType, TupleType, PointType, SliceType, ArrayType, NamedType, MTypes, no_types, more_types}
 use Rattle.match_model.specs.Declarations.{MVariant, MItem, StructItem, EnumItem, OtherItem, MProgram, form_types, node_types, item_types, variant_types, item_is_marked}
 use Rattle.match_model.specs.Values.{MValue, Flag, Num, Text, Node, Point, Row, Thing, Later, Unseen, MValues, no_values, more_values, values_list}
 use Rattle.match_model.specs.Typing.{is_value, are_values, all_are_values, item_type, type_if}
 use Rattle.match_model.specs.Emptiness.{has_value, all_have_value, item_has_value, IsStable}
-use Rattle.match_model.proofs.Basics.{both, and_true, or_left, or_right, found, nat_equal}
+use Rattle.match_model.proofs.Basics.{both, and_true, or_left, or_right, found, nat_equal, nothing, third_of_result}
 
 -- of the variants, one has all its fields
 variants_by : (marks : List Bool) (vs : List MVariant) (k : ℕ) (ts : MTypes) →
@@ -45,6 +45,7 @@ node_by program marks s (NamedType ResultOwner (more_types t (more_types u (more
 node_by program marks s (NamedType ResultOwner (more_types t (more_types u no_types))) (suc zero) ts e h =
     let same : more_types u no_types ≡ ts = cc in
     or_right (has_value marks t) _ (or_left _ _ (both (has_value marks u) true (ap (all_have_value marks) same ∙ h)).0)
+node_by program marks s (NamedType ResultOwner args) (suc (suc k)) ts e h = absurd (nothing ts (sym (third_of_result args k) ∙ e))
 node_by program marks s _ _ ts e h = cc
 
 flag_has : (marks : List Bool) (program : MProgram) (b : Bool) (t : MType) → is_value program true t (Flag b) ≡ true → has_value marks t ≡ true

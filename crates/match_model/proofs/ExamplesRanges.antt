@@ -12,6 +12,10 @@ use Rattle.match_model.proofs.ExamplesWays.{either_side}
 pub open_ends : (written_range Endless (IntType U8) (Some (pos 3)) false None ≡ record { low = At (pos 3); high = At (pos 255) }) × (written_range Endless (IntType U8) None false (Some (pos 3)) ≡ record { low = At (pos 0); high = At (pos 2) }) × (written_range Endless (IntType I8) None true (Some (pos 3)) ≡ record { low = At (negsuc 127); high = At (pos 3) })
 open_ends = (refl, refl, refl)
 
+-- `255..` on `u8` is one number, and so no range is met
+pub last_alone : written_range Endless (IntType U8) (Some (pos 255)) false None ≡ record { low = At (pos 255); high = At (pos 255) }
+last_alone = refl
+
 -- an open end of `usize` is free above, of `isize` on both sides; with a width neither is
 pub endless_ends : (written_range Endless (IntType USize) None false None ≡ record { low = At (pos 0); high = Free }) × (written_range Endless (IntType ISize) None false (Some (pos 0)) ≡ record { low = Free; high = At (negsuc 0) }) × (written_range W16 (IntType USize) (Some (pos 3)) false None ≡ record { low = At (pos 3); high = At (pos 65535) })
 endless_ends = (refl, refl, refl)

@@ -1,5 +1,5 @@
 -- Worked examples: places, trees and what they mean, the plain tree of small matches; arena patterns and overlaps.
-use Rattle.std.proofs.Common.{◌≡◌, ℕ, pos, Bool, true, false, List, [], ◌∷◌, Some, None, slice_get, refl, inl, arith}
+use Rattle.std.proofs.Common.{◌≡◌, ℕ, pos, Bool, true, false, List, [], ◌∷◌, map, length, Some, None, slice_get, refl, inl, arith}
 use Rattle.match_model.specs.declared.Mode.TheVariants.{Move, Ref}
 use Rattle.match_model.specs.Types.{MType, BoolType, TupleType, no_types, more_types}
 use Rattle.match_model.specs.Values.{MValue, Flag, Node, Point, Text, Unseen, no_values}
@@ -8,14 +8,14 @@ use Rattle.match_model.specs.Patterns.{SpanPat}
 use Rattle.match_model.specs.Match.{alternative, no_alternative}
 use Rattle.match_model.specs.Select.{Took, Missed, Short, tries_from}
 use Rattle.match_model.specs.Places.{ThroughStep, FieldStep, FrontStep, BackStep, MiddleStep, part_at, position_at}
-use Rattle.match_model.specs.Trees.{FlagCase, VariantCase, ElseCase, LengthCase, LongerCase, SpanCase, TextCase, case_has, MBind, MBranch, MNode, SwitchNode, AskNode, TakeNode, MissNode, GoesOn, by_case, by_refusal, at_once, after, Means, looked_at, number_for, one_has}
+use Rattle.match_model.specs.Trees.{FlagCase, VariantCase, ElseCase, LengthCase, LongerCase, SpanCase, TextCase, case_has, MBind, MBranch, MNode, SwitchNode, AskNode, TakeNode, MissNode, successors, GoesOn, by_case, by_refusal, at_once, after, Means, looked_at, number_for, one_has}
 use Rattle.match_model.specs.Overlaps.{Overlaps}
 use Rattle.match_model.specs.Constructors.{LongerShape, FlagCtor, NumbersCtor, RowCtor, WildCtor, OrCtor, PointCtor}
 use Rattle.match_model.specs.ArenaPatterns.{WholePart, MDePat, de_pat, no_de_pats, de_pats_of, MDeArm, MDeMatch}
 use Rattle.match_model.specs.ArenaWays.{arena_ways, arena_arm, arena_alternatives}
 use Rattle.match_model.specs.ArenaUnreachable.{in_reading_order}
 use Rattle.match_model.specs.Unreachable.{Entry}
-use Rattle.match_model.specs.Matrices.{matrix_ways, first_rows}
+use Rattle.match_model.specs.Matrices.{MColumn, matrix_ways, first_rows, expand_rows}
 use Rattle.match_model.specs.OfType.{type_at, case_is_of, node_is_of}
 use Rattle.match_model.specs.PlainTree.{MTree, SwitchTree, TakeTree, MissTree, no_branch, more_branches, nodes_from, switches, takes, one_case, no_case, with_else, no_row_left, IsPlainTree, lowered}
 use Rattle.match_model.specs.RustTypes.{rust_context, RustValue}
@@ -111,6 +111,10 @@ tree_asks = record {
   asked = refl;
 }
 
+-- where each node goes on
+pub goes_on : map successors small_tree ≡ (1 ∷ 2 ∷ []) ∷ [] ∷ (3 ∷ []) ∷ [] ∷ []
+goes_on = refl
+
 -- the tree of `[true, .., true] => .., _ => ..` on `[bool; 3]` looks at two positions of a value of the type
 abbrev array_tree : List MNode
 array_tree = SwitchNode (FrontStep 0 ∷ []) (true_or_else 1 3) ∷ SwitchNode (BackStep 1 ∷ []) (true_or_else 2 3) ∷ TakeNode 0 [] ∷ TakeNode 1 [] ∷ []
@@ -185,6 +189,23 @@ or_arm = record { pat = de_pat OrCtor BoolType 1 2 (de_pats_of (zero_pat 2 2 ∷
 
 pub first_matrix : matrix_ways (record { columns = record { place = []; type = BoolType; sure = true } ∷ []; rows = first_rows 0 (or_arm ∷ []) }) (number 0) ≡ tries_from 0 (arena_arm or_arm ∷ []) (number 0)
 first_matrix = refl
+
+-- `x @ (0 | (0 | _))` in place of its one row: each row has the uids of its alternatives, and the name caught; the rows have
+-- the ways of the first one
+abbrev nested_arm : MDeArm MType
+nested_arm = record {
+  pat = de_pat OrCtor BoolType 1 2 (de_pats_of (zero_pat 2 2 ∷ de_pat OrCtor BoolType 3 6 (de_pats_of (zero_pat 4 6 ∷ de_pat WildCtor BoolType 5 10 no_de_pats [] ∷ [])) [] ∷ [])) (record { name = x_name; mode = Move; part = WholePart } ∷ []);
+  guarded = true;
+}
+
+abbrev nested_columns : List (MColumn MType)
+nested_columns = record { place = []; type = BoolType; sure = true } ∷ []
+
+pub nested_rows : map (λ r. r.chosen) (expand_rows [] (first_rows 0 (nested_arm ∷ []))) ≡ (2 ∷ []) ∷ (3 ∷ 4 ∷ []) ∷ (3 ∷ 5 ∷ []) ∷ []
+nested_rows = refl
+
+pub nested_ways : (matrix_ways (record { columns = nested_columns; rows = expand_rows [] (first_rows 0 (nested_arm ∷ [])) }) (number 0) ≡ matrix_ways (record { columns = nested_columns; rows = first_rows 0 (nested_arm ∷ []) }) (number 0)) × (length (matrix_ways (record { columns = nested_columns; rows = first_rows 0 (nested_arm ∷ []) }) (number 0)) ≡ 3)
+nested_ways = (refl, refl)
 
 -- `0..=5 => .., 5..=9 => ..` overlap at 5
 abbrev low_half : MRange

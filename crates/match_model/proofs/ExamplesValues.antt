@@ -3,10 +3,11 @@ use Rattle.std.proofs.Common.{◌≡◌, ℕ, pos, negsuc, Bool, true, false, Li
 use Rattle.match_model.specs.declared.Width.{Width}
 use Rattle.match_model.specs.declared.Width.TheVariants.{Endless, W16, W32, W64}
 use Rattle.match_model.specs.declared.IntKind.TheVariants.{U8, U16, U32, U64, U128, USize, I8, I16, I32, I64, I128, ISize}
-use Rattle.match_model.specs.Types.{DeclaredItem, OptionOwner, ResultOwner, BoxName, MType, BoolType, CharType, StrType, NeverType, IntType, OpaqueType, TupleType, PointType, SliceType, ArrayType, NamedType, no_types, more_types}
-use Rattle.match_model.specs.Declarations.{TupleForm, BraceForm, MItem, StructItem, EnumItem, OtherItem, MProgram}
+use Rattle.match_model.specs.Types.{DeclaredItem, OptionOwner, ResultOwner, StringName, BoxName, MType, BoolType, CharType, StrType, NeverType, IntType, OpaqueType, TupleType, PointType, SliceType, ArrayType, NamedType, no_types, more_types}
+use Rattle.match_model.specs.Declarations.{UnitForm, TupleForm, BraceForm, MItem, StructItem, EnumItem, OtherItem, MProgram, variants_of}
 use Rattle.match_model.specs.Values.{MValue, Flag, Num, Text, Node, Point, Row, Thing, Later, Unseen, no_values, values_of, part_at_position}
 use Rattle.match_model.specs.Typing.{is_value}
+use Rattle.match_model.specs.RustTypes.{is_type}
 
 -- `enum E { A(!), B { x: bool, y: &E } }  fn f ..  #[non_exhaustive] enum G {}  enum N {}  struct S(u8);`
 abbrev pub items : List MItem
@@ -159,3 +160,11 @@ rows = (refl, refl, refl, refl, refl)
 -- positions count from 0, and a reference is one step
 pub positions : (part_at_position (1 ∷ 0 ∷ []) (Node 0 (values_of (Flag true ∷ Point false (Num (pos 5)) ∷ []))) ≡ Some (Num (pos 5))) × (part_at_position (1 ∷ []) (Point false (Flag true)) ≡ None)
 positions = (refl, refl)
+
+-- `Option<bool>` has the variants `None` and `Some`, `Result<bool, !>` has `Ok` and `Err`
+pub built_in : (variants_of program (NamedType OptionOwner (more_types BoolType no_types)) ≡ record { name = 78 ∷ 111 ∷ 110 ∷ 101 ∷ []; form = UnitForm } ∷ record { name = 83 ∷ 111 ∷ 109 ∷ 101 ∷ []; form = TupleForm (BoolType ∷ []) } ∷ []) × (variants_of program (NamedType ResultOwner (more_types BoolType (more_types NeverType no_types))) ≡ record { name = 79 ∷ 107 ∷ []; form = TupleForm (BoolType ∷ []) } ∷ record { name = 69 ∷ 114 ∷ 114 ∷ []; form = TupleForm (NeverType ∷ []) } ∷ [])
+built_in = (refl, refl)
+
+-- `Box<bool>` and `String` are types; `Box` and `String<bool>` are none
+pub opaque_counts : (is_type program (OpaqueType BoxName (more_types BoolType no_types)) ≡ true) × (is_type program (OpaqueType BoxName no_types) ≡ false) × (is_type program (OpaqueType StringName no_types) ≡ true) × (is_type program (OpaqueType StringName (more_types BoolType no_types)) ≡ false)
+opaque_counts = (refl, refl, refl, refl)

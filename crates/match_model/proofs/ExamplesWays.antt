@@ -153,6 +153,14 @@ declared_order = refl
 pub unwritten_field : (count (FormPat 1 (more_numbered 1 (FlagPat true) no_numbered)) (Node 1 (values_of (number 9 ∷ Flag true ∷ []))) ≡ 1) × (count (FormPat 1 no_numbered) (Node 0 no_values) ≡ 0)
 unwritten_field = (refl, refl)
 
+-- a written number that is no field's, or stands twice, matches nothing, and is no wildcard
+pub wrong_fields : (count (FormPat 0 (more_numbered 7 (FlagPat true) no_numbered)) (Node 0 (values_of (Flag false ∷ []))) ≡ 0) × (count (FormPat 0 (more_numbered 0 (FlagPat true) (more_numbered 0 (FlagPat false) no_numbered))) (Node 0 (values_of (Flag true ∷ []))) ≡ 0) × (count (FormPat 0 (more_numbered 1 WildPat (more_numbered 0 (FlagPat true) no_numbered))) (Node 0 (values_of (Flag true ∷ number 3 ∷ []))) ≡ 1)
+wrong_fields = (refl, refl, refl)
+
+-- the mode at the `&` of a form's pattern is asked in that form alone, not where its field is another form's
+pub other_form : (moves_at (FormPat 1 (more_numbered 0 (FormPat 0 (more_numbered 0 (PointPat false (NumPat (pos 0))) no_numbered)) no_numbered)) Move (Node 0 (values_of (Point false (tuple (Point false (number 0) ∷ [])) ∷ []))) ≡ true) × (moves_at (FormPat 0 (more_numbered 0 (FormPat 0 (more_numbered 0 (PointPat false (NumPat (pos 0))) no_numbered)) no_numbered)) Move (Node 0 (values_of (Point false (tuple (Point false (number 0) ∷ [])) ∷ []))) ≡ false)
+other_form = (refl, refl)
+
 -- bindings stand in the order of their names
 pub by_name : ways (pair (name b_name) (name a_name)) Move (tuple (number 1 ∷ number 2 ∷ [])) ≡ binds (bound a_name Move (number 2) ∷ bound b_name Move (number 1) ∷ []) ∷ []
 by_name = refl

@@ -1,6 +1,6 @@
 -- Worked examples: witnesses, the values that fit them, and their order; the witness list of small matches.
 use Rattle.std.proofs.Common.{◌≡◌, ℕ, pos, negsuc, Bool, true, false, [], ◌∷◌, ◌^◌, Some, None, refl}
-use Rattle.match_model.specs.Types.{OptionOwner, MType, BoolType, NeverType, PointType, NamedType, no_types, more_types}
+use Rattle.match_model.specs.Types.{OptionOwner, MType, BoolType, NeverType, PointType, SliceType, NamedType, no_types, more_types}
 use Rattle.match_model.specs.Values.{MValue, Flag, Num, Text, Node, Point, Row, Thing, Later, Unseen, no_values, values_of}
 use Rattle.match_model.specs.Numbers.{MRange, Free, At}
 use Rattle.match_model.specs.Witness.{AnyOf, LaterOf, FlagOf, SpanOf, TextOf, ElseOf, NodeOf, PointOf, RowOf, no_witnesses, witnesses_of, fits}
@@ -147,3 +147,7 @@ only_true_list =
   where
     no_unseen : Flag true ≡ Unseen → ⊥
     no_unseen e = cc
+
+-- a row of one length has all its items in front
+pub of_rows : (witness_is_of (rust_context program) (SliceType BoolType) (RowOf (witnesses_of (FlagOf false ∷ [])) false (witnesses_of (FlagOf true ∷ []))) ≡ false) × (witness_is_of (rust_context program) (SliceType BoolType) (RowOf (witnesses_of (FlagOf false ∷ FlagOf true ∷ [])) false no_witnesses) ≡ true) × (witness_is_of (rust_context program) (SliceType BoolType) (RowOf (witnesses_of (FlagOf false ∷ [])) true (witnesses_of (FlagOf true ∷ []))) ≡ true)
+of_rows = (refl, refl, refl)

@@ -18,3 +18,4 @@ pub mod OneMeaning
 pub mod OnePieces
 pub mod OneAnswer
 pub mod FirstMatrix
+pub mod Counted

@@ -3,7 +3,7 @@ use Rattle.std.proofs.Common.{◌≡◌, ◌≢◌, ◌↔◌, ◌<◌, nat_lt, 
 use Rattle.std.proofs.lemmas.Bool.Decides.{nat_tests}
 use Rattle.std.specs.List.{list_all}
 use Rattle.match_model.specs.Types.{DeclaredItem, OptionOwner, ResultOwner, MType, BoolType, CharType, StrType, NeverType, IntType, OpaqueType, TupleType, PointType, SliceType, ArrayType, NamedType, MTypes, no_types, more_types, types_list}
-use Rattle.match_model.specs.Declarations.{MVariant, MItem, StructItem, EnumItem, OtherItem, MProgram, node_types, item_types, variant_types, item_is_marked, is_marked, one_argument, one_of_two}
+use Rattle.match_model.specs.Declarations.{MVariant, MItem, StructItem, EnumItem, OtherItem, MProgram, node_types, item_types, variant_types, item_is_marked, is_marked, some_variants, result_variants}
 use Rattle.match_model.specs.Values.{MValue, Flag, Num, Text, Node, Point, Row, Later, MValues, no_values, more_values, values_list, parts_of}
 use Rattle.match_model.specs.Texts.{is_scalar}
 use Rattle.match_model.specs.Numbers.{has_number}
@@ -13,7 +13,7 @@ use Rattle.match_model.specs.ContextLaws.{PartsLaw, PartsAre, ArityIs, HasFields
 use Rattle.match_model.specs.RustTypes.{rust_set, item_set, rust_context, rust_sub, rust_arity, count_of_types, part_type, type_or, inner_type, is_type, are_types, IsSoundProgram, RustValue}
 use Rattle.match_model.specs.Emptiness.{IsRustType}
 use Rattle.match_model.proofs.RustValues.{one_number}
-use Rattle.match_model.proofs.Basics.{both, and_true, nat_equal, text_equal}
+use Rattle.match_model.proofs.Basics.{both, and_true, nat_equal, text_equal, nothing, third_of_option, third_of_result}
 
 untrue : false ≡ true → ⊥
 untrue e = cc
@@ -41,6 +41,8 @@ types_of_node program sound (NamedType ResultOwner (more_types t (more_types u (
 types_of_node program sound (NamedType ResultOwner (more_types t (more_types u no_types))) (suc zero) ts d e =
     let same : more_types u no_types ≡ ts = cc in
     ap (are_types program) (sym same) ∙ (both _ _ (both _ true d).0).1
+types_of_node program sound (NamedType OptionOwner args) (suc (suc k)) ts d e = absurd (nothing ts (sym (third_of_option args k) ∙ e))
+types_of_node program sound (NamedType ResultOwner args) (suc (suc k)) ts d e = absurd (nothing ts (sym (third_of_result args k) ∙ e))
 types_of_node program sound _ _ ts d e = cc
 
 -- values are of types one by one exactly where there are as many, and each is of the type at its number
@@ -216,7 +218,7 @@ node_item (Some (EnumItem name marked (v ∷ vs))) _ _ (of_variant k) h = varian
 two_or_more : (k : ℕ) → nat_lt (suc (suc k)) 2 ≡ true → ⊥
 two_or_more k h = let e : suc (suc k) < 2 = below (suc (suc k)) 2 h in omega (arith, e)
 
-one_there : (program : MProgram) (args : MTypes) → (are_types program args && nat_eq (length (types_list args)) 1) ≡ true → is_some (one_argument args) ≡ true
+one_there : (program : MProgram) (args : MTypes) → (are_types program args && nat_eq (length (types_list args)) 1) ≡ true → is_some (variant_types (slice_get (some_variants args) 0)) ≡ true
 one_there program no_types d = cc
 one_there program (more_types t no_types) d = refl
 one_there program (more_types t (more_types u us)) d =
@@ -225,12 +227,12 @@ one_there program (more_types t (more_types u us)) d =
     not_one : (n : ℕ) → nat_eq (suc (suc n)) 1 ≡ true → ⊥
     not_one n h = let e : suc (suc n) ≡ 1 = nat_equal _ _ h in omega (arith, e)
 
-two_there : (program : MProgram) (pick : MType → MType → MType) (args : MTypes) → (are_types program args && nat_eq (length (types_list args)) 2) ≡ true →
-    is_some (one_of_two pick args) ≡ true
-two_there program pick no_types d = cc
-two_there program pick (more_types t no_types) d = absurd (untrue (both (are_types program (more_types t no_types)) false d).1)
-two_there program pick (more_types t (more_types u no_types)) d = refl
-two_there program pick (more_types t (more_types u (more_types w ws))) d =
+two_there : (program : MProgram) (args : MTypes) → (are_types program args && nat_eq (length (types_list args)) 2) ≡ true →
+    (is_some (variant_types (slice_get (result_variants args) 0)) ≡ true) × (is_some (variant_types (slice_get (result_variants args) 1)) ≡ true)
+two_there program no_types d = cc
+two_there program (more_types t no_types) d = absurd (untrue (both (are_types program (more_types t no_types)) false d).1)
+two_there program (more_types t (more_types u no_types)) d = (refl, refl)
+two_there program (more_types t (more_types u (more_types w ws))) d =
     absurd (not_two (length (types_list ws)) (both (are_types program (more_types t (more_types u (more_types w ws)))) _ d).1)
   where
     not_two : (n : ℕ) → nat_eq (suc (suc (suc n))) 2 ≡ true → ⊥
@@ -246,8 +248,8 @@ node_type program (NamedType OptionOwner args) _ _ d (of_variant zero) h = refl
 node_type program (NamedType OptionOwner args) _ _ d (of_variant (suc zero)) h = one_there program args d
 node_type program (NamedType OptionOwner args) _ _ d (of_variant (suc (suc k))) h = absurd (two_or_more k h)
 node_type program (NamedType ResultOwner args) _ _ d of_single h = absurd (untrue h)
-node_type program (NamedType ResultOwner args) _ _ d (of_variant zero) h = two_there program (λ t e. t) args d
-node_type program (NamedType ResultOwner args) _ _ d (of_variant (suc zero)) h = two_there program (λ t e. e) args d
+node_type program (NamedType ResultOwner args) _ _ d (of_variant zero) h = (two_there program args d).0
+node_type program (NamedType ResultOwner args) _ _ d (of_variant (suc zero)) h = (two_there program args d).1
 node_type program (NamedType ResultOwner args) _ _ d (of_variant (suc (suc k))) h = absurd (two_or_more k h)
 node_type program _ _ _ d of_single h = cc
 node_type program _ _ _ d (of_variant k) h = cc
@@ -425,6 +427,10 @@ sub_is program sound t (OneNumber n) i d = d
 sub_is program sound t (OneText u) i d = d
 sub_is program sound t (OneLength n) i d = inner_is program t d
 
+few_none : (o : Option MTypes) → o ≡ None → count_of_types o < 2 ^ 32
+few_none None e = lit< tt
+few_none (Some ts) e = cc
+
 -- there are fewer than 2^32 fields
 few_of : (program : MProgram) → IsSoundProgram program → (t : MType) (k : ℕ) → is_type program t ≡ true → count_of_types (node_types program t k) < 2 ^ 32
 few_of program sound (TupleType ts) zero d = few_by (length (types_list ts)) (both _ _ d).1
@@ -448,6 +454,8 @@ few_of program sound (NamedType ResultOwner no_types) (suc zero) d = lit< tt
 few_of program sound (NamedType ResultOwner (more_types t no_types)) (suc zero) d = lit< tt
 few_of program sound (NamedType ResultOwner (more_types t (more_types u no_types))) (suc zero) d = lit< tt
 few_of program sound (NamedType ResultOwner (more_types t (more_types u (more_types w ws)))) (suc zero) d = lit< tt
+few_of program sound (NamedType OptionOwner args) (suc (suc k)) d = few_none (variant_types (slice_get (some_variants args) (suc k))) (third_of_option args k)
+few_of program sound (NamedType ResultOwner args) (suc (suc k)) d = few_none (variant_types (slice_get (result_variants args) (suc (suc k)))) (third_of_result args k)
 few_of program sound _ _ d = lit< tt
 
 few_law : (program : MProgram) → IsSoundProgram program → (t : MType) (e : Elementary) → is_type program t ≡ true → HasFields e →

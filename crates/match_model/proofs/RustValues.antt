@@ -1,5 +1,5 @@
 -- Every value of a Rust type is built by one constructor of the type.
-use Rattle.std.proofs.Common.{◌≡◌, ℕ, zero, suc, ℤ, pos, negsuc, ◌<◌, Bool, true, false, not, ◌&&◌, ◌||◌, List, [], ◌∷◌, length, Option, Some, None, is_some, IsTrue, int_lt, nat_eq, refl, sym, ap, arith, slice_get}
+use Rattle.std.proofs.Common.{◌≡◌, ℕ, zero, suc, ℤ, pos, negsuc, ◌<◌, Bool, true, false, not, ◌&&◌, ◌||◌, List, [], ◌∷◌, length, Option, Some, None, is_some, IsTrue, int_lt, nat_eq, refl, sym, ap, ◌∙◌, arith, slice_get}
 use Rattle.std.specs.List.{list_all}
 use Rattle.std.proofs.lemmas.Bool.Decides.{nat_tests}
 use Rattle.match_model.specs.Types.{DeclaredItem, OptionOwner, ResultOwner, MType, BoolType, CharType, StrType, NeverType, IntType, OpaqueType, TupleType, PointType, SliceType, ArrayType, NamedType, no_types, more_types}
@@ -11,7 +11,7 @@ use Rattle.match_model.specs.Typing.{is_value, are_values, all_are_values, item_
 use Rattle.match_model.specs.Constructors.{SingleSet, PointSet, FlagSet, TextSet, VariantSet, NumberSet, RowSet, OpaqueSet, NothingSet, Elementary, OneSingle, OnePoint, OneLater, OneVariant, OneFlag, OneNumber, OneText, OneLength, builds_one, is_of_set, in_either}
 use Rattle.match_model.specs.ContextLaws.{BuiltOnce, ValueIs, RangesAscend, ValuesLaw}
 use Rattle.match_model.specs.RustTypes.{rust_set, item_set, is_declared, is_type, RustValue, rust_context}
-use Rattle.match_model.proofs.Basics.{flag_equal, flag_itself, text_equal, text_itself, nat_equal, nat_itself, within}
+use Rattle.match_model.proofs.Basics.{flag_equal, flag_itself, text_equal, text_itself, nat_equal, nat_itself, within, third_of_option, third_of_result, untrue}
 
 flag_built : (b : Bool) → BuiltOnce FlagSet (Flag b)
 flag_built b = record { by = OneFlag b; of_set = refl; build = flag_itself b; only = only }
@@ -106,6 +106,8 @@ node_built program (NamedType OptionOwner args) zero sure parts h = variant_buil
 node_built program (NamedType OptionOwner args) (suc zero) sure parts h = variant_built 2 false 1 parts (omega arith)
 node_built program (NamedType ResultOwner args) zero sure parts h = variant_built 2 false 0 parts (omega arith)
 node_built program (NamedType ResultOwner args) (suc zero) sure parts h = variant_built 2 false 1 parts (omega arith)
+node_built program (NamedType OptionOwner args) (suc (suc k)) sure parts h = absurd (untrue (sym (ap is_some (third_of_option args k)) ∙ h))
+node_built program (NamedType ResultOwner args) (suc (suc k)) sure parts h = absurd (untrue (sym (ap is_some (third_of_result args k)) ∙ h))
 node_built program _ _ sure parts h = cc
 
 later_is : (o : Option MItem) (sure : Bool) → item_is_marked o ≡ true → ValueIs (item_set o) sure Later

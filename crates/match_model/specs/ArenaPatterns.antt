@@ -9,7 +9,7 @@ pub data MPart : Type 0 where
   WholePart : MPart
   MiddlePart : (front back : ℕ) → MPart
 
--- a name that a pattern binds
+-- a name, by its UTF-8 bytes, that a pattern binds
 pub record MBound : Type 0 where
   pub name : List ℕ
   pub mode : Mode

@@ -1,4 +1,4 @@
--- The list of what is unreachable in a match of the engine: by arm, then by offset, then in preorder.
+-- The list of what is unreachable in a match of the engine: by arm, then by offset, then in preorder (our own choice).
 use Rattle.std.specs.Prelude.{◌≡◌, Bool, ◌&&◌, ◌||◌, List, [], ◌∷◌, nat_eq, nat_lt, nat_le, if◌then◌else◌}
 use Rattle.match_model.specs.Values.{MValue}
 use Rattle.match_model.specs.Match.{ArmWays}

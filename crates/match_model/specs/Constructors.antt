@@ -131,7 +131,7 @@ abbrev pub shape_belongs : Option ℕ → MShape → Bool
 shape_belongs None s = true
 shape_belongs (Some n) s = covers s n
 
--- the constructor belongs to the set
+-- the constructor belongs to the set; a backward range, which the program's ranges never are, is not told apart
 abbrev pub belongs : MSet → MCtor → Bool
 belongs SingleSet SingleCtor = true
 belongs PointSet PointCtor = true

@@ -1,4 +1,5 @@
--- The laws that a context keeps, stated over elementary constructors.
+-- The laws that a context keeps, stated over elementary constructors (our own choice of laws, after the documentation of
+-- `rustc_pattern_analysis`, constructors and empty types).
 use Rattle.std.specs.Prelude.{◌≡◌, ◌≢◌, ◌<◌, ◌^◌, ◌⊎◌, ◌↔◌, ⊤, ℕ, suc, ℤ, Bool, true, false, List, [], ◌∷◌, length, Some, IsTrue, int_lt}
 use Rattle.match_model.specs.Values.{MValue, Point, Thing, Unseen, parts_of}
 use Rattle.match_model.specs.Numbers.{in_range}

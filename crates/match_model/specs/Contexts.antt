@@ -1,4 +1,5 @@
--- What an engine asks of the types of a language.
+-- What an engine asks of the types of a language (the documentation of `rustc_pattern_analysis`, the trait of its type
+-- contexts).
 use Rattle.std.specs.Prelude.{ℕ, Bool}
 use Rattle.match_model.specs.Constructors.{MCtor, MSet}
 

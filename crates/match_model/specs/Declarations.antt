@@ -1,6 +1,6 @@
--- What the file and the options say: the items of the file, and the width of `usize` and `isize`. Names are their
--- UTF-8 bytes, which stand in the same order as their characters.
-use Rattle.std.specs.Prelude.{ℕ, zero, suc, Bool, true, false, List, [], map, slice_get, Option, Some, None}
+-- What the file and the options say: the items of the file, and the width of `usize` and `isize` (Rust Reference, Items,
+-- structs and enumerations). Names are their UTF-8 bytes, which stand in the same order as their characters.
+use Rattle.std.specs.Prelude.{ℕ, zero, Bool, true, false, List, [], ◌∷◌, map, slice_get, Option, Some, None}
 use Rattle.match_model.specs.declared.Width.{Width}
 use Rattle.match_model.specs.Types.{DeclaredItem, OptionOwner, ResultOwner, MType, NeverType, TupleType, NamedType, MTypes, no_types, more_types, types_of}
 
@@ -42,35 +42,43 @@ abbrev pub variant_types : Option MVariant → Option MTypes
 variant_types (Some v) = Some (form_types v.form)
 variant_types None = None
 
--- the field types of the item's variant with this number; a struct has the one variant 0
+-- the variants of an item, in order of declaration; a struct has one
+abbrev pub item_variants : Option MItem → List MVariant
+item_variants (Some (StructItem v)) = v ∷ []
+item_variants (Some (EnumItem name marked variants)) = variants
+item_variants (Some OtherItem) = []
+item_variants None = []
+
+-- the field types of the item's variant with this number
 abbrev pub item_types : Option MItem → (variant : ℕ) → Option MTypes
-item_types (Some (StructItem v)) zero = Some (form_types v.form)
-item_types (Some (EnumItem name marked variants)) k = variant_types (slice_get variants k)
-item_types _ _ = None
+item_types item k = variant_types (slice_get (item_variants item) k)
 
--- the one type argument, where there is exactly one
-abbrev pub one_argument : MTypes → Option MTypes
-one_argument no_types = None
-one_argument (more_types t no_types) = Some (more_types t no_types)
-one_argument (more_types t (more_types u us)) = None
+-- the variant `None`
+abbrev pub none_variant : MVariant
+none_variant = record { name = 78 ∷ 111 ∷ 110 ∷ 101 ∷ []; form = UnitForm }
 
--- one of two type arguments, where there are exactly two
-abbrev pub one_of_two : (pick : MType → MType → MType) → MTypes → Option MTypes
-one_of_two pick no_types = None
-one_of_two pick (more_types t no_types) = None
-one_of_two pick (more_types t (more_types e no_types)) = Some (more_types (pick t e) no_types)
-one_of_two pick (more_types t (more_types e (more_types u us))) = None
+-- the variant `Some` of `Option t`; without exactly one type argument there is none
+abbrev pub some_variants : MTypes → List MVariant
+some_variants (more_types t no_types) = record { name = 83 ∷ 111 ∷ 109 ∷ 101 ∷ []; form = TupleForm (t ∷ []) } ∷ []
+some_variants _ = []
 
--- the types of the parts of a node of the type with this variant: of a tuple, struct or enum. `None` and `Ok` are
--- variant 0 of their types, `Some` and `Err` variant 1, in order of declaration
+-- the variants `Ok` and `Err` of `Result t e`; without exactly two type arguments there are none
+abbrev pub result_variants : MTypes → List MVariant
+result_variants (more_types t (more_types e no_types)) =
+    record { name = 79 ∷ 107 ∷ []; form = TupleForm (t ∷ []) } ∷ record { name = 69 ∷ 114 ∷ 114 ∷ []; form = TupleForm (e ∷ []) } ∷ []
+result_variants _ = []
+
+-- the variants of a struct or enum type, in order of declaration; `Option` and `Result` are enums that no file declares
+abbrev pub variants_of : MProgram → MType → List MVariant
+variants_of program (NamedType (DeclaredItem i) arguments) = item_variants (slice_get program.items i)
+variants_of program (NamedType OptionOwner arguments) = none_variant ∷ some_variants arguments
+variants_of program (NamedType ResultOwner arguments) = result_variants arguments
+variants_of program _ = []
+
+-- the types of the parts of a node of the type with this variant: of a tuple, or of a struct or enum
 abbrev pub node_types : MProgram → MType → (variant : ℕ) → Option MTypes
 node_types program (TupleType types) zero = Some types
-node_types program (NamedType (DeclaredItem i) arguments) k = item_types (slice_get program.items i) k
-node_types program (NamedType OptionOwner arguments) zero = Some no_types
-node_types program (NamedType OptionOwner arguments) (suc zero) = one_argument arguments
-node_types program (NamedType ResultOwner arguments) zero = one_of_two (λ t e. t) arguments
-node_types program (NamedType ResultOwner arguments) (suc zero) = one_of_two (λ t e. e) arguments
-node_types program _ _ = None
+node_types program t k = variant_types (slice_get (variants_of program t) k)
 
 -- the item is an enum that may get more variants later
 abbrev pub item_is_marked : Option MItem → Bool

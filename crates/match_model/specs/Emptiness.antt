@@ -1,4 +1,5 @@
--- Finding which types have a value at a sure place, from marks on the items: an item is marked once a value of it is known.
+-- Finding which types have a value at a sure place, from marks on the items: an item is marked once a value of it is known
+-- (our own choice). A contract tells emptiness by the values of a type, through the law on emptiness, never by the marks.
 use Rattle.std.specs.Prelude.{◌≡◌, ℕ, Bool, true, false, not, ◌&&◌, ◌||◌, List, length, replicate, nat_eq, Option, Some, None, slice_get, slice_set, IsTrue}
 use Rattle.std.specs.List.{list_any}
 use Rattle.match_model.specs.Types.{DeclaredItem, OptionOwner, ResultOwner, MType, NeverType, TupleType, ArrayType, NamedType, MTypes, no_types, more_types}

@@ -1,4 +1,5 @@
--- When a list of witnesses says exactly what a match leaves out, without saying anything twice.
+-- When a list of witnesses says exactly what a match leaves out, without saying anything twice (Maranget 2007, what
+-- exhaustiveness lacks; exactness and order are our own choice).
 use Rattle.std.specs.Prelude.{◌≡◌, ◌≢◌, ◌↔◌, ◌<◌, ℕ, false, List, Some, slice_get, IsTrue}
 use Rattle.std.specs.List.{Contains}
 use Rattle.match_model.specs.Values.{MValue, Unseen}

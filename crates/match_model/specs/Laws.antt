@@ -1,7 +1,8 @@
--- Laws of the definitions, each proved as the contract of a function of `laws`.
+-- Laws of the definitions, each proved as the contract of a function of `laws` (our own choice of laws).
 use Rattle.std.specs.Prelude.{◌≡◌, ◌↔◌, ℕ, Bool, true, false, List, ◌∷◌, ◌++◌, map, length, replicate, IsTrue}
 use Rattle.match_model.specs.declared.Mode.{Mode}
-use Rattle.match_model.specs.Declarations.{MProgram}
+use Rattle.match_model.specs.Types.{MType}
+use Rattle.match_model.specs.Declarations.{MProgram, variants_of}
 use Rattle.match_model.specs.Values.{MValue, Point}
 use Rattle.match_model.specs.Patterns.{MPat, NumPat, FlagPat, SpanPat, FormPat, ListPat, OrPat, MNumbered, more_numbered}
 use Rattle.match_model.specs.Ways.{Way, bare_way, join, combine, choosing, under}
@@ -11,8 +12,9 @@ use Rattle.match_model.specs.Select.{tries_from, select, Took, Missed}
 use Rattle.match_model.specs.ArenaPatterns.{MDePat, de_pats_of, MDeMatch}
 use Rattle.match_model.specs.ArenaWays.{NumberedPart, subs_ways, match_arms}
 use Rattle.match_model.specs.Matrices.{first_matrix, matrix_ways}
+use Rattle.match_model.specs.Constructors.{VariantSet}
 use Rattle.match_model.specs.ContextLaws.{ValuesLaw}
-use Rattle.match_model.specs.RustTypes.{is_type, rust_context, RustValue}
+use Rattle.match_model.specs.RustTypes.{is_type, rust_set, rust_context, RustValue}
 
 -- the ways of an or-pattern are those of its first alternative and then those of the others
 abbrev pub OrIsConcatenation : Type 0
@@ -71,6 +73,12 @@ PartsSplit T =
 abbrev pub FirstMatrixHasTheArms : (T : Type 0) → Type 0
 FirstMatrixHasTheArms T =
     (m : MDeMatch T) (v : MValue) → matrix_ways (first_matrix m) v ≡ tries_from 0 (match_arms m) v
+
+-- a type that has variants has as many as its set of constructors says
+abbrev pub VariantsAreCounted : Type 0
+VariantsAreCounted =
+    (program : MProgram) (t : MType) (count : ℕ) (later : Bool) → IsTrue (is_type program t) →
+    rust_set program t ≡ VariantSet count later → length (variants_of program t) ≡ count
 
 -- Rust's own types keep the law on values: exactly one elementary constructor builds each
 abbrev pub RustValuesLaw : Type 0

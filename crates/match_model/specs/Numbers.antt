@@ -1,4 +1,4 @@
--- Ranges of numbers, and the numbers of a type.
+-- Ranges of numbers, and the numbers of a type (Rust Reference, Numeric types and Textual types).
 use Rattle.std.specs.Prelude.{ℕ, ℤ, pos, negsuc, ◌-◌, ◌^◌, Bool, true, false, ◌&&◌, List, [], ◌∷◌, int_le}
 use Rattle.std.specs.List.{list_any}
 use Rattle.std.specs.Ordering.{int_eq}

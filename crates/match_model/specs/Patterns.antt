@@ -15,8 +15,8 @@ pub data MRest : Type 0 where
 
 mutual
   -- a pattern: `_`; a number, a character being its scalar value; `true` or `false`; a string literal; a range, `at` this
-  -- offset; a name with the pattern behind its `@`, `_` where there is none; a struct or variant with its written
-  -- fields; a tuple or slice; `&` or `&mut`; two alternatives or more
+  -- offset; a name, by its UTF-8 bytes, with the pattern behind its `@`, `_` where there is none; a struct or variant with
+  -- its written fields; a tuple or slice; `&` or `&mut`; two alternatives or more
   pub data MPat : Type 0 where
     WildPat : MPat
     NumPat : ℤ → MPat

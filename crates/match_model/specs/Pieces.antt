@@ -4,7 +4,8 @@ use Rattle.std.specs.Prelude.{◌≡◌, ◌↔◌, ℕ, zero, suc, ◌+◌, ◌
 use Rattle.std.specs.List.Sorted.{IsStrictlySortedBy}
 use Rattle.std.specs.List.{list_any, filter_map}
 use Rattle.match_model.specs.Texts.{text_eq, compare_texts}
-use Rattle.match_model.specs.Numbers.{MEnd, At, is_at, MRange, in_range}
+pub use Rattle.match_model.specs.Numbers.{is_at}
+use Rattle.match_model.specs.Numbers.{MEnd, At, MRange, in_range}
 use Rattle.match_model.specs.Constructors.{FixedShape, LongerShape, MCtor, SingleCtor, PointCtor, LaterCtor, OtherTextCtor, VariantCtor, FlagCtor, NumbersCtor, TextCtor, RowCtor, MSet, SingleSet, PointSet, TextSet, FlagSet, OpaqueSet, NothingSet, VariantSet, NumberSet, RowSet}
 
 -- `f` of the numbers below `n`, ascending

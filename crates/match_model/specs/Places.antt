@@ -1,4 +1,5 @@
--- Places: ways into a value, step by step, as trees and columns have them; and positions, by the numbers of the parts.
+-- Places: ways into a value, step by step, as trees and columns have them (Maranget 2008, occurrences); and positions, by
+-- the numbers of the parts.
 use Rattle.std.specs.Prelude.{ℕ, ◌+◌, ◌-◌, Bool, true, false, ◌&&◌, List, [], ◌∷◌, length, nat_eq, nat_lt, nat_le, slice_get, Option, Some, None}
 use Rattle.match_model.specs.Values.{MValue, Node, Point, Row, values_list}
 use Rattle.match_model.specs.Matching.{middle_of}

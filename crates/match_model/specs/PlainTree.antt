@@ -1,6 +1,6 @@
 -- The decision tree of a match that is printed, among all right ones (our own choice, after Maranget 2008).
-use Rattle.std.specs.Prelude.{◌≡◌, ◌⊎◌, ℕ, ◌+◌, ◌-◌, Bool, true, false, List, [], ◌∷◌, ◌++◌, map, nat_lt, Some, None, IsTrue, cond}
-use Rattle.std.specs.List.{flat_map, list_all, list_any, Contains}
+use Rattle.std.specs.Prelude.{◌≡◌, ◌⊎◌, ℕ, ◌+◌, Bool, true, false, List, [], ◌∷◌, ◌++◌, map, Some, IsTrue}
+use Rattle.std.specs.List.{list_all, list_any, Contains}
 use Rattle.match_model.specs.Values.{MValue, Unseen}
 use Rattle.match_model.specs.Ways.{put_by}
 use Rattle.match_model.specs.Constructors.{FixedShape, LongerShape, MCtor, VariantCtor, FlagCtor, NumbersCtor, TextCtor, RowCtor, has_piece, MSet, SingleSet, PointSet, RowSet}

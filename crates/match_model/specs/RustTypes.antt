@@ -1,6 +1,7 @@
--- What the context of Rust's types tells: their constructors, the number of their parts, and the types of these.
+-- What the context of Rust's types tells: their constructors, the number of their parts, and the types of these (Rust
+-- Reference, Types; the documentation of `rustc_pattern_analysis`, constructors).
 use Rattle.std.specs.Prelude.{◌≡◌, ◌<◌, ◌^◌, ℕ, suc, Bool, true, false, ◌&&◌, List, [], ◌∷◌, length, nat_eq, nat_lt, Option, Some, None, slice_get, IsTrue}
-use Rattle.match_model.specs.Types.{DeclaredItem, OptionOwner, ResultOwner, MType, BoolType, CharType, StrType, NeverType, IntType, OpaqueType, TupleType, PointType, SliceType, ArrayType, NamedType, MTypes, no_types, more_types, types_list}
+use Rattle.match_model.specs.Types.{DeclaredItem, OptionOwner, ResultOwner, MOpaque, StringName, F32Name, F64Name, BoxName, VecName, RcName, ArcName, MType, BoolType, CharType, StrType, NeverType, IntType, OpaqueType, TupleType, PointType, SliceType, ArrayType, NamedType, MTypes, no_types, more_types, types_list}
 use Rattle.match_model.specs.Declarations.{MVariant, MItem, StructItem, EnumItem, OtherItem, MProgram, node_types, item_types}
 use Rattle.match_model.specs.Values.{MValue}
 use Rattle.match_model.specs.Numbers.{MRange, numbers_of}
@@ -27,7 +28,8 @@ item_set (Some (EnumItem name marked variants)) = enum_set marked variants
 item_set (Some OtherItem) = NothingSet
 item_set None = NothingSet
 
--- the constructors of a type
+-- the constructors of a type; `Option` and `Result` have two variants, whatever their arguments, which only a type of the
+-- program has right
 abbrev pub rust_set : MProgram → MType → MSet
 rust_set program BoolType = FlagSet
 rust_set program CharType = number_set (numbers_of program.width CharType)
@@ -93,6 +95,16 @@ rust_context program = record {
 abbrev pub RustValue : MProgram → MType → (sure : Bool) → MValue → Type 0
 RustValue program t sure v = IsTrue (is_value program sure t v)
 
+-- how many type arguments an opaque type has
+abbrev pub opaque_arguments : MOpaque → ℕ
+opaque_arguments StringName = 0
+opaque_arguments F32Name = 0
+opaque_arguments F64Name = 0
+opaque_arguments BoxName = 1
+opaque_arguments VecName = 1
+opaque_arguments RcName = 1
+opaque_arguments ArcName = 1
+
 -- the item is a struct or an enum
 abbrev pub is_declared : Option MItem → Bool
 is_declared (Some (StructItem v)) = true
@@ -101,9 +113,11 @@ is_declared (Some OtherItem) = false
 is_declared None = false
 
 abbrev mutual
-  -- the type is one of the program's: its names are declared and have the right number of arguments
+  -- the type is one of the program's: its names are declared and have the right number of arguments, which is none for a
+  -- declared one; whether a place of it has a size is not asked
   pub is_type : MProgram → MType → Bool
-  is_type program (OpaqueType name arguments) = are_types program arguments
+  is_type program (OpaqueType name arguments) =
+      are_types program arguments && nat_eq (length (types_list arguments)) (opaque_arguments name)
   is_type program (TupleType types) = are_types program types && nat_lt (length (types_list types)) (2 ^ 32)
   is_type program (PointType mutable t) = is_type program t
   is_type program (SliceType t) = is_type program t
@@ -120,7 +134,7 @@ abbrev mutual
   are_types program (more_types t ts) = is_type program t && are_types program ts
 
 -- the program's declarations stand for types: the fields are types, fewer than 2^32 each, and every declared type has a
--- finite value at an unsure place (our own choice: an endless type is refused)
+-- finite value at an unsure place (our own choice: an endless type is refused, and a declared one has no arguments)
 pub record IsSoundProgram (program : MProgram) : Type 0 where
   pub fields : (i k : ℕ) (ts : MTypes) → item_types (slice_get program.items i) k ≡ Some ts → IsTrue (are_types program ts)
   pub few : (i k : ℕ) (ts : MTypes) → item_types (slice_get program.items i) k ≡ Some ts → length (types_list ts) < 2 ^ 32

@@ -1,5 +1,5 @@
 -- What the patterns of the source keep to: how the ends of a written range are brought to numbers of its type, and what
--- numbers and offsets they have.
+-- numbers and offsets they have (Rust Reference, Patterns).
 use Rattle.std.specs.Prelude.{ℕ, ℤ, pos, ◌-ℤ◌, Bool, true, false, ◌&&◌, List, [], ◌∷◌, ◌++◌, Option, Some, None, int_le}
 use Rattle.match_model.specs.declared.Width.{Width}
 use Rattle.match_model.specs.Types.{MType}

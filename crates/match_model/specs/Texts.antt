@@ -1,4 +1,5 @@
--- Texts and names, as lists of scalar values or of bytes.
+-- Texts, as lists of scalar values, and names, as lists of their UTF-8 bytes (The Unicode Standard, scalar values and
+-- encoding forms).
 use Rattle.std.specs.Prelude.{ℕ, Bool, ◌&&◌, ◌||◌, List, nat_eq, nat_lt, nat_le}
 use Rattle.std.specs.declared.cmp.Ordering.{Ordering}
 use Rattle.std.specs.Ordering.{nat_cmp}

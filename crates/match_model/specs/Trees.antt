@@ -19,7 +19,7 @@ pub data MCase : Type 0 where
   LongerCase : (front back : ℕ) → MCase
   ElseCase : MCase
 
--- a name, and the place of what it is bound to
+-- a name, by its UTF-8 bytes, and the place of what it is bound to
 pub record MBind : Type 0 where
   pub name : List ℕ
   pub mode : Mode

@@ -67,7 +67,7 @@ abbrev mutual
   all_are_values program sure t no_values = true
   all_are_values program sure t (more_values v vs) = is_value program sure t v && all_are_values program sure t vs
 
--- the domain of a match: the values that `match x` speaks of, `x` having the type, or, `behind` a reference to the
--- type, those of `match *x`
+-- the domain of a match: the values of `match x` for an `x` of the type; with `behind`, those of `match *x` for an `x` that
+-- refers to the type
 abbrev pub InDomain : MProgram → (behind : Bool) → MType → MValue → Type 0
 InDomain program behind t v = IsTrue (is_value program (not behind) t v)

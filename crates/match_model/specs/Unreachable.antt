@@ -1,4 +1,5 @@
--- The list of what is unreachable: arms, and alternatives of arms that are reachable.
+-- The list of what is unreachable: arms, and alternatives of arms that are reachable (Maranget 2007, useless clauses and
+-- or-patterns; that no entry stands inside another is our own choice).
 use Rattle.std.specs.Prelude.{ℕ, suc, Bool, true, false, List, [], ◌∷◌, ◌++◌}
 use Rattle.match_model.specs.Values.{MValue}
 use Rattle.match_model.specs.Match.{ArmWays, Alternatives, no_alternative, alternative, IsArmReachable, IsAlternativeReachable}

@@ -1,4 +1,5 @@
--- The values of types, as finite trees.
+-- The values of types, as finite trees (Rust Reference, Types; what stands at a place without a valid value is our own
+-- choice, after the documentation of `rustc_pattern_analysis`, place validity).
 use Rattle.std.specs.Prelude.{ℕ, ℤ, Bool, List, [], ◌∷◌, slice_get, Option, Some, None}
 
 mutual

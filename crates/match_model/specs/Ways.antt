@@ -1,4 +1,4 @@
--- A way in which a pattern matches a value, and how ways are joined.
+-- A way in which a pattern matches a value, and how ways are joined (our own choice, after the Rust Reference, Patterns).
 use Rattle.std.specs.Prelude.{ℕ, List, [], ◌∷◌, ◌++◌, map}
 use Rattle.std.specs.List.{flat_map}
 use Rattle.std.specs.Ordering.{match_ordering}

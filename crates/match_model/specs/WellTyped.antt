@@ -1,4 +1,5 @@
--- When a match, a row or a matrix of the engine is well typed for a context.
+-- When a match, a row or a matrix of the engine is well typed for a context (after the Rust Reference, Patterns; what an
+-- engine asks besides is our own choice).
 use Rattle.std.specs.Prelude.{◌≡◌, ⊤, ℕ, suc, Bool, true, false, not, ◌&&◌, List, [], ◌∷◌, ◌++◌, map, length, nat_eq, nat_le, Some, None, IsTrue}
 use Rattle.std.specs.List.{list_any, list_all, flat_map, Contains, IsDistinct}
 use Rattle.match_model.specs.Texts.{text_eq}
@@ -64,8 +65,8 @@ part_is_of c WholePart = true
 part_is_of (RowCtor (LongerShape f b)) (MiddlePart g c) = nat_eq f g && nat_eq b c
 part_is_of _ (MiddlePart g c) = false
 
--- what a constructor of a pattern is besides of its type: no later variant, no rest of all texts, and no longer row than an
--- array can be, with one item more
+-- a pattern can have the constructor: it is no variant that is to come, not the rest of all texts, and no row that asks for
+-- more items than an array has, but for one
 abbrev pub is_written : MCtor → Bool
 is_written LaterCtor = false
 is_written OtherTextCtor = false

@@ -1,7 +1,8 @@
 //! Laws of the definitions: each function has an empty body, and its contract is a law.
 
 ghost use Rattle.match_model.specs.Laws.{OrIsConcatenation, GoesThrough, MissedWhereUncovered, FirstWayIsTaken};
-ghost use Rattle.match_model.specs.Laws.{JoinIsAssociative, CombineIsAssociative, BareWayIsUnit, PartsSplit, FirstMatrixHasTheArms, RustValuesLaw};
+ghost use Rattle.match_model.specs.Laws.{JoinIsAssociative, CombineIsAssociative, BareWayIsUnit, PartsSplit, FirstMatrixHasTheArms};
+ghost use Rattle.match_model.specs.Laws.{VariantsAreCounted, RustValuesLaw};
 ghost use Rattle.match_model.specs.Emptiness.{RustPartsLaw, RustEmptyLaw, RustUnsureLaw};
 ghost use Rattle.match_model.specs.Readings.{ReadingsAgree};
 ghost use Rattle.match_model.specs.Uniqueness.{WalkIsOne, MeaningIsOne, UnreachableListIsOne, PiecesAreOne, WitnessListIsOne, PlainTreeIsOne};
@@ -50,6 +51,11 @@ pub fn readings_agree()
 /// Every value of a type of Rust is built by exactly one elementary constructor of the type, opaque and unseen ones apart.
 pub fn rust_values()
     ensures { RustValuesLaw }
+{}
+
+/// A struct or enum type has as many variants as its set of constructors says.
+pub fn variants_are_counted()
+    ensures { VariantsAreCounted }
 {}
 
 /// A tree that a constructor of a type of Rust builds is a value exactly where its parts are.
