@@ -1,0 +1,9 @@
+pub mod SmallSymbols
+pub mod SmallStream
+pub mod SmallSource
+pub mod SmallReading
+pub mod SmallJudging
+pub mod SmallConditions
+pub mod SmallCases
+pub mod SmallTypes
+pub mod SmallSurvey

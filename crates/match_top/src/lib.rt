@@ -1,0 +1,4 @@
+//! The top call of the match checker.
+#![tactic(auto)]
+
+mod small;
