@@ -6,8 +6,8 @@ use Rattle.match_model.specs.Constructors.{MCtor}
 
 -- what a name holds: the whole value, or the middle items of a row without so many at each end
 pub data MPart : Type 0 where
-  Whole : MPart
-  Middle : (front back : ℕ) → MPart
+  WholePart : MPart
+  MiddlePart : (front back : ℕ) → MPart
 
 -- a name that a pattern binds
 pub record MBound : Type 0 where

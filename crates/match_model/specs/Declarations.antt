@@ -48,15 +48,28 @@ item_types (Some (StructItem v)) zero = Some (form_types v.form)
 item_types (Some (EnumItem name marked variants)) k = variant_types (slice_get variants k)
 item_types _ _ = None
 
+-- the one type argument, where there is exactly one
+abbrev pub one_argument : MTypes → Option MTypes
+one_argument no_types = None
+one_argument (more_types t no_types) = Some (more_types t no_types)
+one_argument (more_types t (more_types u us)) = None
+
+-- one of two type arguments, where there are exactly two
+abbrev pub one_of_two : (pick : MType → MType → MType) → MTypes → Option MTypes
+one_of_two pick no_types = None
+one_of_two pick (more_types t no_types) = None
+one_of_two pick (more_types t (more_types e no_types)) = Some (more_types (pick t e) no_types)
+one_of_two pick (more_types t (more_types e (more_types u us))) = None
+
 -- the types of the parts of a node of the type with this variant: of a tuple, struct or enum. `None` and `Ok` are
 -- variant 0 of their types, `Some` and `Err` variant 1, in order of declaration
 abbrev pub node_types : MProgram → MType → (variant : ℕ) → Option MTypes
 node_types program (TupleType types) zero = Some types
 node_types program (NamedType (DeclaredItem i) arguments) k = item_types (slice_get program.items i) k
 node_types program (NamedType OptionOwner arguments) zero = Some no_types
-node_types program (NamedType OptionOwner (more_types t no_types)) (suc zero) = Some (more_types t no_types)
-node_types program (NamedType ResultOwner (more_types t (more_types e no_types))) zero = Some (more_types t no_types)
-node_types program (NamedType ResultOwner (more_types t (more_types e no_types))) (suc zero) = Some (more_types e no_types)
+node_types program (NamedType OptionOwner arguments) (suc zero) = one_argument arguments
+node_types program (NamedType ResultOwner arguments) zero = one_of_two (λ t e. t) arguments
+node_types program (NamedType ResultOwner arguments) (suc zero) = one_of_two (λ t e. e) arguments
 node_types program _ _ = None
 
 -- the item is an enum that may get more variants later

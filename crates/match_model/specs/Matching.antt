@@ -83,11 +83,12 @@ items_ways [] i (_ ∷ _) = []
 items_ways (f ∷ fs) i [] = []
 items_ways (f ∷ fs) i (v ∷ vs) = combine (map (under i) (f v)) (items_ways fs (suc i) vs)
 
--- a matcher for each of so many items: the front ones, a wildcard for each item of the rest, the back ones
-abbrev pub laid_out : (front : List Matcher) → MRest → (back : List Matcher) → (len : ℕ) → List Matcher
-laid_out front NoRest back len = front ++ back
-laid_out front SomeRest back len = front ++ (replicate (len - (length front + length back)) wild ++ back)
-laid_out front (BoundRest name written) back len = front ++ (replicate (len - (length front + length back)) wild ++ back)
+-- one thing for each of so many items: those of the front, the filler for each item of the rest, those of the back
+abbrev pub laid_out : {A : Type 0} → (filler : A) → (front : List A) → MRest → (back : List A) → (len : ℕ) → List A
+laid_out filler front NoRest back len = front ++ back
+laid_out filler front SomeRest back len = front ++ (replicate (len - (length front + length back)) filler ++ back)
+laid_out filler front (BoundRest name written) back len =
+    front ++ (replicate (len - (length front + length back)) filler ++ back)
 
 -- the middle items, without so many at each end, as a row
 abbrev pub middle_of : (front back : ℕ) → List MValue → MValue
@@ -103,7 +104,7 @@ bind_rest back (BoundRest name written) m middle w = binding name (mode_written 
 abbrev pub rows_ways : (Mode → Mode) → List Matcher → MRest → List Matcher → Mode → List MValue → List Way
 rows_ways by front rest back m items =
     map (bind_rest by rest m (middle_of (length front) (length back) items))
-    (items_ways (laid_out front rest back (length items)) 0 items)
+    (items_ways (laid_out wild front rest back (length items)) 0 items)
 
 -- the value is a tuple or row whose items match
 abbrev pub list_ways : (Mode → Mode) → List Matcher → MRest → List Matcher → Mode → Matcher

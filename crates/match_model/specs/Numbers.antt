@@ -28,6 +28,11 @@ abbrev pub is_up_to : MEnd → ℤ → Bool
 is_up_to Free n = true
 is_up_to (At b) n = int_le n b
 
+-- the end is this number
+abbrev pub is_at : ℤ → MEnd → Bool
+is_at n Free = false
+is_at n (At m) = int_eq n m
+
 -- the range has the number
 abbrev pub in_range : MRange → ℤ → Bool
 in_range r n = is_from r.low n && is_up_to r.high n

@@ -1,11 +1,10 @@
 -- The pieces into which the constructors in a column cut its type (our own choice of pieces, after the documentation of
 -- `rustc_pattern_analysis`, constructor splitting).
-use Rattle.std.specs.Prelude.{◌≡◌, ◌↔◌, ℕ, zero, suc, ◌+◌, ◌-◌, max, ℤ, pos, ◌-ℤ◌, ◌+ℤ◌, Bool, true, false, ◌||◌, List, [], ◌∷◌, ◌++◌, map, nat_le, Option, Some, None, slice_get, IsTrue, cond}
-use Rattle.std.specs.List.{list_any, filter_map, Contains}
-use Rattle.std.specs.Ordering.{int_eq}
-use Rattle.std.specs.declared.cmp.Ordering.TheVariants.{Less}
-use Rattle.match_model.specs.Texts.{compare_texts}
-use Rattle.match_model.specs.Numbers.{MEnd, Free, At, MRange, in_range}
+use Rattle.std.specs.Prelude.{◌≡◌, ◌↔◌, ℕ, zero, suc, ◌+◌, ◌-◌, max, ℤ, pos, ◌-ℤ◌, ◌+ℤ◌, Bool, true, false, ◌||◌, List, [], ◌∷◌, ◌++◌, map, nat_le, Option, Some, None, IsTrue, cond}
+use Rattle.std.specs.List.Sorted.{IsStrictlySortedBy}
+use Rattle.std.specs.List.{list_any, filter_map}
+use Rattle.match_model.specs.Texts.{text_eq, compare_texts}
+use Rattle.match_model.specs.Numbers.{MEnd, At, is_at, MRange, in_range}
 use Rattle.match_model.specs.Constructors.{FixedShape, LongerShape, MCtor, SingleCtor, PointCtor, LaterCtor, OtherTextCtor, VariantCtor, FlagCtor, NumbersCtor, TextCtor, RowCtor, MSet, SingleSet, PointSet, TextSet, FlagSet, OpaqueSet, NothingSet, VariantSet, NumberSet, RowSet}
 
 -- `f` of the numbers below `n`, ascending
@@ -17,11 +16,6 @@ each_below f (suc n) = each_below f n ++ f n ∷ []
 abbrev pub variant_pieces : (count : ℕ) → (later : Bool) → List MCtor
 variant_pieces count true = each_below VariantCtor count ++ LaterCtor ∷ []
 variant_pieces count false = each_below VariantCtor count
-
--- the end is this number
-abbrev pub is_at : ℤ → MEnd → Bool
-is_at n Free = false
-is_at n (At m) = int_eq n m
 
 -- a range of the column begins at the number, or ends right before it
 abbrev pub is_cut_at : (heads : List MRange) → ℤ → Bool
@@ -48,9 +42,8 @@ IsCutToo (Some whole) heads pieces = IsCut whole heads pieces
 
 -- the texts that stand in the column, ascending, each once
 pub record AreNamed (heads texts : List (List ℕ)) : Type 0 where
-  pub each : (t : List ℕ) → Contains heads t ↔ Contains texts t
-  pub ascending : (i : ℕ) (t u : List ℕ) → slice_get texts i ≡ Some t → slice_get texts (suc i) ≡ Some u →
-      compare_texts t u ≡ Less
+  pub each : (t : List ℕ) → list_any (text_eq t) texts ≡ list_any (text_eq t) heads
+  pub ascending : IsStrictlySortedBy compare_texts texts
 
 -- the range of a head, where it is one of numbers
 abbrev pub range_of : MCtor → Option MRange

@@ -3,7 +3,7 @@ use Rattle.std.specs.Prelude.{ℕ, ◌+◌, ◌-◌, Bool, true, false, List, []
 use Rattle.std.specs.List.{flat_map, filter_map}
 use Rattle.match_model.specs.Constructors.{LongerShape, MCtor, RowCtor, WildCtor, OrCtor, has_piece, sure_inside}
 use Rattle.match_model.specs.Contexts.{Context, Open}
-use Rattle.match_model.specs.ArenaPatterns.{MDePat, de_pat, MDePats, no_de_pats, more_de_pats, de_pats_list}
+use Rattle.match_model.specs.ArenaPatterns.{MBound, MDePat, de_pat, MDePats, no_de_pats, more_de_pats, de_pats_list}
 use Rattle.match_model.specs.Pieces.{each_below}
 
 -- a head of a row: a pattern, or a wildcard that stands where a pattern wrote nothing
@@ -19,24 +19,36 @@ abbrev pub is_wild : {T : Type 0} → Head T → Bool
 is_wild None = true
 is_wild (Some (de_pat c t uid at subs binds)) = is_wild_ctor c
 
--- the heads without or-patterns: an or-pattern gives its alternatives in its place, any other head itself
-abbrev pub expand_by : {T : Type 0} → MCtor → (self : List (MDePat T)) → (alternatives : List (MDePat T)) → List (MDePat T)
-expand_by OrCtor self alternatives = alternatives
-expand_by _ self alternatives = self
+-- an alternative of an or-pattern, with the names that were bound around it
+pub record Choice (T : Type 0) : Type 0 where
+  pub pat : MDePat T
+  pub binds : List MBound
+
+abbrev pub with_binds : {T : Type 0} → List MBound → Choice T → Choice T
+with_binds binds c = record c { binds = binds ++ c.binds }
+
+-- which of two lists counts: the first for an or-pattern
+abbrev pub choices_by : {T : Type 0} → MCtor → (alternatives self : List (Choice T)) → List (Choice T)
+choices_by OrCtor alternatives self = alternatives
+choices_by _ alternatives self = self
 
 abbrev mutual
-  pub expanded : {T : Type 0} → MDePat T → List (MDePat T)
-  expanded (de_pat c t uid at subs binds) = expand_by c (de_pat c t uid at subs binds ∷ []) (all_expanded subs)
+  -- what stands in place of the pattern when or-patterns are expanded: the alternatives, in order, none of which is an
+  -- or-pattern; any other pattern itself
+  pub choices_of : {T : Type 0} → MDePat T → List (Choice T)
+  choices_of (de_pat c t uid at subs binds) =
+      choices_by c (map (with_binds binds) (all_choices_of subs))
+      (record { pat = de_pat c t uid at subs binds; binds = [] } ∷ [])
 
-  pub all_expanded : {T : Type 0} → MDePats T → List (MDePat T)
-  all_expanded no_de_pats = []
-  all_expanded (more_de_pats p ps) = expanded p ++ all_expanded ps
+  pub all_choices_of : {T : Type 0} → MDePats T → List (Choice T)
+  all_choices_of no_de_pats = []
+  all_choices_of (more_de_pats p ps) = choices_of p ++ all_choices_of ps
 
 -- the row once for each alternative of its first head
 abbrev pub expand_row : {T : Type 0} → List (Head T) → List (List (Head T))
 expand_row [] = [] ∷ []
 expand_row (None ∷ rest) = (None ∷ rest) ∷ []
-expand_row (Some p ∷ rest) = map (λ q. Some q ∷ rest) (expanded p)
+expand_row (Some p ∷ rest) = map (λ c. Some c.pat ∷ rest) (choices_of p)
 
 -- every first head is a wildcard
 abbrev pub starts_wild : {T : Type 0} → List (Head T) → Bool

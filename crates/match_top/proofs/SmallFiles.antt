@@ -1,23 +1,23 @@
 -- Item after item through a source.
-use Rattle.std.proofs.Common.{◌≡◌, ℕ, Bool, true, false, cond, not, ◌&&◌, ◌||◌, List, [], ◌∷◌, ◌++◌, map, length, Option, Some, None, refl, sym, ap, subst, ◌∙◌, append_assoc, arith}
+use Rattle.std.proofs.Common.{◌≡◌, ℕ, Bool, true, false, cond, not, ◌&&◌, ◌||◌, List, [], ◌∷◌, ◌++◌, map, Option, Some, None, refl, sym, ap, subst, ◌∙◌, append_assoc}
 use Rattle.std.specs.Prelude.{codes, is_none}
-use Rattle.std.specs.List.{list_any, AllByRecursion}
+use Rattle.std.specs.List.{AllByRecursion}
 use Rattle.std.specs.Str.{bytes_eq}
 use Rattle.std.proofs.lemmas.List.{append-nil, map-append}
 use Rattle.std.proofs.lemmas.Slice.Eq.{bytes_eq-Decides}
 use Rattle.decl_lexer.specs.Lexing.{Placed}
 use Rattle.match_top.specs.SmallSource.{SmallFunction, SmallEnum, SmallItem, AnEnum, AFunction, SpellsItem, SpellsFile, no_item, next_item}
-use Rattle.match_top.specs.SmallConditions.{enums_of, functions_of, enum_names, function_names, is_among, all_differ, AreDifferent, IsTyped, KeepsConditions, IsSmallSource}
+use Rattle.match_top.specs.SmallConditions.{enums_of, functions_of, enum_names, function_names, is_among, all_differ, AreDifferent, KeepsConditions, IsSmallSource}
 use Rattle.match_top.specs.SmallStream.{stream}
 use Rattle.match_top.specs.SmallReading.{or_else, item_at}
 use Rattle.match_top.specs.SmallTypes.{EnumMap}
-use Rattle.match_top.specs.SmallSurvey.{variants_in, variants_named, enum_fits, HasOneMore, ReadsItems, none_read, one_read, NamesFit, SurveyedTo, Surveyed, IsNotSmall, is_end}
+use Rattle.match_top.specs.SmallSurvey.{variants_in, variants_named, enum_fits, HasOneMore, ReadsItems, none_read, one_read, SurveyedTo, IsNotSmall, is_end}
 use Rattle.match_top.proofs.SmallStreams.{lexes_stream}
 use Rattle.match_top.proofs.SmallLists.{given, first_is, second_is}
-use Rattle.match_top.proofs.SmallNames.{both_true, differ_push, differ_front, differ_next}
+use Rattle.match_top.proofs.SmallNames.{both_true, differ_push, differ_next}
 use Rattle.match_top.proofs.SmallItemLaws.{item_sound, item_complete}
 
-read_next : (us rest : List Placed) (more : List SmallItem) (i : SmallItem) → item_at us ≡ Some (i, rest) → SpellsFile us more → (others : List SmallItem) × (more ≡ i ∷ others) × SpellsFile rest others
+pub read_next : (us rest : List Placed) (more : List SmallItem) (i : SmallItem) → item_at us ≡ Some (i, rest) → SpellsFile us more → (others : List SmallItem) × (more ≡ i ∷ others) × SpellsFile rest others
 unfolding item_at
 read_next _ rest _ i e no_item = absurd cc
 read_next _ rest _ i e (next_item us behind j js item more) =
@@ -38,7 +38,7 @@ spelled _ _ _ more (none_read ts) s = s
 spelled _ _ _ more (one_read ts us rest items i r e) s =
     subst (λ (xs : List SmallItem). SpellsFile ts xs) (sym (append_assoc items (i ∷ []) more)) (spelled ts us items (i ∷ more) r (next_item us rest i more (item_sound us rest i e) s))
 
-stuck : (us : List Placed) (more : List SmallItem) → item_at us ≡ None → is_end us ≡ false → SpellsFile us more → ⊥
+pub stuck : (us : List Placed) (more : List SmallItem) → item_at us ≡ None → is_end us ≡ false → SpellsFile us more → ⊥
 stuck _ _ e f no_item = cc
 stuck _ _ e f (next_item us rest i items item more) = let found = item_complete us rest i item in cc
 

@@ -1,24 +1,17 @@
 -- Arms, lists and items that are read are spelled so, and what is spelled so is read.
-use Rattle.std.proofs.Common.{◌≡◌, ◌≢◌, ℕ, zero, suc, Bool, true, false, cond, List, [], ◌∷◌, ◌++◌, length, Option, Some, None, refl, sym, ap, subst, ◌∙◌, ◌⊎◌, inl, inr, append_assoc, arith}
-use Rattle.std.specs.Prelude.{option_map, nat_eq}
-use Rattle.std.specs.List.{AllByRecursion}
-use Rattle.std.proofs.lemmas.Bool.{eqb-true, eq-eqb}
-use Rattle.std.proofs.lemmas.List.{append-nil}
-use Rattle.decl_lexer.specs.declared.words.Word.{Word}
+use Rattle.std.proofs.Common.{◌≡◌, ℕ, zero, suc, false, List, [], ◌∷◌, length, Some, None, refl, sym, ap, subst, ◌∙◌, inl, inr}
 use Rattle.decl_lexer.specs.declared.words.Word.TheVariants as words
-use Rattle.decl_lexer.specs.declared.marks.Mark.{Mark}
 use Rattle.decl_lexer.specs.declared.marks.Mark.TheVariants as marks
-use Rattle.decl_lexer.specs.Pieces.{Lexeme, Named, Keyword, Marked, ALifetime, AnInt, AFloat, AChar, AByte, AStr, AByteStr, ACStr}
+use Rattle.decl_lexer.specs.Pieces.{Named}
 use Rattle.decl_lexer.specs.Lexing.{Placed}
 use Rattle.match_top.specs.declared.small.symbols.Sign.{Sign}
 use Rattle.match_top.specs.declared.small.symbols.Sign.TheVariants as signs
-use Rattle.match_top.specs.SmallSymbols.{Sym, ASign, AName, SomeDigits, OtherSym, symbol_of, sign_symbol, word_sign, mark_sign, int_symbol, name_symbol, sign_number, same_sign}
-use Rattle.match_top.specs.SmallStream.{head, behind, behind_sym}
-use Rattle.match_top.specs.SmallSource.{SmallPattern, Wildcard, Literal, Path, SmallArm, SmallFunction, SmallEnum, SmallItem, AnEnum, AFunction, IsName, IsDigits, IsWord, IsMark, SpellsName, a_name, CommaList, closed, last, next, SpellsPattern, wildcard, is_true, is_false, path, SpellsArm, an_arm, SpellsEnum, an_enum, SpellsFunction, a_function, SpellsItem, enum_item, function_item, SpellsFile, no_item, next_item}
-use Rattle.match_top.specs.SmallReading.{Read, ◌>>=◌, or_else, name_of, name_at, digits_of, digits_at, path_behind, pattern_of, arm_at, comma_list, list_at, enum_behind, signature_behind, scrutinee_behind, function_behind, item_of, item_at}
-use Rattle.match_top.proofs.SmallLists.{some_is, bind_some, or_some, map_some, behind_shorter, Shrinks, list_turn, list_is, name_shrinks, arm_shrinks, given, first_is, second_is}
-
-use Rattle.match_top.proofs.SmallLaws.{lexeme_is, Heads, behind_some, behind_it, behind_other, name_some, name_it, HeadsDigits, digits_some, digits_it, cons, pattern_sound, pattern_complete}
+use Rattle.match_top.specs.SmallSymbols.{Sym, ASign, AName, SomeDigits, OtherSym, symbol_of}
+use Rattle.match_top.specs.SmallStream.{behind}
+use Rattle.match_top.specs.SmallSource.{SmallPattern, SmallArm, SmallFunction, SmallEnum, SmallItem, AnEnum, AFunction, IsName, IsWord, IsMark, SpellsName, a_name, CommaList, closed, last, next, SpellsPattern, wildcard, is_true, is_false, path, SpellsArm, an_arm, SpellsEnum, an_enum, SpellsFunction, a_function, SpellsItem, enum_item, function_item}
+use Rattle.match_top.specs.SmallReading.{Read, name_at, digits_at, pattern_of, arm_at, comma_list, list_at, enum_behind, signature_behind, scrutinee_behind, function_behind, item_of, item_at}
+use Rattle.match_top.proofs.SmallLists.{some_is, bind_some, or_some, map_some, Shrinks, list_is, name_shrinks, arm_shrinks, first_is, second_is}
+use Rattle.match_top.proofs.SmallLaws.{lexeme_is, behind_some, behind_it, behind_other, name_some, name_it, digits_some, digits_it, cons, pattern_sound, pattern_complete}
 
 pub arm_sound : (ts us : List Placed) (x : SmallArm) → arm_at ts ≡ Some (x, us) → SpellsArm ts x us
 unfolding arm_at
@@ -172,7 +165,12 @@ signature_sound ts us h e =
     let names_are = first_is (n.0.0, p.0.0, t.0.0) c.0 us h c.2 in
     let rest_is = second_is (n.0.0, p.0.0, t.0.0) c.0 us h c.2 in
     record {
-      n = name.first; bracket = bracket.first; p = param.first; colon = colon.first; t = type.first; closing = closing.first;
+      n = name.first;
+      bracket = bracket.first;
+      p = param.first;
+      colon = colon.first;
+      t = type.first;
+      closing = closing.first;
       n_is = name.is ∙ ap (λ (x : List ℕ × List ℕ × List ℕ). Named x.0 false) names_are;
       bracket_is = bracket.is;
       p_is = param.is ∙ ap (λ (x : List ℕ × List ℕ × List ℕ). Named x.1 false) names_are;
@@ -180,7 +178,7 @@ signature_sound ts us h e =
       t_is = type.is ∙ ap (λ (x : List ℕ × List ℕ × List ℕ). Named x.2 false) names_are;
       closing_is = closing.is;
       whole = name.whole ∙ ap (cons name.first) (bracket.whole ∙ ap (cons bracket.first) (param.whole ∙ ap (cons param.first) (colon.whole ∙ ap (cons colon.first)
-        (type.whole ∙ ap (cons type.first) (closing.whole ∙ ap (cons closing.first) rest_is)))));
+          (type.whole ∙ ap (cons type.first) (closing.whole ∙ ap (cons closing.first) rest_is)))));
     }
 
 -- the tokens begin with the name behind `match`, with the brackets round it
@@ -207,8 +205,12 @@ scrutinee_sound ts us name e =
     let scrutinee = name_some m.0 r.0.1 r.0.0 r.1 in
     let opening = behind_some signs.OpenCurly r.0.1 o.0 o.1 in
     record {
-      body = body.first; keyword = keyword.first; s = scrutinee.first; opening = opening.first;
-      body_is = body.is; keyword_is = keyword.is;
+      body = body.first;
+      keyword = keyword.first;
+      s = scrutinee.first;
+      opening = opening.first;
+      body_is = body.is;
+      keyword_is = keyword.is;
       s_is = scrutinee.is ∙ ap (λ (x : List ℕ). Named x false) (first_is r.0.0 o.0 us name o.2);
       opening_is = opening.is;
       whole = body.whole ∙ ap (cons body.first) (keyword.whole ∙ ap (cons keyword.first) (scrutinee.whole ∙ ap (cons scrutinee.first) (opening.whole ∙ ap (cons opening.first) (second_is r.0.0 o.0 us name o.2))));
@@ -231,25 +233,27 @@ function_sound word ts us x is e =
     (subst (λ (ws : List Placed). SpellsFunction (word ∷ ts) found ws) (second_is found z.0 us x z.2)
     (subst (λ (ws : List Placed). SpellsFunction (word ∷ ws) found z.0) (sym whole)
     (a_function word head.n head.bracket head.p head.colon head.t head.closing scrutinee.body scrutinee.keyword scrutinee.s scrutinee.opening end.first s.0.1 z.0
-      h.0.0.0 h.0.0.1 h.0.0.2 s.0.0 l.0.0 is head.n_is head.bracket_is head.p_is head.colon_is head.t_is head.closing_is scrutinee.body_is scrutinee.keyword_is scrutinee.s_is scrutinee.opening_is list end.is)))
+    h.0.0.0 h.0.0.1 h.0.0.2 s.0.0 l.0.0 is head.n_is head.bracket_is head.p_is head.colon_is head.t_is head.closing_is scrutinee.body_is scrutinee.keyword_is scrutinee.s_is scrutinee.opening_is list end.is)))
 
 pub function_complete : (word : Placed) (ts us : List Placed) (x : SmallFunction) → SpellsFunction (word ∷ ts) x us → IsWord words.Fn word × (function_behind ts ≡ Some (x, us))
 unfolding function_behind signature_behind scrutinee_behind
-function_complete _ _ _ _ (a_function word n bracket p colon t closing body keyword s opening end ts rest name param type scrutinee fs w1 w2 w3 w4 w5 w6 w7 w8 w9 w10 w11 list w12) =
-    (w1, rw (
-      name_it n (bracket ∷ p ∷ colon ∷ t ∷ closing ∷ body ∷ keyword ∷ s ∷ opening ∷ ts) name w2,
-      behind_it signs.OpenRound bracket (p ∷ colon ∷ t ∷ closing ∷ body ∷ keyword ∷ s ∷ opening ∷ ts) w3,
-      name_it p (colon ∷ t ∷ closing ∷ body ∷ keyword ∷ s ∷ opening ∷ ts) param w4,
-      behind_it signs.Colon colon (t ∷ closing ∷ body ∷ keyword ∷ s ∷ opening ∷ ts) w5,
-      name_it t (closing ∷ body ∷ keyword ∷ s ∷ opening ∷ ts) type w6,
-      behind_it signs.CloseRound closing (body ∷ keyword ∷ s ∷ opening ∷ ts) w7,
-      behind_it signs.OpenCurly body (keyword ∷ s ∷ opening ∷ ts) w8,
-      behind_it signs.Match keyword (s ∷ opening ∷ ts) w9,
-      name_it s (opening ∷ ts) scrutinee w10,
-      behind_it signs.OpenCurly opening ts w11,
-      list_complete SpellsArm arm_at arms ts (end ∷ rest) fs list,
-      behind_it signs.CloseCurly end rest w12,
-    ) refl)
+function_complete _ _ _ _ (a_function word n bracket p colon t closing body keyword s opening end ts rest name param type scrutinee fs w1 w2 w3 w4 w5 w6 w7 w8 w9 w10 w11 list w12) = (
+  w1,
+  rw (
+    name_it n (bracket ∷ p ∷ colon ∷ t ∷ closing ∷ body ∷ keyword ∷ s ∷ opening ∷ ts) name w2,
+    behind_it signs.OpenRound bracket (p ∷ colon ∷ t ∷ closing ∷ body ∷ keyword ∷ s ∷ opening ∷ ts) w3,
+    name_it p (colon ∷ t ∷ closing ∷ body ∷ keyword ∷ s ∷ opening ∷ ts) param w4,
+    behind_it signs.Colon colon (t ∷ closing ∷ body ∷ keyword ∷ s ∷ opening ∷ ts) w5,
+    name_it t (closing ∷ body ∷ keyword ∷ s ∷ opening ∷ ts) type w6,
+    behind_it signs.CloseRound closing (body ∷ keyword ∷ s ∷ opening ∷ ts) w7,
+    behind_it signs.OpenCurly body (keyword ∷ s ∷ opening ∷ ts) w8,
+    behind_it signs.Match keyword (s ∷ opening ∷ ts) w9,
+    name_it s (opening ∷ ts) scrutinee w10,
+    behind_it signs.OpenCurly opening ts w11,
+    list_complete SpellsArm arm_at arms ts (end ∷ rest) fs list,
+    behind_it signs.CloseCurly end rest w12,
+  ) refl,
+)
 
 item_sign_sound : (t : Placed) (ts us : List Placed) (i : SmallItem) (g : Sign) → symbol_of t.lexeme ≡ ASign g → item_of (ASign g) ts ≡ Some (i, us) → SpellsItem (t ∷ ts) i us
 item_sign_sound t ts us i signs.Enum s e =

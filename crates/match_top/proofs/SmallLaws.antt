@@ -1,22 +1,20 @@
 -- What is read is spelled so, and what is spelled so is read.
-use Rattle.std.proofs.Common.{◌≡◌, ◌≢◌, ℕ, Bool, true, false, cond, List, [], ◌∷◌, ◌++◌, length, Option, Some, None, refl, sym, ap, subst, ◌∙◌, ◌⊎◌, inl, inr, append_assoc, arith}
-use Rattle.std.specs.Prelude.{option_map, nat_eq}
-use Rattle.std.specs.List.{AllByRecursion}
+use Rattle.std.proofs.Common.{◌≡◌, ℕ, Bool, true, false, cond, List, [], ◌∷◌, Option, Some, None, refl, sym, ap, subst, ◌∙◌}
+use Rattle.std.specs.Prelude.{nat_eq}
 use Rattle.std.proofs.lemmas.Bool.{eqb-true, eq-eqb}
-use Rattle.std.proofs.lemmas.List.{append-nil}
 use Rattle.decl_lexer.specs.declared.words.Word.{Word}
 use Rattle.decl_lexer.specs.declared.words.Word.TheVariants as words
 use Rattle.decl_lexer.specs.declared.marks.Mark.{Mark}
 use Rattle.decl_lexer.specs.declared.marks.Mark.TheVariants as marks
-use Rattle.decl_lexer.specs.Pieces.{Lexeme, Named, Keyword, Marked, ALifetime, AnInt, AFloat, AChar, AByte, AStr, AByteStr, ACStr}
+use Rattle.decl_lexer.specs.Pieces.{Lexeme, Named, Keyword, Marked, AnInt}
 use Rattle.decl_lexer.specs.Lexing.{Placed}
 use Rattle.match_top.specs.declared.small.symbols.Sign.{Sign}
 use Rattle.match_top.specs.declared.small.symbols.Sign.TheVariants as signs
 use Rattle.match_top.specs.SmallSymbols.{Sym, ASign, AName, SomeDigits, OtherSym, symbol_of, sign_symbol, word_sign, mark_sign, int_symbol, name_symbol, sign_number, same_sign}
-use Rattle.match_top.specs.SmallStream.{head, behind, behind_sym}
-use Rattle.match_top.specs.SmallSource.{SmallPattern, Wildcard, Literal, Path, SmallArm, SmallFunction, SmallEnum, SmallItem, AnEnum, AFunction, IsName, IsDigits, IsWord, IsMark, SpellsName, a_name, CommaList, closed, last, next, SpellsPattern, wildcard, is_true, is_false, path, SpellsArm, an_arm, SpellsEnum, an_enum, SpellsFunction, a_function, SpellsItem, enum_item, function_item, SpellsFile, no_item, next_item}
-use Rattle.match_top.specs.SmallReading.{Read, ◌>>=◌, or_else, name_of, name_at, digits_of, digits_at, path_behind, pattern_of, arm_at, comma_list, list_at, enum_behind, signature_behind, scrutinee_behind, function_behind, item_of, item_at}
-use Rattle.match_top.proofs.SmallLists.{some_is, bind_some, or_some, map_some, behind_shorter, Shrinks, list_turn, list_is, name_shrinks, arm_shrinks, given, first_is, second_is}
+use Rattle.match_top.specs.SmallStream.{behind, behind_sym}
+use Rattle.match_top.specs.SmallSource.{SmallPattern, Wildcard, Literal, Path, IsName, IsDigits, SpellsPattern, wildcard, is_true, is_false, path}
+use Rattle.match_top.specs.SmallReading.{name_of, name_at, digits_of, digits_at, path_behind, pattern_of}
+use Rattle.match_top.proofs.SmallLists.{some_is, bind_some, first_is, second_is}
 
 -- the token that a sign is
 abbrev pub sign_lexeme : Sign → Lexeme

@@ -1,5 +1,5 @@
 -- Which values arms take, by what was seen.
-use Rattle.std.proofs.Common.{◌≡◌, ◌≢◌, ◌⊎◌, inl, inr, Decides, subst, ℕ, zero, suc, ◌+◌, ◌<◌, ◌≤◌, Bool, true, false, not, ◌&&◌, ◌||◌, cond, List, [], ◌∷◌, ◌++◌, length, take, get_or, refl, sym, ap, ◌∙◌, append_assoc, arith}
+use Rattle.std.proofs.Common.{◌≡◌, ◌≢◌, inl, inr, Decides, subst, ℕ, zero, suc, ◌+◌, ◌<◌, ◌≤◌, Bool, true, false, not, ◌&&◌, ◌||◌, cond, List, [], ◌∷◌, ◌++◌, length, take, get_or, refl, sym, ap, ◌∙◌, append_assoc, arith}
 use Rattle.std.specs.Prelude.{nat_eq, nat_lt}
 use Rattle.std.specs.List.{list_any}
 use Rattle.std.proofs.lemmas.List.{append-nil, take_more, take_all, length-take-le}
@@ -7,9 +7,8 @@ use Rattle.std.proofs.lemmas.Bool.{eq-eqb}
 use Rattle.std.proofs.lemmas.Bool.Decides.{Decides-ltb, eqb_tells}
 use Rattle.verdict_json.specs.declared.entry.Unreachable.{Unreachable}
 use Rattle.match_top.specs.declared.small.judging.Case.{Case}
-use Rattle.match_top.specs.declared.small.judging.Case.TheVariants.{Any, Value}
 use Rattle.match_top.specs.declared.small.judging.CaseArm.{CaseArm}
-use Rattle.match_top.specs.SmallJudging.{takes, taken, some_below, those_below, is_reached, entry_unless, unreached, missing, in_seen}
+use Rattle.match_top.specs.SmallJudging.{takes, taken, some_below, those_below, is_reached, entry_unless, unreached, in_seen}
 
 or_comm_true : (a : Bool) → (a || true) ≡ true
 or_comm_true true = refl
@@ -80,11 +79,13 @@ single_below n j s = by_case (nat_lt j n) (s j) refl refl
       | inl same ↦ (let here : s k ≡ false = ap s same.1 ∙ e in rw here (and_false (nat_eq k j)))
       | inr other ↦ (let differs = other.0 in rw differs refl)
     ]
+
     apart : (k : ℕ) → k < n → nat_lt j n ≡ false → k ≢ j
     apart k lt miss same = absurd (no_less (Decides-ltb j n) miss (subst (λ (i : ℕ). i < n) same lt))
       where
         no_less : Decides (nat_lt j n) (j < n) → nat_lt j n ≡ false → j < n → ⊥
         no_less d e lt = let less = d.1 lt in absurd cc
+
     by_case : (l b : Bool) → nat_lt j n ≡ l → s j ≡ b → some_below n (λ k. nat_eq k j && s k) ≡ (l && b)
     by_case true true lt e =
         let same : nat_eq j j ≡ true = eq-eqb j j refl in
@@ -105,6 +106,7 @@ seen_insert k j ks = by_case (list_any (nat_eq j) ks) refl
       | inl same ↦ (let here : list_any (nat_eq k) ks ≡ true = ap (λ i. list_any (nat_eq i) ks) same.1 ∙ e in rw here refl)
       | inr other ↦ (let differs = other.0 in rw differs (sym (or_false (list_any (nat_eq k) ks))))
     ]
+
     by_case : (b : Bool) → list_any (nat_eq j) ks ≡ b → list_any (nat_eq k) (cond b ks (ks ++ j ∷ [])) ≡ (list_any (nat_eq k) ks || nat_eq k j)
     by_case true e = there e
     by_case false e = any_push (nat_eq k) ks j

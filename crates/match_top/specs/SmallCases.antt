@@ -1,16 +1,14 @@
 -- Patterns, types and reports by number: what the private functions of `small` give.
-use Rattle.std.specs.Prelude.{◌≡◌, ℕ, Bool, true, false, ◌==◌, not, List, [], ◌∷◌, length, map, slice_get, position, codes, string_bytes, Option, Some, None, option_map, if◌then◌else◌}
+use Rattle.std.specs.Prelude.{◌≡◌, ℕ, Bool, true, false, ◌==◌, List, [], ◌∷◌, length, map, slice_get, position, Option, Some, None, option_map, if◌then◌else◌}
 use Rattle.std.specs.List.{filter_map}
 use Rattle.std.specs.Str.{bytes_eq}
-use Rattle.indexmap.specs.IndexMap.{IndexMap, get_by_text}
-use Rattle.indexmap.specs.IndexSet.{IndexSet}
 use Rattle.verdict_json.specs.declared.entry.Witness.{Witness}
 use Rattle.verdict_json.specs.declared.entry.Witness.TheVariants as witnesses
 use Rattle.verdict_json.specs.declared.report.FnReport.{FnReport}
 use Rattle.match_top.specs.declared.small.judging.Case.{Case}
 use Rattle.match_top.specs.declared.small.judging.Case.TheVariants.{Any, Value}
 use Rattle.match_top.specs.declared.small.judging.CaseArm.{CaseArm}
-use Rattle.match_top.specs.SmallSource.{SmallPattern, Wildcard, Literal, Path, SmallArm, SmallEnum}
+use Rattle.match_top.specs.SmallSource.{SmallPattern, Wildcard, Literal, Path, SmallArm}
 use Rattle.match_top.specs.SmallConditions.{SmallType, FlagType, EnumType}
 use Rattle.match_top.specs.SmallReading.{◌>>=◌}
 use Rattle.match_top.specs.SmallJudging.{unreached, missing}

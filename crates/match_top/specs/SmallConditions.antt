@@ -3,7 +3,7 @@ use Rattle.std.specs.Prelude.{◌≡◌, ℕ, Bool, true, false, not, ◌&&◌, 
 use Rattle.std.specs.List.{list_any, AllByRecursion}
 use Rattle.std.specs.Str.{bytes_eq}
 use Rattle.decl_lexer.specs.Lexing.{Placed, Lexes}
-use Rattle.match_top.specs.SmallSource.{SmallPattern, Wildcard, Literal, Path, SmallArm, SmallFunction, SmallEnum, SmallItem, AnEnum, AFunction, SpellsFile}
+use Rattle.match_top.specs.SmallSource.{SmallPattern, Wildcard, Literal, Path, SmallFunction, SmallEnum, SmallItem, AnEnum, AFunction, SpellsFile}
 
 -- the enums and the functions of a file, in order
 abbrev pub enums_of : List SmallItem → List SmallEnum

@@ -1,6 +1,6 @@
 -- Reading small sources from left to right: what the private functions of `small` give. What it means that tokens spell
 -- an item stands in SmallSource.
-use Rattle.std.specs.Prelude.{ℕ, zero, suc, ◌+◌, ◌<◌, Bool, true, false, List, [], ◌∷◌, length, vec_len, map, Option, Some, None, option_map, option_and_then, string_bytes}
+use Rattle.std.specs.Prelude.{ℕ, zero, suc, ◌+◌, ◌<◌, true, false, List, [], ◌∷◌, length, vec_len, map, Option, Some, None, option_map, option_and_then, string_bytes}
 use Rattle.decl_lexer.specs.Lexing.{Placed}
 use Rattle.match_top.specs.declared.small.symbols.Sign.TheVariants as signs
 use Rattle.match_top.specs.declared.small.reading.PatternItem.{PatternItem}
@@ -10,7 +10,7 @@ use Rattle.match_top.specs.declared.small.reading.EnumItem.{EnumItem}
 use Rattle.match_top.specs.declared.small.reading.FunctionItem.{FunctionItem}
 use Rattle.match_top.specs.declared.small.reading.Item.{Item}
 use Rattle.match_top.specs.declared.small.reading.Item.TheVariants as items
-use Rattle.match_top.specs.SmallSymbols.{Sym, ASign, AName, SomeDigits, OtherSym}
+use Rattle.match_top.specs.SmallSymbols.{Sym, ASign, AName, SomeDigits}
 use Rattle.match_top.specs.SmallStream.{head, behind}
 use Rattle.match_top.specs.SmallSource.{SmallPattern, Wildcard, Literal, Path, SmallArm, SmallFunction, SmallEnum, SmallItem, AnEnum, AFunction}
 

@@ -6,8 +6,8 @@ use Rattle.decl_lexer.specs.declared.words.Word.{Word}
 use Rattle.decl_lexer.specs.declared.words.Word.TheVariants as words
 use Rattle.decl_lexer.specs.declared.marks.Mark.{Mark}
 use Rattle.decl_lexer.specs.declared.marks.Mark.TheVariants as marks
-use Rattle.decl_lexer.specs.Pieces.{Lexeme, Named, Keyword, Marked, AnInt}
-use Rattle.decl_lexer.specs.Lexing.{Placed, Lexes}
+use Rattle.decl_lexer.specs.Pieces.{Named, Keyword, Marked, AnInt}
+use Rattle.decl_lexer.specs.Lexing.{Placed}
 
 -- a pattern as it is written: `_`, `true` or `false`, or the names of an enum and of a variant
 pub data SmallPattern : Type 0 where

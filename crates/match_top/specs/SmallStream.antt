@@ -1,10 +1,10 @@
 -- The tokens of a source from a byte on, as a reader comes to them: where no token stands, the rest is one other token.
-use Rattle.std.specs.Prelude.{ℕ, zero, suc, ◌-◌, Bool, List, [], ◌∷◌, length, Option, Some, None, option_map, if◌then◌else◌}
+use Rattle.std.specs.Prelude.{ℕ, zero, suc, ◌-◌, List, [], ◌∷◌, length, Option, Some, None, if◌then◌else◌}
 use Rattle.decl_lexer.specs.Pieces.{ALifetime}
 use Rattle.decl_lexer.specs.Lexing.{Placed, Next, Token, End, Neither, next_from}
 use Rattle.match_top.specs.declared.small.symbols.Sign.{Sign}
 use Rattle.match_top.specs.declared.small.symbols.Spot.{Spot}
-use Rattle.match_top.specs.SmallSymbols.{Sym, ASign, AName, SomeDigits, OtherSym, symbol_of, symbol_view, same_sign}
+use Rattle.match_top.specs.SmallSymbols.{Sym, ASign, symbol_of, symbol_view, same_sign}
 
 -- what stands from a byte to the end of the source and is no token
 abbrev pub no_token : List ℕ → ℕ → Placed

@@ -1,5 +1,5 @@
 // What patterns take, and what is reported of a function.
-ghost use Rattle.std.specs.Prelude.{◌≡◌, ◌<◌, ◌^◌, ◌++◌, ◌∷◌, [], length, map, option_map, IfOk, OnOk, position, string_bytes};
+ghost use Rattle.std.specs.Prelude.{◌≡◌, ◌<◌, ◌^◌, ◌++◌, ◌∷◌, [], length, map, option_map, vec_len, IfOk, IfSome, OnOk, position, string_bytes};
 ghost use Rattle.std.specs.List.{filter_map};
 ghost use Rattle.std.specs.Str.{bytes_eq};
 ghost use Rattle.match_top.specs.SmallReading.{pattern_view, arm_view};
@@ -53,12 +53,7 @@ fn number_of(variants: &IndexSet<String>, variant: &str) -> Option<usize>
     variants.get_index_of(variant)
 }
 
-fn variant_case(
-    name: &str,
-    variants: &IndexSet<String>,
-    owner: &str,
-    variant: &str,
-) -> Option<Case>
+fn variant_case(name: &str, variants: &IndexSet<String>, owner: &str, variant: &str) -> Option<Case>
     ensures { result ≡ variant_case name.now (map string_bytes variants.now.keys) owner.now variant.now }
 {
     if owner != name {
@@ -92,7 +87,8 @@ pub fn cases_of(
     ty: &ParamType<'_>,
     arms: &[ArmItem],
 ) -> Result<Option<Vec<CaseArm>>, NoMemory>
-    ensures { IfOk result (λ o. option_map (λ cs. cs.items) o ≡ cases_of (type_view ty.now) (map arm_view arms.now)) }
+    ensures exact { IfOk result (λ o. option_map (λ cs. cs.items) o ≡ cases_of (type_view ty.now) (map arm_view arms.now)) }
+    ensures few { IfOk result (λ o. IfSome o (λ cs. vec_len cs ≡ length arms.now)) }
 {
     let mut cases = Vec::new(alloc);
     for arm in arms {

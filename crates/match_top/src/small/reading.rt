@@ -277,7 +277,11 @@ fn scrutinee(alloc: Global, source: &[u8], at: u64) -> Result<Option<(String, u6
 
 // A function, whose keyword is already past.
 #[tactic(auto, unfolding(crate::specs::SmallReading::function_behind))]
-fn function_item(alloc: Global, source: &[u8], at: u64) -> Result<Option<(FunctionItem, u64)>, NoMemory>
+fn function_item(
+    alloc: Global,
+    source: &[u8],
+    at: u64,
+) -> Result<Option<(FunctionItem, u64)>, NoMemory>
     requires { at ≤ length source.now }
     ensures exact { IfOk result (λ o. option_map (λ x. (function_view x.0, stream source.now x.1)) o ≡ function_behind (stream source.now at)) }
     ensures within { IfOk result (λ o. IfSome o (λ x. x.1 ≤ length source.now)) }

@@ -97,7 +97,9 @@ fn symbol_in(kind: TokenKind) -> Symbol
             }
         }
         TokenKind::Int {
-            suffix, decimal, ..
+            suffix,
+            decimal,
+            ..
         } => {
             if suffix.is_empty() && decimal {
                 Symbol::Digits
@@ -140,12 +142,7 @@ fn is_same(a: Sign, b: Sign) -> bool
 }
 
 /// The byte behind the sign that stands next.
-pub fn behind(
-    alloc: Global,
-    source: &[u8],
-    at: u64,
-    wanted: Sign,
-) -> Result<Option<u64>, NoMemory>
+pub fn behind(alloc: Global, source: &[u8], at: u64, wanted: Sign) -> Result<Option<u64>, NoMemory>
     requires { at ≤ length source.now }
     ensures exact { IfOk result (λ o. option_map (stream source.now) o ≡ behind wanted (stream source.now at)) }
     ensures within { IfOk result (λ o. IfSome o (λ to. to ≤ length source.now)) }

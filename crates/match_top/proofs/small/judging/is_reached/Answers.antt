@@ -1,8 +1,7 @@
-use Rattle.std.proofs.Common.{◌≡◌, true, false, not, ◌&&◌, ◌<◌, sym, ap, ◌∙◌, refl, arith}
+use Rattle.std.proofs.Common.{◌≡◌, true, not, sym, ap, ◌∙◌, refl}
 use Rattle.std.specs.Prelude.{nat_lt}
 use Rattle.std.proofs.lemmas.Bool.Decides.{Decides-ltb}
-use Rattle.match_top.specs.SmallJudging.{in_seen, takes, some_below}
-use Rattle.match_top.specs.declared.small.judging.Case.{Case}
+use Rattle.match_top.specs.SmallJudging.{in_seen}
 use Rattle.match_top.proofs.SmallSeen.{single_below, not_less}
 use Rattle.match_top.proofs.small.judging.is_reached.Goals as goal
 

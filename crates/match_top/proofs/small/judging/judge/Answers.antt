@@ -1,9 +1,6 @@
-use Rattle.std.proofs.Common.{◌≡◌, ℕ, [], ◌∷◌, ◌++◌, ◌+◌, ◌||◌, List, take, length, not, sym, ap, ◌∙◌, refl, arith}
-use Rattle.std.proofs.lemmas.List.{take_more, length-take}
-use Rattle.std.proofs.lemmas.Grind.{common_steps}
-use Rattle.match_top.specs.declared.small.judging.CaseArm.{CaseArm}
-use Rattle.match_top.specs.SmallJudging.{in_seen, taken, unreached, missing, entry_unless, takes, is_reached}
-use Rattle.match_top.proofs.SmallSeen.{those_below-same, taken-push, unreached-push, reached_by, unreached_more, taken_more, whole_taken}
+use Rattle.std.proofs.Common.{not, ap, ◌∙◌}
+use Rattle.match_top.specs.SmallJudging.{in_seen, taken}
+use Rattle.match_top.proofs.SmallSeen.{those_below-same, unreached_more, taken_more, whole_taken}
 use Rattle.match_top.proofs.small.judging.judge.Goals as goal
 
 pub loop-j-preserved : goal.loop-j-preserved

@@ -1,4 +1,4 @@
-use Rattle.std.proofs.Common.{not, sym, ap, ◌∙◌, refl}
+use Rattle.std.proofs.Common.{not, sym, ap, ◌∙◌}
 use Rattle.match_top.specs.SmallJudging.{in_seen}
 use Rattle.match_top.proofs.SmallSeen.{some_below-none, some_below-found, all_seen}
 use Rattle.match_top.proofs.small.judging.some_unseen.Goals as goal

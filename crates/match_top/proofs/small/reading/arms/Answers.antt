@@ -1,4 +1,4 @@
-use Rattle.std.proofs.Common.{map, string_bytes, ap, ◌∙◌, arith}
+use Rattle.std.proofs.Common.{map, ap, ◌∙◌, arith}
 use Rattle.std.proofs.lemmas.List.{map_push}
 use Rattle.match_top.specs.SmallStream.{stream}
 use Rattle.match_top.specs.SmallReading.{arm_at, arm_view, list_at}

@@ -1,4 +1,4 @@
-use Rattle.std.proofs.Common.{◌≡◌, ◌≤◌, ◌-◌, ◌+◌, length, map, vec_len, string_bytes}
+use Rattle.std.proofs.Common.{◌≡◌, ◌≤◌, ◌-◌, ◌+◌, length, map, vec_len}
 use Rattle.match_top.specs.SmallStream.{stream}
 use Rattle.match_top.specs.SmallReading.{arm_at, arm_view, list_at}
 use Rattle.match_top.proofs.SmallLists.{with_front}

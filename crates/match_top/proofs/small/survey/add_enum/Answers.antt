@@ -1,10 +1,10 @@
-use Rattle.std.proofs.Common.{◌≡◌, ℕ, Bool, true, false, List, Option, Some, string_bytes, map, cond, sym, ap, ◌∙◌, rules, refl}
+use Rattle.std.proofs.Common.{◌≡◌, ℕ, Bool, true, false, List, Option, Some, string_bytes, map, cond, ap, ◌∙◌, rules, refl}
 use Rattle.std.specs.Prelude.{option_map}
 use Rattle.std.specs.Str.{bytes_eq}
 use Rattle.std.proofs.lemmas.Map.Text.{hash_map_updates_text}
 use Rattle.indexmap.specs.IndexMap.{get_by_text}
 use Rattle.match_top.specs.SmallSurvey.{names_in, variants_in}
-use Rattle.match_top.specs.SmallTypes.{NameSet, EnumMap}
+use Rattle.match_top.specs.SmallTypes.{NameSet}
 use Rattle.match_top.proofs.small.survey.add_enum.Goals as goal
 
 moved : (b : Bool) (x : NameSet) (y : Option NameSet) → option_map names_in (cond b (Some x) y) ≡ cond b (Some (names_in x)) (option_map names_in y)

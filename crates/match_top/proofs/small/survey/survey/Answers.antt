@@ -1,4 +1,4 @@
-use Rattle.std.proofs.Common.{◌≡◌, ℕ, [], sym, ap, ◌∙◌, refl, rules, arith}
+use Rattle.std.proofs.Common.{[], sym, ◌∙◌, refl, rules, arith}
 use Rattle.match_top.specs.SmallReading.{enum_view, function_view}
 use Rattle.match_top.specs.SmallStream.{stream}
 use Rattle.match_top.specs.SmallSurvey.{names_in, none_read}
@@ -34,7 +34,7 @@ items-preserved-in-Enum c =
     let read = rw c.in-Enum.is at (rw c.in-Some.is at c.in_ok-item.ensures.exact) in record {
       within = rw c.in-Some.is at c.in_ok-item.ensures.within;
       surveyed = take_enum c.args.source.now c.items.at c.items.enums (names_in c.items.functions) c.items.invariant.surveyed c.in-Some.to (enum_view c.in-Enum.e) c.add_enum.new.enums
-        (sym read) (sym c.in_ok-add_enum-in-Enum.ensures.fits ∙ c.if-not-branch.false) (c.in_ok-add_enum-in-Enum.ensures.added (search rules));
+          (sym read) (sym c.in_ok-add_enum-in-Enum.ensures.fits ∙ c.if-not-branch.false) (c.in_ok-add_enum-in-Enum.ensures.added (search rules));
     }
 
 pub returns-then-not-branch-2 : goal.returns-then-not-branch-2
@@ -48,5 +48,5 @@ items-preserved c =
     let read = rw c.in-Function.is at (rw c.in-Some.is at c.in_ok-item.ensures.exact) in record {
       within = rw c.in-Some.is at c.in_ok-item.ensures.within;
       surveyed = take_function c.args.source.now c.items.at c.items.enums (names_in c.items.functions) c.items.invariant.surveyed c.in-Some.to (function_view c.in-Function.f) _
-        (sym read) (not_false _ _ c.in_ok-insert_name-in-Function.ensures.added c.if-not-branch-2.false) (rw c.if-not-branch-2.false at c.in_ok-insert_name-in-Function.ensures.names);
+          (sym read) (not_false _ _ c.in_ok-insert_name-in-Function.ensures.added c.if-not-branch-2.false) (rw c.if-not-branch-2.false at c.in_ok-insert_name-in-Function.ensures.names);
     }

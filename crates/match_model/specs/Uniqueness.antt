@@ -1,0 +1,50 @@
+-- The relations of these definitions allow one answer alone.
+use Rattle.std.specs.Prelude.{◌≡◌, Bool, List, IsTrue}
+use Rattle.match_model.specs.Values.{MValue}
+use Rattle.match_model.specs.Match.{ArmWays}
+use Rattle.match_model.specs.Select.{Selected}
+use Rattle.match_model.specs.Unreachable.{Entry, IsUnreachableList}
+use Rattle.match_model.specs.Trees.{MNode, Means}
+use Rattle.match_model.specs.Witness.{MWitness}
+use Rattle.match_model.specs.Constructors.{MCtor, MSet}
+use Rattle.match_model.specs.Contexts.{Context}
+use Rattle.match_model.specs.ArenaPatterns.{MDeMatch}
+use Rattle.match_model.specs.Pieces.{ArePieces}
+use Rattle.match_model.specs.WitnessList.{IsWitnessList}
+use Rattle.match_model.specs.PlainTree.{IsPlainTree}
+
+-- a tree means one thing alone for a value and answers
+abbrev pub MeaningIsOne : Type 0
+MeaningIsOne =
+    (nodes : List MNode) (v : MValue) (answers : List Bool) (s t : Selected) →
+    Means nodes v answers s → Means nodes v answers t → s ≡ t
+
+-- the values that pass a test
+abbrev pub Passing : {A : Type 0} → (A → Bool) → A → Type 0
+Passing test a = IsTrue (test a)
+
+-- a match has one list of what is unreachable, over any domain that a test tells
+abbrev pub UnreachableListIsOne : Type 0
+UnreachableListIsOne =
+    (domain : MValue → Bool) (arms : List ArmWays) (es fs : List Entry) →
+    IsUnreachableList (Passing domain) arms es → IsUnreachableList (Passing domain) arms fs → es ≡ fs
+
+-- a column has one list of pieces
+abbrev pub PiecesAreOne : Type 0
+PiecesAreOne = (set : MSet) (heads ps qs : List MCtor) → ArePieces set heads ps → ArePieces set heads qs → ps ≡ qs
+
+-- the values of a type that pass a test
+abbrev pub ValuesPassing : {T : Type 0} → (T → Bool → MValue → Bool) → T → Bool → MValue → Type 0
+ValuesPassing test t sure v = IsTrue (test t sure v)
+
+-- a match has one witness list, in any context whose values a test tells
+abbrev pub WitnessListIsOne : (T : Type 0) → Type 0
+WitnessListIsOne T =
+    (cx : Context T) (is_value : T → Bool → MValue → Bool) (m : MDeMatch T) (ws us : List MWitness) →
+    IsWitnessList cx (ValuesPassing is_value) m ws → IsWitnessList cx (ValuesPassing is_value) m us → ws ≡ us
+
+-- a match has one plain tree, in any context whose values a test tells
+abbrev pub PlainTreeIsOne : (T : Type 0) → Type 0
+PlainTreeIsOne T =
+    (cx : Context T) (is_value : T → Bool → MValue → Bool) (m : MDeMatch T) (ns ms : List MNode) →
+    IsPlainTree cx (ValuesPassing is_value) m ns → IsPlainTree cx (ValuesPassing is_value) m ms → ns ≡ ms

@@ -1,0 +1,90 @@
+//! Laws of the definitions: each function has an empty body, and its contract is a law.
+
+ghost use Rattle.match_model.specs.Laws.{OrIsConcatenation, GoesThrough, MissedWhereUncovered, FirstWayIsTaken};
+ghost use Rattle.match_model.specs.Laws.{JoinIsAssociative, CombineIsAssociative, BareWayIsUnit, PartsSplit, RustValuesLaw};
+ghost use Rattle.match_model.specs.Emptiness.{RustPartsLaw, RustEmptyLaw, RustUnsureLaw};
+ghost use Rattle.match_model.specs.Readings.{ReadingsAgree};
+ghost use Rattle.match_model.specs.Uniqueness.{MeaningIsOne, UnreachableListIsOne, PiecesAreOne, WitnessListIsOne, PlainTreeIsOne};
+
+/// An or-pattern's ways are its alternatives' ways, one after the other.
+pub fn or_is_concatenation()
+    ensures { OrIsConcatenation }
+{}
+
+/// A pattern goes through references on its own, and the binding mode changes.
+pub fn goes_through()
+    ensures { GoesThrough }
+{}
+
+/// With all guards refusing a match is missed exactly where no arm without a guard matches.
+pub fn missed_where_uncovered()
+    ensures { MissedWhereUncovered }
+{}
+
+/// The first way of the first arm that covers a value is taken.
+pub fn first_way_is_taken()
+    ensures { FirstWayIsTaken }
+{}
+
+/// Joining ways is associative, and so is combining them.
+pub fn join_is_associative()
+    ensures join { JoinIsAssociative }
+    ensures combine { CombineIsAssociative }
+{}
+
+/// The bare way is a unit.
+pub fn bare_way_is_unit()
+    ensures { BareWayIsUnit }
+{}
+
+/// The ways of patterns on a list of parts are the combinations of those on its two halves, the heart of specialising.
+pub fn parts_split<T>()
+    ensures { PartsSplit T }
+{}
+
+/// It does not count what becomes of the binding mode at a `&` or a `mut` where it is a move there already.
+pub fn readings_agree()
+    ensures { ReadingsAgree }
+{}
+
+/// Every value of a type of Rust is built by exactly one elementary constructor of the type, opaque and unseen ones apart.
+pub fn rust_values()
+    ensures { RustValuesLaw }
+{}
+
+/// A tree that a constructor of a type of Rust builds is a value exactly where its parts are.
+pub fn rust_parts()
+    ensures { RustPartsLaw }
+{}
+
+/// Marks that came about one by one and are stable tell exactly which types have no value at a sure place; at an unsure
+/// place every type has one.
+pub fn rust_emptiness()
+    ensures sure { RustEmptyLaw }
+    ensures unsure { RustUnsureLaw }
+{}
+
+/// A tree means one thing alone for a value and answers.
+pub fn meaning_is_one()
+    ensures { MeaningIsOne }
+{}
+
+/// A match has one list of what is unreachable.
+pub fn unreachable_list_is_one()
+    ensures { UnreachableListIsOne }
+{}
+
+/// A column has one list of pieces.
+pub fn pieces_are_one()
+    ensures { PiecesAreOne }
+{}
+
+/// A match has one witness list.
+pub fn witness_list_is_one<T>()
+    ensures { WitnessListIsOne T }
+{}
+
+/// A match has one plain tree.
+pub fn plain_tree_is_one<T>()
+    ensures { PlainTreeIsOne T }
+{}

@@ -1,0 +1,14 @@
+use Rattle.std.proofs.Common.{◌≡◌, subst, List, ℕ, rules}
+use Rattle.match_top.specs.Answers.{taken}
+use Rattle.match_top.specs.Writing.{AppendsPart}
+use Rattle.match_top.proofs.top.run.Goals as goal
+
+pub returns-clause-part : goal.returns-clause-part
+returns-clause-part g c = λ _ file bytes form told.
+    let same : c.deref.result.now ≡ taken bytes = search rules in
+    let text : c.deref-2.result.now ≡ c.in-Ok-answer_to.answer.text.items = search rules in (
+      c.in-Ok-answer_to.answer.text.items,
+      c.in-Ok-answer_to.answer.status,
+      c.in-Ok-answer_to.ensures.answers bytes same,
+      subst (λ (z : List ℕ). AppendsPart (g.K.Sink.written c.args.sink.now) (g.K.Sink.written c.write_text.new.sink) z) text c.in-Err.ensures.part,
+    )

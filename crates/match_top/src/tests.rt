@@ -1,0 +1,108 @@
+use crate::{Status, run};
+use match_io::{MemoryFiles, MemorySink, SureFiles};
+use std::alloc::Global;
+use std::test::Fail;
+
+const NOT_BUILT: &str =
+    "{\"refused\":{\"arm\":null,\"at\":null,\"item\":null,\"name\":\"not-built\",\"rule\":90}}\n";
+
+const TOO_LONG: &str =
+    "{\"refused\":{\"arm\":null,\"at\":null,\"item\":null,\"name\":\"too-long\",\"rule\":7}}\n";
+
+fn texts(alloc: Global, words: &[&str]) -> Result<Vec<String>, Fail> {
+    let mut all = Vec::new(alloc);
+    for word in words {
+        all.push(String::from_str(alloc, word)?)?;
+    }
+    Ok(all)
+}
+
+// One file of the name `a`, read three bytes at a time.
+fn one_file(alloc: Global, content: &[u8], failing: &[u64]) -> Result<MemoryFiles, Fail> {
+    let mut named = Vec::new(alloc);
+    named.push((String::from_str(alloc, "a")?, content.to_vec(alloc)?))?;
+    Ok(MemoryFiles::new(named, 3, failing.to_vec(alloc)?))
+}
+
+// Words, the numbers of the calls of the files that fail, the room of the sink, the numbers of the writes that fail,
+// the number of the status, what is written.
+type Row = (
+    &'static [&'static str],
+    &'static [u64],
+    usize,
+    &'static [u64],
+    u8,
+    &'static str,
+);
+
+const CHECK: &[&str] = &["check", "a"];
+
+const ROWS: [Row; 19] = [
+    (CHECK, &[], 4096, &[], 3, NOT_BUILT),
+    (CHECK, &[8], 4096, &[], 3, NOT_BUILT),
+    (&[], &[], 4096, &[], 2, ""),
+    (&["check"], &[], 4096, &[], 2, ""),
+    (&["check", "a", "a"], &[], 4096, &[], 2, ""),
+    (&["Check", "a"], &[], 4096, &[], 2, ""),
+    (&["", "a"], &[], 4096, &[], 2, ""),
+    (&["demo", "0"], &[], 4096, &[], 2, ""),
+    (&["demo", "007"], &[], 4096, &[], 2, ""),
+    (&["eval", "a", "f", "1", "tx"], &[], 4096, &[], 2, ""),
+    (&["check", "b"], &[], 4096, &[], 4, ""),
+    (&["check", ""], &[], 4096, &[], 4, ""),
+    (CHECK, &[1], 4096, &[], 4, ""),
+    (CHECK, &[2], 4096, &[], 4, ""),
+    (CHECK, &[5], 4096, &[], 4, ""),
+    (CHECK, &[], 4096, &[2], 5, "{\"refused\":{\"arm"),
+    (CHECK, &[], 4096, &[1], 5, ""),
+    (CHECK, &[], 5, &[], 5, "{\"ref"),
+    (CHECK, &[], 0, &[], 5, ""),
+];
+
+#[test]
+fn words_and_faults_decide_the_status(rt: HostRuntime) -> Result<(), Fail> {
+    let alloc = rt.alloc();
+    for (i, row) in ROWS.iter().enumerate() {
+        let words = texts(alloc, row.0)?;
+        // Nine bytes: `begin`, three reads and the read that finds the end.
+        let mut files = one_file(alloc, b"struct S;", row.1)?;
+        let mut sink = MemorySink::new(alloc, row.2, 16, row.3.to_vec(alloc)?)?;
+        let status = run(alloc, &words, &mut files, &mut sink);
+        assert_eq!(rt; status.number(), row.4, "status of row {i}");
+        assert_eq!(rt; sink.bytes(), row.5.as_bytes(), "written in row {i}");
+    }
+    Ok(())
+}
+
+#[test]
+fn the_files_may_be_used_again_after_a_fault(rt: HostRuntime) -> Result<(), Fail> {
+    let alloc = rt.alloc();
+    let words = texts(alloc, CHECK)?;
+    let mut files = one_file(alloc, b"struct S;", &[3])?;
+    let mut sink = MemorySink::new(alloc, 4096, 16, [1].to_vec(alloc)?)?;
+    let wanted = [Status::ReadFault, Status::WriteFault, Status::Refused];
+    for status in wanted {
+        assert_eq!(rt; run(alloc, &words, &mut files, &mut sink), status);
+    }
+    assert_eq!(rt; sink.bytes(), NOT_BUILT.as_bytes());
+    Ok(())
+}
+
+#[test]
+fn the_longest_source_and_one_byte_more(rt: HostRuntime) -> Result<(), Fail> {
+    let alloc = rt.alloc();
+    let words = texts(alloc, CHECK)?;
+    for (length, wanted) in [
+        (16_777_216, NOT_BUILT),
+        (16_777_217, TOO_LONG),
+        (16_777_300, TOO_LONG),
+    ] {
+        // No byte of it is text, so that no reading of it as a source takes long.
+        let mut files = SureFiles::new(vec![in alloc; 0xff; length]?);
+        let mut sink = MemorySink::new(alloc, 4096, 4096, Vec::new(alloc))?;
+        let status = run(alloc, &words, &mut files, &mut sink);
+        assert_eq!(rt; status, Status::Refused, "at {length} bytes");
+        assert_eq!(rt; sink.bytes(), wanted.as_bytes(), "at {length} bytes");
+    }
+    Ok(())
+}

@@ -1,0 +1,78 @@
+// The top call.
+ghost use Rattle.std.specs.Prelude.{◌≡◌, ◌≢◌, ◌↔◌, ◌≤◌, ◌<◌, ◌^◌, ◌-◌, ◌⊎◌, ℕ, List, Some, None, IsSome};
+ghost use Rattle.std.specs.Io.KnownBytes.{Appends};
+ghost use Rattle.match_model.specs.Causes.{Rose};
+ghost use Rattle.match_top.specs.Answers.{Answers, most_taken};
+ghost use Rattle.match_top.specs.Reading.{HasTaken};
+ghost use Rattle.match_top.specs.Statuses.{IsVerdict};
+ghost use Rattle.match_top.specs.Words.{form_of};
+ghost use Rattle.match_top.specs.Writing.{AppendsPart};
+ghost use Rattle.match_top.specs.declared.statuses.Status.{Status};
+
+use crate::Status;
+use crate::answering::answer_to;
+use crate::reading::{ReadError, read_source};
+use crate::words::file_word;
+use crate::writing::write_text;
+use match_io::{Files, Sink};
+use std::alloc::Global;
+
+/// Does what the words ask for, and tells how it ended. The words are those of the command line without the program's
+/// name: `check FILE` writes the report on the functions of a file (the form is our own choice). The files and the sink
+/// may be used again afterwards: nothing is kept between calls.
+pub fn run<F: Files, K: Sink>(
+    alloc: Global,
+    words: &[String],
+    files: &mut F,
+    sink: &mut K,
+) -> Status
+    // Words without a form: nothing is read or written.
+    ensures words { (result ≡ Status.Words) ↔ (form_of words.now ≡ None) }
+    ensures untouched { result ≡ Status.Words → (files.new ≡ files.old) × (sink.new ≡ sink.old) }
+
+    // What stays, and how much is taken of the file: one file is begun, and no byte is taken beyond the limit.
+    ensures holds { F.holds files.new ≡ F.holds files.old }
+    ensures still_sure { F.sure files.old → F.sure files.new }
+    ensures few { (file bytes : List ℕ) → form_of words.now ≡ Some file → F.holds files.old file ≡ Some bytes
+        → (F.left files.new ≡ F.left files.old) ⊎ HasTaken most_taken bytes (F.left files.new) }
+
+    // A fault comes only where a count rose.
+    ensures counted { (F.faults files.old ≤ F.faults files.new) × (K.faults sink.old ≤ K.faults sink.new) }
+    ensures read_fault { result ≡ Status.ReadFault → Rose (F.faults files.old) (F.faults files.new) }
+    ensures sure { (file : List ℕ) → form_of words.now ≡ Some file → F.sure files.old
+        → IsSome (F.holds files.old file) → result ≢ Status.ReadFault }
+    ensures write_fault { result ≡ Status.WriteFault → Rose (K.faults sink.old) (K.faults sink.new) }
+
+    // Where no count rose, the file is judged, or memory was refused.
+    ensures decided { IsSome (form_of words.now)
+        → F.faults files.new ≡ F.faults files.old → F.faults files.old < 2 ^ 64 - 1
+        → K.faults sink.new ≡ K.faults sink.old → K.faults sink.old < 2 ^ 64 - 1
+        → IsVerdict result ⊎ (result ≡ Status.NoMemory) }
+
+    // What is written: nothing, a front of the text, or the whole text of the whole file.
+    ensures nothing { (result ≡ Status.ReadFault) ⊎ (result ≡ Status.NoMemory) → sink.new ≡ sink.old }
+    ensures part { result ≡ Status.WriteFault → (file bytes : List ℕ) → form_of words.now ≡ Some file
+        → F.holds files.old file ≡ Some bytes
+        → (text : List ℕ) × (status : Status) × Answers bytes text status
+        × AppendsPart (K.written sink.old) (K.written sink.new) text }
+    ensures whole { IsVerdict result → (file bytes : List ℕ) → form_of words.now ≡ Some file
+        → F.holds files.old file ≡ Some bytes
+        → (text : List ℕ) × Answers bytes text result
+        × Appends (K.written sink.old) (K.written sink.new) text }
+{
+    let Some(file) = file_word(words) else {
+        return Status::Words;
+    };
+    let source = match read_source(alloc, files, file) {
+        Ok(source) => source,
+        Err(ReadError::Failed) => return Status::ReadFault,
+        Err(ReadError::NoMemory) => return Status::NoMemory,
+    };
+    let Ok(answer) = answer_to(alloc, &source) else {
+        return Status::NoMemory;
+    };
+    match write_text(sink, &answer.text) {
+        Ok(()) => answer.status,
+        Err(_) => Status::WriteFault,
+    }
+}

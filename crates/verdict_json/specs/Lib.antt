@@ -1,0 +1,4 @@
+pub mod Refused
+pub mod Report
+pub mod Rules
+pub mod Writing

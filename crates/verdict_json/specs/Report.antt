@@ -1,0 +1,56 @@
+-- The report on functions as JSON.
+use Rattle.std.specs.Prelude.{ℕ, List, [], ◌∷◌, ◌++◌, map, codes, Bool, true, false}
+use Rattle.serde_json.specs.Data.{Data, boolean, number, unsigned, string, array, object, no_items, item, no_members, member}
+use Rattle.serde_json.specs.View.{items_of}
+use Rattle.serde_json.specs.Written.{compact_text}
+use Rattle.verdict_json.specs.declared.entry.Unreachable.{Unreachable}
+use Rattle.verdict_json.specs.declared.entry.Witness.{Witness}
+use Rattle.verdict_json.specs.declared.entry.Witness.TheVariants.{Any, Flag, Unit}
+use Rattle.verdict_json.specs.declared.report.FnReport.{FnReport}
+
+-- an entry of the unreachable list
+abbrev pub unreachable_data : Unreachable → Data
+unreachable_data u =
+    object (member (codes "arm") (number (unsigned u.arm))
+    (member (codes "at") (number (unsigned u.at))
+    (member (codes "whole") (boolean u.whole) no_members)))
+
+-- the name of a variant, behind that of its enum
+abbrev pub unit_name : List ℕ → List ℕ → List ℕ
+unit_name owner variant = (owner ++ codes "::") ++ variant
+
+-- a witness: its text as Rust writes a pattern, and the witness as a tree
+abbrev pub text_and_tree : List ℕ → Data → Data
+text_and_tree text tree = object (member (codes "text") (string text) (member (codes "tree") tree no_members))
+
+-- a variant without fields, by its name
+abbrev pub unit_data : List ℕ → Data
+unit_data name = text_and_tree name (array (item (string (codes "node")) (item (string name) (item (array no_items) no_items))))
+
+-- a truth value, as it is written
+abbrev pub flag_text : Bool → List ℕ
+flag_text true = codes "true"
+flag_text false = codes "false"
+
+-- a witness
+abbrev pub witness_data : Witness → Data
+witness_data Any = text_and_tree (codes "_") (array (item (string (codes "any")) no_items))
+witness_data (Flag b) = text_and_tree (flag_text b) (array (item (string (codes "flag")) (item (boolean b) no_items)))
+witness_data (Unit owner variant) = unit_data (unit_name owner.now variant.now)
+
+-- what is reported of one function
+abbrev pub function_data : FnReport → Data
+function_data f =
+    object (member (codes "exhaustive") (boolean f.exhaustive)
+    (member (codes "name") (string f.name.now)
+    (member (codes "overlaps") (array no_items)
+    (member (codes "unreachable") (array (items_of (map unreachable_data f.unreachable.items)))
+    (member (codes "witnesses") (array (items_of (map witness_data f.witnesses.items))) no_members)))))
+
+-- the report on these functions, in their order
+abbrev pub report_data : List FnReport → Data
+report_data functions = object (member (codes "functions") (array (items_of (map function_data functions))) no_members)
+
+-- the bytes that are written for a report, the line feed included
+unfoldable pub report_text : List FnReport → List ℕ
+report_text functions = compact_text (report_data functions) ++ 10 ∷ []

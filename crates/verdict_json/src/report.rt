@@ -1,0 +1,157 @@
+// The report, function by function.
+ghost use Rattle.std.specs.Prelude.{◌≡◌, ◌++◌, ◌∷◌, [], List, map, false, IfOk, OnOk, codes, string_bytes};
+ghost use Rattle.serde_json.specs.Data.{string};
+ghost use Rattle.serde_json.specs.Written.{compact_text, items_text, comma_if};
+ghost use Rattle.serde_json.specs.View.{items_of};
+ghost use Rattle.verdict_json.specs.Report.{report_text, function_data, unreachable_data, witness_data};
+ghost use Rattle.verdict_json.specs.Writing.{HasReports, flag_word};
+ghost use Rattle.verdict_json.specs.declared.report.FnReport.{FnReport};
+
+use crate::entry::{Unreachable, Witness, unreachable_entry, witness_entry};
+use match_model::NoMemory;
+use serde_json::json;
+use std::alloc::{AllocError, Global};
+
+/// What is reported of a function.
+#[derive(Debug, Drop)]
+pub struct FnReport<'a> {
+    /// The function's name.
+    pub name: &'a str,
+    /// Whether every value, all guards refusing, meets an arm.
+    pub exhaustive: bool,
+    /// The arms and alternatives that no value comes to, in reading order.
+    pub unreachable: Vec<Unreachable>,
+    /// What is missing: disjoint, in constructor order.
+    pub witnesses: Vec<Witness<'a>>,
+}
+
+/// The text of a report to which one function is added after the other.
+#[derive(Debug, Drop)]
+pub struct ReportText {
+    text: String,
+    later: bool,
+    alloc: Global,
+}
+
+// Adds a comma where something stands before.
+fn push_comma(text: &mut String, later: bool) -> Result<(), AllocError>
+    ensures { OnOk result (string_bytes text.new ≡ string_bytes text.old ++ comma_if later) }
+{
+    if later {
+        text.push(',')?;
+    }
+    Ok(())
+}
+
+// Adds the name of a function as JSON.
+fn push_quoted(alloc: Global, text: &mut String, name: &str) -> Result<(), AllocError>
+    ensures { OnOk result (string_bytes text.new ≡ string_bytes text.old ++ compact_text (string name.now)) }
+{
+    let quoted = json!(in alloc; name)?.to_string(alloc)?;
+    text.push_str(quoted.as_str())
+}
+
+// Adds the entries of the unreachable list, with commas between them, and the bracket that closes them.
+fn push_unreachable(
+    alloc: Global,
+    text: &mut String,
+    entries: &[Unreachable],
+) -> Result<(), AllocError>
+    ensures { OnOk result (string_bytes text.new
+        ≡ string_bytes text.old ++ items_text false (items_of (map unreachable_data entries.now))) }
+{
+    let mut later = false;
+    for entry in entries {
+        if later {
+            text.push(',')?;
+        }
+        text.push_str(unreachable_entry(alloc, entry)?.as_str())?;
+        later = true;
+    }
+    text.push(']')?;
+    Ok(())
+}
+
+// Adds the witnesses, with commas between them, and the bracket that closes them.
+fn push_witnesses(
+    alloc: Global,
+    text: &mut String,
+    witnesses: &[Witness<'_>],
+) -> Result<(), AllocError>
+    ensures { OnOk result (string_bytes text.new
+        ≡ string_bytes text.old ++ items_text false (items_of (map witness_data witnesses.now))) }
+{
+    let mut later = false;
+    for witness in witnesses {
+        if later {
+            text.push(',')?;
+        }
+        text.push_str(witness_entry(alloc, witness)?.as_str())?;
+        later = true;
+    }
+    text.push(']')?;
+    Ok(())
+}
+
+fn flag_word(flag: bool) -> &'static str
+    ensures { result.now ≡ flag_word flag }
+{
+    if flag { "true" } else { "false" }
+}
+
+// Adds what is reported of a function.
+fn push_function(alloc: Global, text: &mut String, report: &FnReport<'_>) -> Result<(), AllocError>
+    ensures { OnOk result (string_bytes text.new ≡ string_bytes text.old ++ compact_text (function_data report.now)) }
+{
+    text.push_str("{\"exhaustive\":")?;
+    text.push_str(flag_word(report.exhaustive))?;
+    text.push_str(",\"name\":")?;
+    push_quoted(alloc, text, report.name)?;
+    text.push_str(",\"overlaps\":[],\"unreachable\":[")?;
+    push_unreachable(alloc, text, &report.unreachable)?;
+    text.push_str(",\"witnesses\":[")?;
+    push_witnesses(alloc, text, &report.witnesses)?;
+    text.push('}')?;
+    Ok(())
+}
+
+impl ReportText {
+    /// The report on no function.
+    pub fn begin(alloc: Global) -> Result<ReportText, NoMemory>
+        ensures { IfOk result (HasReports []) }
+    {
+        let text = String::from_str(alloc, "{\"functions\":[")?;
+        Ok(ReportText {
+            text,
+            later: false,
+            alloc,
+        })
+    }
+
+    /// The report with one more function at its end.
+    pub fn add(self, report: &FnReport<'_>) -> Result<ReportText, NoMemory>
+        ensures { (reports : List FnReport) → HasReports reports self → IfOk result (HasReports (reports ++ report.now ∷ [])) }
+    {
+        let ReportText {
+            mut text,
+            later,
+            alloc,
+        } = self;
+        push_comma(&mut text, later)?;
+        push_function(alloc, &mut text, report)?;
+        Ok(ReportText {
+            text,
+            later: true,
+            alloc,
+        })
+    }
+
+    /// The whole output: the report, and a line feed.
+    pub fn finish(self) -> Result<Vec<u8>, NoMemory>
+        ensures { (reports : List FnReport) → HasReports reports self → IfOk result (λ bytes. bytes.items ≡ report_text reports) }
+    {
+        let ReportText { mut text, .. } = self;
+        text.push_str("]}\n")?;
+        Ok(text.into_bytes())
+    }
+}
