@@ -1,5 +1,16 @@
 pub mod Answers
 pub mod Reading
+pub mod SmallCases
+pub mod SmallConditions
+pub mod SmallJudging
+pub mod SmallReading
+pub mod SmallSource
+pub mod SmallStream
+pub mod SmallSurvey
+pub mod SmallSymbols
+pub mod SmallTypes
 pub mod Statuses
 pub mod Words
 pub mod Writing
+pub mod SmallReporting
+pub mod SmallReports

@@ -9,6 +9,7 @@
 
 mod answering;
 mod reading;
+mod small;
 mod statuses;
 #[cfg(test)]
 mod tests;

@@ -1,0 +1,12 @@
+use Rattle.std.proofs.Common.{◌≤◌, ◌-◌, length}
+use Rattle.match_top.specs.SmallReporting.{ReportedTo}
+use Rattle.match_top.proofs.small.reporting.report_all.Given as goal
+
+abbrev pub invariant-items : goal.invariant-items
+invariant-items l = record {
+  within : l.at ≤ length l.source;
+  reported : ReportedTo l.source l.at l.enums l.so_far;
+}
+
+abbrev pub decreases-items : goal.decreases-items
+decreases-items l = length l.source - l.at

@@ -1,0 +1,12 @@
+use Rattle.std.proofs.Common.{◌≤◌, ◌-◌, length}
+use Rattle.match_top.specs.SmallSurvey.{names_in, SurveyedTo}
+use Rattle.match_top.proofs.small.survey.survey.Given as goal
+
+abbrev pub invariant-items : goal.invariant-items
+invariant-items l = record {
+  within : l.at ≤ length l.source;
+  surveyed : SurveyedTo l.source l.at l.enums (names_in l.functions);
+}
+
+abbrev pub decreases-items : goal.decreases-items
+decreases-items l = length l.source - l.at
