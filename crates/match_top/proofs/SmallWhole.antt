@@ -7,12 +7,12 @@ use Rattle.std.proofs.lemmas.List.{append-nil}
 use Rattle.verdict_json.specs.declared.report.FnReport.{FnReport}
 use Rattle.match_top.specs.declared.small.reporting.Reported.{Reported}
 use Rattle.match_top.specs.SmallSource.{SmallFunction, SmallItem, SpellsFile, no_item}
-use Rattle.match_top.specs.SmallConditions.{enums_of, functions_of}
+use Rattle.match_top.specs.SmallConditions.{enums_of, functions_of, IsNotSmall}
 use Rattle.match_top.specs.SmallStream.{stream}
 use Rattle.match_top.specs.SmallCases.{count_of}
 use Rattle.match_top.specs.SmallJudging.{missing}
 use Rattle.match_top.specs.SmallTypes.{EnumMap}
-use Rattle.match_top.specs.SmallSurvey.{variants_in, variants_named, NamesFit, Surveyed, IsNotSmall}
+use Rattle.match_top.specs.SmallSurvey.{variants_in, variants_named, NamesFit, Surveyed}
 use Rattle.match_top.specs.SmallReporting.{IsReportOf, HasAllReports}
 use Rattle.match_top.specs.SmallReports.{IsReportOn, IsReported}
 use Rattle.match_top.proofs.SmallStreams.{stream_lexes}
@@ -50,7 +50,7 @@ reports_on items enums [] (r ∷ rs) is all = absurd all
 reports_on items enums (f ∷ fs) [] is all = absurd all
 reports_on items enums (f ∷ fs) (r ∷ rs) is all = (report_on items enums f r is all.0, reports_on items enums fs rs is all.1)
 
-pub reported : (source : List ℕ) (enums : EnumMap) (r : Reported) → Surveyed source enums → HasAllReports source enums r → IsReported source r
+pub reported : (source : List ℕ) (enums : EnumMap) (r : Reported) → Surveyed source enums → HasAllReports source enums r → IsReported source r.text.items r.exhaustive
 reported source enums r s h =
     let file : SpellsFile (stream source 0) h.items = subst (SpellsFile (stream source 0)) (append-nil h.items) (spelled (stream source 0) [] h.items [] h.read no_item) in
     let same : h.items ≡ s.items = whole (stream source 0) [] s.items h.items s.read refl file in
@@ -72,11 +72,11 @@ reported source enums r s h =
       };
       reports = h.reports;
       each = reports_on h.items enums (functions_of h.items) h.reports is h.each;
-      text = h.text;
+      text_is = h.text;
       exhaustive_is = h.exhaustive_is;
     }
 
-pub answered : (source : List ℕ) (enums : EnumMap) (r : Result (Option Reported) NoMemory) → Surveyed source enums → IfOk r (λ o. MatchOption o (IsNotSmall source) (HasAllReports source enums)) → IfOk r (λ o. MatchOption o (IsNotSmall source) (IsReported source))
+pub answered : (source : List ℕ) (enums : EnumMap) (r : Result (Option Reported) NoMemory) → Surveyed source enums → IfOk r (λ o. MatchOption o (IsNotSmall source) (HasAllReports source enums)) → IfOk r (λ o. MatchOption o (IsNotSmall source) (λ r. IsReported source r.text.items r.exhaustive))
 answered source enums (Ok None) s h = h
 answered source enums (Ok (Some r)) s h = reported source enums r s h
 answered source enums (Err e) s h = tt

@@ -1,8 +1,10 @@
 -- What is written for the bytes of a file, and the status that goes with it.
-use Rattle.std.specs.Prelude.{◌≡◌, ℕ, ◌+◌, List, None, take, length, nat_lt, MatchBool}
+use Rattle.std.specs.Prelude.{◌≡◌, ◌⊎◌, ℕ, ◌+◌, Bool, true, false, List, None, take, length, nat_lt, MatchBool}
 use Rattle.verdict_json.specs.Refused.{refusal_text}
 use Rattle.match_top.specs.declared.statuses.Status.{Status}
-use Rattle.match_top.specs.declared.statuses.Status.TheVariants.{Refused}
+use Rattle.match_top.specs.declared.statuses.Status.TheVariants.{Clean, Found, Refused}
+use Rattle.match_top.specs.SmallConditions.{IsNotSmall}
+use Rattle.match_top.specs.SmallReports.{IsReported}
 
 -- the greatest length of a source, in bytes (our own choice)
 unfoldable pub longest_source : ℕ
@@ -20,9 +22,20 @@ taken bytes = take most_taken bytes
 abbrev pub IsRefusedBy : ℕ → List ℕ → Status → Type 0
 IsRefusedBy rule text status = (text ≡ refusal_text (record { rule = rule; item = None; arm = None; at = None })) × (status ≡ Refused)
 
--- the text and the status of a source that is not too long
+-- the status of a report, by whether every match in it is exhaustive
+abbrev pub status_of : Bool → Status
+status_of true = Clean
+status_of false = Found
+
+-- the text is the report on a small source
+pub record IsReportedAs (source text : List ℕ) (status : Status) : Type 0 where
+  pub exhaustive : Bool
+  pub report : IsReported source text exhaustive
+  pub status_is : status ≡ status_of exhaustive
+
+-- the text and the status of a source that is not too long: a small one is judged, any other is refused by rule 90
 unfoldable pub IsJudged : List ℕ → List ℕ → Status → Type 0
-IsJudged source text status = IsRefusedBy 90 text status
+IsJudged source text status = IsReportedAs source text status ⊎ (IsNotSmall source × IsRefusedBy 90 text status)
 
 -- the text and the status of a file that has these bytes: one that is longer than a source may be is refused by rule 7
 unfoldable pub Answers : List ℕ → List ℕ → Status → Type 0

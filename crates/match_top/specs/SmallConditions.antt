@@ -77,3 +77,7 @@ pub record IsSmallSource (source : List ℕ) (items : List SmallItem) : Type 0 w
   pub lexed : Lexes source 0 tokens
   pub spelled : SpellsFile tokens items
   pub conditions : KeepsConditions items
+
+-- the source is no small one
+abbrev pub IsNotSmall : List ℕ → Type 0
+IsNotSmall source = (items : List SmallItem) → IsSmallSource source items → ⊥

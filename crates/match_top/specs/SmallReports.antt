@@ -19,7 +19,6 @@ use Rattle.match_model.specs.WitnessList.{IsWitnessList}
 use Rattle.verdict_json.specs.declared.entry.Unreachable.{Unreachable}
 use Rattle.verdict_json.specs.declared.report.FnReport.{FnReport}
 use Rattle.verdict_json.specs.Report.{report_text}
-use Rattle.match_top.specs.declared.small.reporting.Reported.{Reported}
 use Rattle.match_top.specs.SmallSource.{SmallPattern, Wildcard, Literal, Path, SmallArm, SmallFunction, SmallItem, AnEnum, AFunction}
 use Rattle.match_top.specs.SmallConditions.{SmallType, FlagType, EnumType, enums_of, functions_of, type_named, IsSmallSource}
 use Rattle.match_top.specs.SmallCases.{SmallWitness, Anything, OfFlag, OfVariant, witness_view}
@@ -117,10 +116,10 @@ pub record IsReportOn (items : List SmallItem) (f : SmallFunction) (r : FnReport
   pub witnesses_are : ShowsWitnesses items type f.arms (map witness_view r.witnesses.items)
 
 -- the report on a small source: what is reported of each function is so, in file order
-pub record IsReported (source : List ℕ) (r : Reported) : Type 0 where
+pub record IsReported (source text : List ℕ) (exhaustive : Bool) : Type 0 where
   pub items : List SmallItem
   pub small : IsSmallSource source items
   pub reports : List FnReport
   pub each : AllZip (IsReportOn items) (functions_of items) reports
-  pub text : r.text.items ≡ report_text reports
-  pub exhaustive_is : r.exhaustive ≡ list_all (λ r. r.exhaustive) reports
+  pub text_is : text ≡ report_text reports
+  pub exhaustive_is : exhaustive ≡ list_all (λ r. r.exhaustive) reports

@@ -62,10 +62,6 @@ pub record Surveyed (source : List ℕ) (enums : EnumMap) : Type 0 where
   pub names : NamesFit items
   pub map_is : (name : List ℕ) → variants_in enums name ≡ variants_named (enums_of items) name
 
--- the source is no small one
-abbrev pub IsNotSmall : List ℕ → Type 0
-IsNotSmall source = (items : List SmallItem) → IsSmallSource source items → ⊥
-
 abbrev pub is_end : List Placed → Bool
 is_end [] = true
 is_end (t ∷ ts) = false

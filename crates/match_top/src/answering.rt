@@ -1,11 +1,12 @@
 // The text that is written for the bytes of a file, with its status.
 ghost use Rattle.std.specs.Prelude.{◌≡◌, ◌≤◌, List, ℕ, length, nat_lt, IfOk};
-ghost use Rattle.match_top.specs.Answers.{Answers, IsJudged, IsRefusedBy, taken, longest_source};
+ghost use Rattle.match_top.specs.Answers.{Answers, IsJudged, IsRefusedBy, taken, longest_source, status_of};
 ghost use Rattle.match_top.specs.Statuses.{IsVerdict};
 ghost use Rattle.verdict_json.specs.Rules.{IsRule};
 
 use crate::Status;
 use crate::reading::LONGEST_SOURCE;
+use crate::small::{Reported, report};
 use match_model::NoMemory;
 use std::alloc::Global;
 use verdict_json::{Refusal, refusal_bytes};
@@ -55,12 +56,29 @@ fn refused_by(alloc: Global, rule: u32) -> Result<Answer, NoMemory>
     })
 }
 
+fn status_of(exhaustive: bool) -> Status
+    ensures status { result ≡ status_of exhaustive }
+    ensures verdict { IsVerdict result }
+{
+    if exhaustive {
+        Status::Clean
+    } else {
+        Status::Found
+    }
+}
+
 // The answer to a source that is not too long.
-#[tactic(auto, unfolding(crate::specs::Answers::IsJudged))]
+#[tactic(auto, unfolding(crate::specs::Answers::IsJudged, crate::specs::Answers::longest_source))]
 fn judged(alloc: Global, source: &[u8]) -> Result<Answer, NoMemory>
     requires { length source.now ≤ longest_source }
     ensures answers { IfOk result (λ a. IsJudged source.now a.text.items a.status) }
     ensures verdict { IfOk result (λ a. IsVerdict a.status) }
 {
-    refused_by(alloc, 90)
+    match report(alloc, source)? {
+        Some(Reported { text, exhaustive }) => Ok(Answer {
+            text,
+            status: status_of(exhaustive),
+        }),
+        None => refused_by(alloc, 90),
+    }
 }

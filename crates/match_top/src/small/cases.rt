@@ -87,7 +87,8 @@ pub fn cases_of(
     ty: &ParamType<'_>,
     arms: &[ArmItem],
 ) -> Result<Option<Vec<CaseArm>>, NoMemory>
-    ensures exact { IfOk result (λ o. option_map (λ cs. cs.items) o ≡ cases_of (type_view ty.now) (map arm_view arms.now)) }
+    ensures exact { IfOk result (λ o. option_map (λ cs. cs.items) o
+        ≡ cases_of (type_view ty.now) (map arm_view arms.now)) }
     ensures few { IfOk result (λ o. IfSome o (λ cs. vec_len cs ≡ length arms.now)) }
 {
     let mut cases = Vec::new(alloc);
@@ -139,7 +140,8 @@ fn witnesses_of<'a>(
     ty: &ParamType<'a>,
     values: &[usize],
 ) -> Result<Vec<Witness<'a>>, NoMemory>
-    ensures { IfOk result (λ list. map witness_view list.items ≡ filter_map (witness_of (type_view ty.now)) values.now) }
+    ensures { IfOk result (λ list. map witness_view list.items
+        ≡ filter_map (witness_of (type_view ty.now)) values.now) }
 {
     let mut list = Vec::new(alloc);
     for k in values {
@@ -155,7 +157,8 @@ fn missing_witnesses<'a>(
     arms: &[CaseArm],
     values: &[usize],
 ) -> Result<Vec<Witness<'a>>, NoMemory>
-    ensures { IfOk result (λ list. map witness_view list.items ≡ missing_witnesses (type_view ty.now) arms.now values.now) }
+    ensures { IfOk result (λ list. map witness_view list.items
+        ≡ missing_witnesses (type_view ty.now) arms.now values.now) }
 {
     if arms.is_empty() && !values.is_empty() {
         let mut list = Vec::new(alloc);

@@ -105,7 +105,8 @@ fn note(
 
 // The values that are not seen, ascending.
 fn unseen(alloc: Global, seen: &Seen, count: usize) -> Result<Vec<usize>, NoMemory>
-    ensures { IfOk result (λ list. list.items ≡ those_below count (λ k. not (in_seen seen.now.values.keys seen.now.all k))) }
+    ensures { IfOk result (λ list. list.items
+        ≡ those_below count (λ k. not (in_seen seen.now.values.keys seen.now.all k))) }
 {
     let mut list = Vec::new(alloc);
     if seen.all {

@@ -49,7 +49,8 @@ pub enum Item {
 
 fn name(alloc: Global, source: &[u8], at: u64) -> Result<Option<(String, u64)>, NoMemory>
     requires { at ≤ length source.now }
-    ensures exact { IfOk result (λ o. option_map (λ x. (string_bytes x.0, stream source.now x.1)) o ≡ name_at (stream source.now at)) }
+    ensures exact { IfOk result (λ o. option_map (λ x. (string_bytes x.0, stream source.now x.1)) o
+        ≡ name_at (stream source.now at)) }
     ensures within { IfOk result (λ o. IfSome o (λ x. x.1 ≤ length source.now)) }
     ensures further { IfOk result (λ o. IfSome o (λ x. at < x.1)) }
 {
@@ -86,7 +87,8 @@ fn path(
     at: u64,
 ) -> Result<Option<(PatternItem, u64)>, NoMemory>
     requires { at ≤ length source.now }
-    ensures exact { IfOk result (λ o. option_map (λ x. (pattern_view x.0, stream source.now x.1)) o ≡ path_behind (string_bytes owner) (stream source.now at)) }
+    ensures exact { IfOk result (λ o. option_map (λ x. (pattern_view x.0, stream source.now x.1)) o
+        ≡ path_behind (string_bytes owner) (stream source.now at)) }
     ensures within { IfOk result (λ o. IfSome o (λ x. x.1 ≤ length source.now)) }
     ensures further { IfOk result (λ o. IfSome o (λ x. at < x.1)) }
 {
@@ -107,7 +109,8 @@ fn pattern(
     at: u64,
 ) -> Result<Option<(PatternItem, u64)>, NoMemory>
     requires { at ≤ length source.now }
-    ensures exact { IfOk result (λ o. option_map (λ x. (pattern_view x.0, stream source.now x.1)) o ≡ pattern_of (symbol_view first) (stream source.now at)) }
+    ensures exact { IfOk result (λ o. option_map (λ x. (pattern_view x.0, stream source.now x.1)) o
+        ≡ pattern_of (symbol_view first) (stream source.now at)) }
     ensures within { IfOk result (λ o. IfSome o (λ x. x.1 ≤ length source.now)) }
     ensures further { IfOk result (λ o. IfSome o (λ x. at ≤ x.1)) }
 {
@@ -123,7 +126,8 @@ fn pattern(
 #[tactic(auto, unfolding(crate::specs::SmallReading::arm_at))]
 fn arm(alloc: Global, source: &[u8], at: u64) -> Result<Option<(ArmItem, u64)>, NoMemory>
     requires { at ≤ length source.now }
-    ensures exact { IfOk result (λ o. option_map (λ x. (arm_view x.0, stream source.now x.1)) o ≡ arm_at (stream source.now at)) }
+    ensures exact { IfOk result (λ o. option_map (λ x. (arm_view x.0, stream source.now x.1)) o
+        ≡ arm_at (stream source.now at)) }
     ensures within { IfOk result (λ o. IfSome o (λ x. x.1 ≤ length source.now)) }
     ensures further { IfOk result (λ o. IfSome o (λ x. at < x.1)) }
 {
@@ -146,7 +150,8 @@ fn arm(alloc: Global, source: &[u8], at: u64) -> Result<Option<(ArmItem, u64)>, 
 // Names with commas between them, up to the closing bracket.
 fn names(alloc: Global, source: &[u8], at: u64) -> Result<Option<(Vec<String>, u64)>, NoMemory>
     requires { at ≤ length source.now }
-    ensures exact { IfOk result (λ o. option_map (λ x. (map string_bytes x.0.items, stream source.now x.1)) o ≡ list_at name_at (stream source.now at)) }
+    ensures exact { IfOk result (λ o. option_map (λ x. (map string_bytes x.0.items, stream source.now x.1)) o
+        ≡ list_at name_at (stream source.now at)) }
     ensures within { IfOk result (λ o. IfSome o (λ x. x.1 ≤ length source.now)) }
     ensures few { IfOk result (λ o. IfSome o (λ x. at + vec_len x.0 < x.1)) }
 {
@@ -173,7 +178,8 @@ fn names(alloc: Global, source: &[u8], at: u64) -> Result<Option<(Vec<String>, u
 // Arms with commas between them, up to the closing bracket.
 fn arms(alloc: Global, source: &[u8], at: u64) -> Result<Option<(Vec<ArmItem>, u64)>, NoMemory>
     requires { at ≤ length source.now }
-    ensures exact { IfOk result (λ o. option_map (λ x. (map arm_view x.0.items, stream source.now x.1)) o ≡ list_at arm_at (stream source.now at)) }
+    ensures exact { IfOk result (λ o. option_map (λ x. (map arm_view x.0.items, stream source.now x.1)) o
+        ≡ list_at arm_at (stream source.now at)) }
     ensures within { IfOk result (λ o. IfSome o (λ x. x.1 ≤ length source.now)) }
     ensures few { IfOk result (λ o. IfSome o (λ x. at + vec_len x.0 < x.1)) }
 {
@@ -201,7 +207,8 @@ fn arms(alloc: Global, source: &[u8], at: u64) -> Result<Option<(Vec<ArmItem>, u
 #[tactic(auto, unfolding(crate::specs::SmallReading::enum_behind))]
 fn enum_item(alloc: Global, source: &[u8], at: u64) -> Result<Option<(EnumItem, u64)>, NoMemory>
     requires { at ≤ length source.now }
-    ensures exact { IfOk result (λ o. option_map (λ x. (enum_view x.0, stream source.now x.1)) o ≡ enum_behind (stream source.now at)) }
+    ensures exact { IfOk result (λ o. option_map (λ x. (enum_view x.0, stream source.now x.1)) o
+        ≡ enum_behind (stream source.now at)) }
     ensures within { IfOk result (λ o. IfSome o (λ x. x.1 ≤ length source.now)) }
     ensures few { IfOk result (λ o. IfSome o (λ x. at + vec_len x.0.variants < x.1)) }
 {
@@ -227,7 +234,12 @@ struct Signature {
 #[tactic(auto, unfolding(crate::specs::SmallReading::signature_behind))]
 fn signature_at(alloc: Global, source: &[u8], at: u64) -> Result<Option<(Signature, u64)>, NoMemory>
     requires { at ≤ length source.now }
-    ensures exact { IfOk result (λ o. option_map (λ x. ((string_bytes x.0.name, string_bytes x.0.param, string_bytes x.0.ty), stream source.now x.1)) o ≡ signature_behind (stream source.now at)) }
+    ensures exact { IfOk result (λ o.
+        option_map (λ x. (
+          (string_bytes x.0.name, string_bytes x.0.param, string_bytes x.0.ty),
+          stream source.now x.1,
+        )) o
+        ≡ signature_behind (stream source.now at)) }
     ensures within { IfOk result (λ o. IfSome o (λ x. x.1 ≤ length source.now)) }
     ensures further { IfOk result (λ o. IfSome o (λ x. at < x.1)) }
 {
@@ -256,7 +268,8 @@ fn signature_at(alloc: Global, source: &[u8], at: u64) -> Result<Option<(Signatu
 #[tactic(auto, unfolding(crate::specs::SmallReading::scrutinee_behind))]
 fn scrutinee(alloc: Global, source: &[u8], at: u64) -> Result<Option<(String, u64)>, NoMemory>
     requires { at ≤ length source.now }
-    ensures exact { IfOk result (λ o. option_map (λ x. (string_bytes x.0, stream source.now x.1)) o ≡ scrutinee_behind (stream source.now at)) }
+    ensures exact { IfOk result (λ o. option_map (λ x. (string_bytes x.0, stream source.now x.1)) o
+        ≡ scrutinee_behind (stream source.now at)) }
     ensures within { IfOk result (λ o. IfSome o (λ x. x.1 ≤ length source.now)) }
     ensures further { IfOk result (λ o. IfSome o (λ x. at < x.1)) }
 {
@@ -283,7 +296,8 @@ fn function_item(
     at: u64,
 ) -> Result<Option<(FunctionItem, u64)>, NoMemory>
     requires { at ≤ length source.now }
-    ensures exact { IfOk result (λ o. option_map (λ x. (function_view x.0, stream source.now x.1)) o ≡ function_behind (stream source.now at)) }
+    ensures exact { IfOk result (λ o. option_map (λ x. (function_view x.0, stream source.now x.1)) o
+        ≡ function_behind (stream source.now at)) }
     ensures within { IfOk result (λ o. IfSome o (λ x. x.1 ≤ length source.now)) }
     ensures few { IfOk result (λ o. IfSome o (λ x. at + vec_len x.0.arms < x.1)) }
 {
@@ -320,7 +334,8 @@ fn item_behind(
     at: u64,
 ) -> Result<Option<(Item, u64)>, NoMemory>
     requires { at ≤ length source.now }
-    ensures exact { IfOk result (λ o. option_map (λ x. (item_view x.0, stream source.now x.1)) o ≡ item_of (symbol_view first) (stream source.now at)) }
+    ensures exact { IfOk result (λ o. option_map (λ x. (item_view x.0, stream source.now x.1)) o
+        ≡ item_of (symbol_view first) (stream source.now at)) }
     ensures within { IfOk result (λ o. IfSome o (λ x. x.1 ≤ length source.now)) }
     ensures few { IfOk result (λ o. IfSome o (λ x. HasFew at x.1 x.0)) }
 {
@@ -341,7 +356,8 @@ fn item_behind(
 #[tactic(auto, unfolding(crate::specs::SmallReading::item_at))]
 pub fn item_at(alloc: Global, source: &[u8], at: u64) -> Result<Option<(Item, u64)>, NoMemory>
     requires { at ≤ length source.now }
-    ensures exact { IfOk result (λ o. option_map (λ x. (item_view x.0, stream source.now x.1)) o ≡ item_at (stream source.now at)) }
+    ensures exact { IfOk result (λ o. option_map (λ x. (item_view x.0, stream source.now x.1)) o
+        ≡ item_at (stream source.now at)) }
     ensures within { IfOk result (λ o. IfSome o (λ x. x.1 ≤ length source.now)) }
     ensures few { IfOk result (λ o. IfSome o (λ x. HasFew at x.1 x.0)) }
 {

@@ -1,9 +1,10 @@
 // The second reading of a source: a report on each function, written as soon as it is judged.
 ghost use Rattle.std.specs.Prelude.{◌≡◌, ◌≤◌, ◌<◌, ◌^◌, ◌&&◌, ◌∷◌, ◌++◌, [], List, length, true, IfOk, MatchOption};
 ghost use Rattle.verdict_json.specs.declared.report.FnReport.{FnReport};
+ghost use Rattle.match_top.specs.SmallConditions.{IsNotSmall};
 ghost use Rattle.match_top.specs.SmallReading.{function_view, item_view};
 ghost use Rattle.match_top.specs.SmallTypes.{type_in};
-ghost use Rattle.match_top.specs.SmallSurvey.{Surveyed, IsNotSmall};
+ghost use Rattle.match_top.specs.SmallSurvey.{Surveyed};
 ghost use Rattle.match_top.specs.SmallReporting.{IsUntyped, IsUntypedItem, AddsReport, AddsItem, HasFewArms, HasAllReports};
 ghost use Rattle.match_top.specs.SmallReports.{IsReported};
 
@@ -112,7 +113,8 @@ fn report_all(
 /// The report on a small source, or `None` where the bytes are none.
 pub fn report(alloc: Global, source: &[u8]) -> Result<Option<Reported>, NoMemory>
     requires { length source.now < 2 ^ 32 }
-    ensures { IfOk result (λ o. MatchOption o (IsNotSmall source.now) (IsReported source.now)) }
+    ensures { IfOk result (λ o. MatchOption o (IsNotSmall source.now)
+        (λ r. IsReported source.now r.text.items r.exhaustive)) }
 {
     let Some(enums) = survey(alloc, source)? else {
         return Ok(None);

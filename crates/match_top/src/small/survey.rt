@@ -1,9 +1,9 @@
 // A first reading of a source: its items, and the names of its enums and variants.
 ghost use Rattle.std.specs.Prelude.{◌≡◌, ◌≤◌, ◌++◌, ◌∷◌, [], ℕ, Ok, true, false, not, length, map, string_bytes, IfOk, IfSome, MatchOption, if◌then◌else◌};
-ghost use Rattle.match_top.specs.SmallConditions.{is_among, all_differ};
+ghost use Rattle.match_top.specs.SmallConditions.{is_among, all_differ, IsNotSmall};
 ghost use Rattle.match_top.specs.SmallStream.{stream};
 ghost use Rattle.match_top.specs.SmallReading.{enum_view};
-ghost use Rattle.match_top.specs.SmallSurvey.{names_in, IsSetOf, variants_in, enum_fits, HasOneMore, Surveyed, IsNotSmall, is_end};
+ghost use Rattle.match_top.specs.SmallSurvey.{names_in, IsSetOf, variants_in, enum_fits, HasOneMore, Surveyed, is_end};
 
 use crate::small::reading::{EnumItem, Item, item_at};
 use crate::small::symbols::next;

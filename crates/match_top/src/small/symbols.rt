@@ -111,8 +111,8 @@ fn symbol_in(kind: TokenKind) -> Symbol
     }
 }
 
-/// The symbol at or behind a byte of the source, or `None` where only blanks stand there. Where no token stands, the rest
-/// of the source is one other symbol.
+/// The symbol at or behind a byte of the source, or `None` where only blanks stand there. Where no token stands, the
+/// rest of the source is one other symbol.
 pub fn next(alloc: Global, source: &[u8], at: u64) -> Result<Option<Spot>, NoMemory>
     requires { at ≤ length source.now }
     ensures exact { IfOk result (λ o. option_map (spot_view source.now) o ≡ head (stream source.now at)) }
