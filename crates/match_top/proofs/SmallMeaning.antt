@@ -1,5 +1,5 @@
 -- What the arms of a small source match, by number.
-use Rattle.std.proofs.Common.{◌≡◌, ◌≢◌, ℕ, zero, suc, ◌+◌, ◌<◌, Bool, true, false, cond, not, ◌||◌, List, [], ◌∷◌, map, length, Option, Some, None, refl, sym, ap, subst, ◌∙◌, ◌⊎◌, inl, inr, arith}
+use Rattle.std.proofs.Common.{◌≡◌, ◌≢◌, ℕ, zero, suc, ◌+◌, ◌<◌, Bool, true, false, cond, not, ◌||◌, ◌&&◌, List, [], ◌∷◌, map, length, Option, Some, None, refl, sym, ap, subst, ◌∙◌, ◌⊎◌, inl, inr, arith}
 use Rattle.std.specs.Prelude.{nat_eq, IsTrue, slice_get, position, option_map, unwrap_or, codes}
 use Rattle.std.specs.List.{prefix_len, position_or_len}
 use Rattle.std.specs.Str.{bytes_eq}
@@ -203,6 +203,14 @@ path_number true (Some k) c e = sym (some_is _ _ e)
 path_number true None c e = absurd cc
 path_number false o c e = absurd cc
 
+and_true : (b : Bool) → (b && true) ≡ b
+and_true true = refl
+and_true false = refl
+
+-- a variant without fields that are written matches its own number
+variant_matches : (i k : ℕ) → not (is_empty_list (cond (nat_eq i k && true) (bare_way ∷ []) [])) ≡ nat_eq k i
+variant_matches i k = ap (λ b. not (is_empty_list (cond b (bare_way ∷ []) []))) (and_true (nat_eq i k)) ∙ number_matches i i k refl
+
 -- an arm matches the values that its case takes
 pub arm_takes : (type : SmallType) (a : SmallArm) (c : Case) (k : ℕ) → case_of type a.pattern ≡ Some c → k < count_of type → arm_matches (value_of type k) (the_arm type a) ≡ takes c k
 arm_takes type a c k e lt = by_pattern type a.pattern e lt
@@ -215,7 +223,7 @@ arm_takes type a c k e lt = by_pattern type a.pattern e lt
     by_pattern FlagType (Path owner variant) e lt = absurd cc
     by_pattern (EnumType x) (Literal b) e lt = absurd cc
     by_pattern (EnumType x) (Path owner variant) e lt =
-        number_matches (unwrap_or (position (bytes_eq variant) x.variants) 0) (unwrap_or (position (bytes_eq variant) x.variants) 0) k refl
+        variant_matches (unwrap_or (position (bytes_eq variant) x.variants) 0) k
         ∙ ap (λ d. takes d k) (sym (path_number (bytes_eq owner x.name) (position (bytes_eq variant) x.variants) c e))
 
 -- arms and the cases that they take

@@ -15,7 +15,7 @@ use Rattle.match_model.specs.Contexts.{Context, Open}
 use Rattle.match_model.specs.ArenaPatterns.{de_pat, no_de_pats}
 use Rattle.match_model.specs.RustTypes.{rust_context, RustValue, item_set}
 use Rattle.match_model.specs.Pieces.{ArePieces, each_below}
-use Rattle.match_model.specs.Rows.{Head, is_wild_ctor, expand_row, starts_wild, row_rest, column_of, row_for, rows_for}
+use Rattle.match_model.specs.Rows.{Head, is_wild_ctor, expand_row, starts_wild, row_rest, column_of, specialised_heads, all_specialised}
 use Rattle.match_model.specs.WitnessList.{wrapped, HasValue, named_in, Witnesses, taken as row_there, no_row, anything, by_pieces, PieceWitnesses, no_piece, with_value, without_value, row_of, IsWitnessList, nothing_to_match, by_rows}
 use Rattle.match_top.specs.declared.small.judging.Case.{Case}
 use Rattle.match_top.specs.declared.small.judging.CaseArm.{CaseArm}
@@ -98,7 +98,7 @@ module _ (items : List SmallItem) (type : SmallType) (known : IsTypeOf items typ
       ∙ ap (λ d. takes d k) (sym (path_number (bytes_eq owner x.name) (position (bytes_eq variant) x.variants) c e))
 
   -- the row of an arm behind a piece
-  row_behind : (p : SmallPattern) (at k : ℕ) → row_for (piece_of type k) 0 (Some (de_pat (ctor_of type p) (model_type items type) at at no_de_pats []) ∷ []) ≡ cond (has_piece (ctor_of type p) (piece_of type k)) ([] ∷ []) []
+  row_behind : (p : SmallPattern) (at k : ℕ) → specialised_heads (piece_of type k) 0 (Some (de_pat (ctor_of type p) (model_type items type) at at no_de_pats []) ∷ []) ≡ cond (has_piece (ctor_of type p) (piece_of type k)) ([] ∷ []) []
   row_behind Wildcard at k = refl
   row_behind (Literal b) at k = refl
   row_behind (Path owner variant) at k = refl
@@ -112,13 +112,13 @@ module _ (items : List SmallItem) (type : SmallType) (known : IsTypeOf items typ
   left_first true c rows h = (rows, refl)
   left_first false c rows h = h
 
-  rows_left : (arms : List SmallArm) (cs : List CaseArm) (k : ℕ) → Taking type arms cs → k < count_of type → Left (taken cs k) (rows_for (piece_of type k) 0 (map arm_row arms))
+  rows_left : (arms : List SmallArm) (cs : List CaseArm) (k : ℕ) → Taking type arms cs → k < count_of type → Left (taken cs k) (all_specialised (piece_of type k) 0 (map arm_row arms))
   rows_left _ _ k no_arms lt = refl
   rows_left _ _ k (one_arm a arms c cs e at more) lt =
-      let first : row_for (piece_of type k) 0 (arm_row a) ≡ cond (takes c.case k) ([] ∷ []) [] =
+      let first : specialised_heads (piece_of type k) 0 (arm_row a) ≡ cond (takes c.case k) ([] ∷ []) [] =
       row_behind a.pattern a.at k ∙ ap (λ b. cond b ([] ∷ []) []) (piece_has type a.pattern c.case k e lt) in
-      subst (λ (rows : List Row). Left (takes c.case k || taken cs k) (rows ++ rows_for (piece_of type k) 0 (map arm_row arms))) (sym first)
-      (left_first (takes c.case k) (taken cs k) (rows_for (piece_of type k) 0 (map arm_row arms)) (rows_left arms cs k more lt))
+      subst (λ (rows : List Row). Left (takes c.case k || taken cs k) (rows ++ all_specialised (piece_of type k) 0 (map arm_row arms))) (sym first)
+      (left_first (takes c.case k) (taken cs k) (all_specialised (piece_of type k) 0 (map arm_row arms)) (rows_left arms cs k more lt))
 
   -- a piece has no parts
   no_arity : (t : SmallType) → IsTypeOf items t → (k : ℕ) → k < count_of t → cx.arity (piece_of t k) (model_type items t) ≡ 0
@@ -151,14 +151,14 @@ module _ (items : List SmallItem) (type : SmallType) (known : IsTypeOf items typ
   -- what is known of a piece, by how many parts it has
   abbrev AtArity : List Row → List (List ℕ) → ℕ → List (List MWitness) → ℕ → Type 0
   AtArity rows named k ws m =
-      Witnesses cx Has (each_below (λ i. record { type = cx.sub (piece_of type k) (model_type items type) i; sure = sure_inside (piece_of type k) true }) m ++ []) (rows_for (piece_of type k) m rows) ws
+      Witnesses cx Has (each_below (λ i. record { type = cx.sub (piece_of type k) (model_type items type) i; sure = sure_inside (piece_of type k) true }) m ++ []) (all_specialised (piece_of type k) m rows) ws
       → PW named rows (piece_of type k ∷ []) (map (wrapped (piece_of type k) named m) ws ++ [])
 
   one_piece : (arms : List SmallArm) (cs : List CaseArm) (named : List (List ℕ)) (k : ℕ) → Taking type arms cs → k < count_of type → PW named (map arm_row arms) (piece_of type k ∷ []) (part (taken cs k) k)
   one_piece arms cs named k h lt =
       let rows = map arm_row arms in
       let has : HasValue Has place named (piece_of type k) = (value_of type k, value_in items type known k lt, piece_builds type named k) in
-      let found = by_left (taken cs k) (rows_for (piece_of type k) 0 rows) (rows_left arms cs k h lt) in
+      let found = by_left (taken cs k) (all_specialised (piece_of type k) 0 rows) (rows_left arms cs k h lt) in
       let arity : cx.arity (piece_of type k) (model_type items type) ≡ 0 = no_arity type known k lt in
       let at_arity = subst (AtArity (map arm_row arms) named k found.0) arity
       (λ w. with_value named place [] rows (piece_of type k) [] found.0 [] has w (no_piece named place [] rows)) in
