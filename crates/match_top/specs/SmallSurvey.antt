@@ -5,7 +5,7 @@ use Rattle.std.specs.Str.{bytes_eq}
 use Rattle.indexmap.specs.IndexMap.{get_by_text}
 use Rattle.decl_lexer.specs.Lexing.{Placed}
 use Rattle.match_top.specs.SmallSource.{SmallEnum, SmallItem}
-use Rattle.match_top.specs.SmallConditions.{enums_of, enum_names, function_names, is_among, all_differ, AreDifferent, IsSmallSource}
+use Rattle.match_top.specs.SmallConditions.{enums_of, enum_names, function_names, is_among, all_differ, AreDifferent}
 use Rattle.match_top.specs.SmallStream.{stream}
 use Rattle.match_top.specs.SmallReading.{item_at}
 use Rattle.match_top.specs.SmallTypes.{NameSet, EnumMap}
