@@ -10,6 +10,9 @@
 //! there a shape in the column that has the piece? `laws` says what follows from its contract.
 #![tactic(auto)]
 
+pub mod laws;
 mod shape;
+mod split;
 
 pub use shape::Shape;
+pub use split::split_lengths;
