@@ -62,7 +62,7 @@ meets_by_ends r s a b p q e f t = (
 )
 
 -- a number of a range
-some_number : (low high : MEnd) → IsTrue (ends_ascend low high) → (n : ℤ) × IsTrue (in_range (record { low = low; high = high }) n)
+pub some_number : (low high : MEnd) → IsTrue (ends_ascend low high) → (n : ℤ) × IsTrue (in_range (record { low = low; high = high }) n)
 some_number Free Free p = (pos 0, refl)
 some_number Free (At b) p = (b, grind (arith, ints))
 some_number (At a) Free p = (a, grind (arith, ints))

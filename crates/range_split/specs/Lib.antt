@@ -1,3 +1,6 @@
 pub mod Numbers
 pub mod Ends
 pub mod Ranges
+pub mod Splits
+pub mod Order
+pub mod Cuts

@@ -12,10 +12,13 @@
 //! can be held.
 #![tactic(auto)]
 
+mod cut;
 mod end;
 mod num;
+mod pieces;
 mod range;
 
 pub use end::End;
 pub use num::Num;
+pub use pieces::split;
 pub use range::Range;

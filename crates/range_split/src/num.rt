@@ -1,5 +1,5 @@
 // Whole numbers.
-ghost use Rattle.std.specs.Prelude.{◌≡◌, false};
+ghost use Rattle.std.specs.Prelude.{◌≡◌, ◌<◌, ◌^◌, false};
 
 /// A whole number from -(2^128 - 1) to 2^128 - 1, by its sign and its distance from zero.
 #[derive(Clone, Copy, Debug, PartialEq, Eq)]
@@ -8,6 +8,7 @@ pub struct Num {
     /// The distance from zero.
     pub size: u128,
     pub ghost zero_is_not_negative: { size ≡ 0 → negative ≡ false },
+    pub ghost size_fits: { size < 2 ^ 128 },
 }
 
 impl Num {

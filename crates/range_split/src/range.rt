@@ -13,7 +13,7 @@ pub struct Range {
 }
 
 // Tells whether a low end is at or below a high one.
-fn ascend(low: &End, high: &End) -> bool
+pub(crate) fn ascend(low: &End, high: &End) -> bool
     ensures { result ≡ ends_ascend (plain_end low.now) (plain_end high.now) }
 {
     match (low, high) {
