@@ -23,7 +23,7 @@ lower a k n p q = grind (arith, ints)
 step_lower : (a k n : ℤ) → IsTrue (int_le a n) → IsTrue (int_le (n +ℤ pos 1) k) → IsTrue (int_le a k)
 step_lower a k n p q = grind (arith, ints)
 
-from_later : (low : MEnd) (k n : ℤ) → IsTrue (is_from low n) → IsTrue (int_le (n +ℤ pos 1) k) → IsTrue (is_from low k)
+pub from_later : (low : MEnd) (k n : ℤ) → IsTrue (is_from low n) → IsTrue (int_le (n +ℤ pos 1) k) → IsTrue (is_from low k)
 from_later Free k n p q = refl
 from_later (At a) k n p q = step_lower a k n p q
 

@@ -4,3 +4,4 @@ pub mod Ranges
 pub mod Splits
 pub mod Order
 pub mod Cuts
+pub mod Laws

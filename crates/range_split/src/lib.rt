@@ -14,6 +14,7 @@
 
 mod cut;
 mod end;
+pub mod laws;
 mod num;
 mod pieces;
 mod range;
