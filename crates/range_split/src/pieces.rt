@@ -88,7 +88,8 @@ fn pieces_between(
         }
     }
     let high = whole.high;
-    pieces.push((Range { low, high }, begun != ended))?;
+    let last = Range { low, high };
+    pieces.push((last, begun != ended))?;
     Ok(pieces)
 }
 
@@ -183,3 +184,6 @@ fn cuts_inside(alloc: Global, whole: &Range, columns: &[Range]) -> Result<Vec<Cu
     }
     Ok(cuts)
 }
+
+#[cfg(test)]
+mod tests;
