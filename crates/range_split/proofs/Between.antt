@@ -1,24 +1,20 @@
 -- The pieces between the sorted cuts of a column are its split.
-use Rattle.std.proofs.Common.{◌≡◌, ℕ, ℤ, pos, ◌+◌, ◌<◌, ◌-ℤ◌, Bool, true, false, not, ◌&&◌, ◌||◌, List, map, get_or, length, refl, arith, sym, ◌∙◌, ap, subst, IsPermutation}
+use Rattle.std.proofs.Common.{◌≡◌, ℕ, ℤ, pos, ◌+◌, ◌<◌, ◌-ℤ◌, Bool, not, ◌&&◌, ◌||◌, List, map, get_or, length, arith, sym, ◌∙◌, ap, IsPermutation}
 use Rattle.std.specs.Prelude.{IsTrue, int_le, nat_eq}
 use Rattle.std.specs.Ordering.{int_eq}
 use Rattle.std.specs.List.{All, list_any, count_by}
 use Rattle.std.proofs.lemmas.Bool.Decides.{nat_tests}
-use Rattle.std.proofs.lemmas.List.{get_or-map, length-map}
 use Rattle.std.proofs.lemmas.List.Sorted.{list_any-IsPermutation, sum_by-IsPermutation}
 use Rattle.match_model.specs.Numbers.{MRange, in_range}
-use Rattle.match_model.specs.Pieces.{IsCut, is_at, is_cut_at}
+use Rattle.match_model.specs.Pieces.{is_at, is_cut_at}
 use Rattle.range_split.specs.Ends.{ends_ascend}
 use Rattle.range_split.specs.Splits.{IsSplit}
 use Rattle.range_split.specs.Cuts.{cuts_of, has_start, begun_at, ended_at, AreBetween}
-use Rattle.range_split.proofs.Pairs.{both_true}
+use Rattle.range_split.proofs.Basics.{both_true, piece_of}
 use Rattle.range_split.proofs.Sides.{Follow-within, not_its_low}
 use Rattle.range_split.proofs.Splits.{makes_split, All-unmap}
 use Rattle.range_split.proofs.Walks.{bit}
 use Rattle.range_split.proofs.Counts.{having, cuts_at, some_counted}
-
-abbrev piece_of : MRange × Bool → MRange
-piece_of p = p.0
 
 pub between_split : (whole : MRange) (columns : List MRange) (begun : ℕ) (cuts : List (ℤ × Bool)) (pieces : List (MRange × Bool)) →
     All (λ r. IsTrue (ends_ascend r.low r.high)) columns → IsPermutation (cuts_of whole columns) cuts → begun ≡ count_by (has_start whole) columns →

@@ -1,8 +1,8 @@
 -- How many ranges have a number: those that have begun without those that have ended.
-use Rattle.std.proofs.Common.{◌≡◌, ℕ, ℤ, pos, ◌+◌, ◌<◌, ◌+ℤ◌, ◌-ℤ◌, Bool, true, false, not, cond, ◌&&◌, ◌||◌, List, [], ◌∷◌, ◌++◌, map, get_or, length, refl, arith, sym, ◌∙◌, ap, subst, zero-add, add-zero}
-use Rattle.std.specs.Prelude.{IsTrue, int_le, int_lt, nat_eq, nat_lt}
+use Rattle.std.proofs.Common.{◌≡◌, ℕ, ℤ, pos, ◌+◌, ◌+ℤ◌, ◌-ℤ◌, Bool, true, false, not, cond, ◌&&◌, ◌||◌, List, [], ◌∷◌, ◌++◌, refl, arith, sym, ◌∙◌, ap, subst, zero-add}
+use Rattle.std.specs.Prelude.{IsTrue, int_le, int_lt, nat_eq}
 use Rattle.std.specs.Ordering.{int_eq}
-use Rattle.std.specs.List.{All, list_any, count_by, flat_map}
+use Rattle.std.specs.List.{All, list_any, count_by}
 use Rattle.std.proofs.lemmas.Int.{ints}
 use Rattle.std.proofs.lemmas.Bool.Decides.{Decides-int_eq, nat_tests}
 use Rattle.std.proofs.lemmas.List.Elements.{All-nil, All-cons, All-head, All-tail, All-append}
@@ -13,9 +13,8 @@ use Rattle.match_model.specs.Constructors.{low_within}
 use Rattle.match_model.specs.Pieces.{is_at, is_cut_at}
 use Rattle.range_split.specs.Ends.{ends_ascend}
 use Rattle.range_split.specs.Cuts.{begin_cut, end_cut, cuts_of, has_start, begun_at, ended_at}
-use Rattle.range_split.proofs.Pairs.{both_true}
+use Rattle.range_split.proofs.Basics.{both_true, and_true, or_false, same_bool}
 use Rattle.range_split.proofs.Held.{not_equal}
-use Rattle.range_split.proofs.Sides.{same_bool}
 use Rattle.range_split.proofs.Following.{range_of}
 use Rattle.range_split.proofs.Walks.{bit}
 
@@ -218,10 +217,6 @@ some_counted p (x ∷ xs) =
 
 any_cut_if : (t : Bool) (a n : ℤ) (b : Bool) → list_any (λ c. int_eq n c.0) (cut_if t (a, b)) ≡ (t && int_eq n a)
 any_cut_if true a n b = or_false (int_eq n a)
-  where
-    or_false : (b : Bool) → (b || false) ≡ b
-    or_false true = refl
-    or_false false = refl
 any_cut_if false a n b = refl
 
 begins_at : (whole : MRange) (a : MEnd) (n : ℤ) → IsTrue (in_range whole (n -ℤ pos 1)) → IsTrue (in_range whole n) → list_any (λ c. int_eq n c.0) (begin_cut whole a) ≡ is_at n a
@@ -232,11 +227,6 @@ begins_at whole (At a) n p q =
     (λ t. (both_true _ _ t).1)
     (λ t. let e = (Decides-int_eq n a).0 t in and_true _ _ (subst (λ x. (in_range whole x && not (is_at x whole.low)) ≡ true) e (and_true _ _ q (off whole.low n (both_true _ _ p).0))) t)
   where
-    and_true : (a b : Bool) → IsTrue a → IsTrue b → IsTrue (a && b)
-    and_true true true p q = refl
-    and_true true false p q = q
-    and_true false b p q = p
-
     off : (low : MEnd) (n : ℤ) → IsTrue (is_from low (n -ℤ pos 1)) → not (is_at n low) ≡ true
     off Free n h = refl
     off (At l) n h = differs n l ∙ numbers l n h
@@ -254,11 +244,6 @@ ends_at whole (At b) n p q =
     and_true _ _ (subst (λ x. (in_range whole x && not (is_at x whole.high)) ≡ true) e (and_true _ _ p (off whole.high n (both_true _ _ q).1)))
     ((Decides-int_eq n (b +ℤ pos 1)).1 (behind n b e)))
   where
-    and_true : (a b : Bool) → IsTrue a → IsTrue b → IsTrue (a && b)
-    and_true true true p q = refl
-    and_true true false p q = q
-    and_true false b p q = p
-
     before : (n b : ℤ) → n ≡ b +ℤ pos 1 → n -ℤ pos 1 ≡ b
     before n b e = omega (arith, ints)
 

@@ -1,5 +1,5 @@
 -- A split is determined, and each number lies in one piece.
-use Rattle.std.proofs.Common.{◌≡◌, ℕ, ℤ, pos, ◌+◌, ◌<◌, ◌+ℤ◌, ◌-ℤ◌, Bool, true, false, ◌&&◌, ◌||◌, ◌⊎◌, inl, inr, List, [], ◌∷◌, map, length, get_or, refl, ap, sym, ◌∙◌, arith, subst}
+use Rattle.std.proofs.Common.{◌≡◌, ℕ, ℤ, pos, ◌<◌, ◌+ℤ◌, ◌-ℤ◌, Bool, true, false, ◌||◌, ◌⊎◌, inl, inr, List, [], ◌∷◌, map, length, get_or, refl, ap, sym, ◌∙◌, arith, subst}
 use Rattle.std.specs.Prelude.{IsTrue, int_le, int_lt}
 use Rattle.std.specs.Ordering.{int_eq}
 use Rattle.std.specs.List.{All, list_any}
@@ -9,16 +9,13 @@ use Rattle.std.proofs.lemmas.List.{get_or_default}
 use Rattle.std.proofs.lemmas.List.Elements.{All-head, All-tail}
 use Rattle.std.proofs.lemmas.List.Folds.{Any-from_list_any}
 use Rattle.match_model.specs.Numbers.{MEnd, Free, At, MRange, in_range, is_from, is_up_to}
-use Rattle.match_model.specs.Pieces.{Follow, last_one, one_more, is_at, IsCut, is_cut_at}
+use Rattle.match_model.specs.Pieces.{Follow, last_one, one_more, is_at}
 use Rattle.range_split.specs.Ends.{ends_ascend}
 use Rattle.range_split.specs.Splits.{IsSplit, some_has}
 use Rattle.range_split.specs.Laws.{IsInOnePiece}
-use Rattle.range_split.proofs.Pairs.{both_true}
+use Rattle.range_split.proofs.Basics.{both_true, and_true, same_bool, reflexive, back, piece_of}
 use Rattle.range_split.proofs.Following.{range_of, Follow-ascends}
-use Rattle.range_split.proofs.Sides.{not_its_low, from_later, same_bool, Follow-starts_from}
-
-abbrev piece_of : MRange × Bool → MRange
-piece_of p = p.0
+use Rattle.range_split.proofs.Sides.{not_its_low, from_later, Follow-starts_from}
 
 abbrev starts : ℤ → List MRange → Bool
 starts n ps = list_any (λ p. is_at n p.low) ps
@@ -32,40 +29,23 @@ Follow-begins : {low high : MEnd} {ps : List MRange} → Follow low high ps → 
 Follow-begins (last_one low high m h) n e = or_true (is_at n low) false e
 Follow-begins (one_more low high m rest h f) n e = or_true (is_at n low) (starts n rest) e
 
-and_true : (a b : Bool) → IsTrue a → IsTrue b → IsTrue (a && b)
-and_true true true p q = refl
-and_true true false p q = q
-and_true false b p q = p
-
 -- the end of a piece that another one follows is in the whole, and so is the next number
 end_in : (low high : MEnd) (m : ℤ) → IsTrue (is_from low m) → IsTrue (ends_ascend (At (m +ℤ pos 1)) high) → IsTrue (in_range (range_of low high) (m +ℤ pos 1 -ℤ pos 1))
-end_in low Free m p q = and_true _ _ (subst (λ x. IsTrue (is_from low x)) (back m) p) refl
+end_in low Free m p q = and_true _ _ (subst (λ x. IsTrue (is_from low x)) (sym (back m)) p) refl
+end_in low (At b) m p q = and_true _ _ (subst (λ x. IsTrue (is_from low x)) (sym (back m)) p) (below m b q)
   where
-    back : (m : ℤ) → m ≡ m +ℤ pos 1 -ℤ pos 1
-    back m = omega (arith, ints)
-end_in low (At b) m p q = and_true _ _ (subst (λ x. IsTrue (is_from low x)) (back m) p) (below m b q)
-  where
-    back : (m : ℤ) → m ≡ m +ℤ pos 1 -ℤ pos 1
-    back m = omega (arith, ints)
-
     below : (m b : ℤ) → IsTrue (int_le (m +ℤ pos 1) b) → IsTrue (int_le (m +ℤ pos 1 -ℤ pos 1) b)
     below m b h = grind (arith, ints)
 
 next_in : (low high : MEnd) (m : ℤ) → IsTrue (is_from low m) → IsTrue (ends_ascend (At (m +ℤ pos 1)) high) → IsTrue (in_range (range_of low high) (m +ℤ pos 1))
-next_in low high m p q = and_true _ _ (from_later low (m +ℤ pos 1) m p (same (m +ℤ pos 1))) (up high (m +ℤ pos 1) q)
+next_in low high m p q = and_true _ _ (from_later low (m +ℤ pos 1) m p (reflexive (m +ℤ pos 1))) (up high (m +ℤ pos 1) q)
   where
-    same : (a : ℤ) → IsTrue (int_le a a)
-    same a = grind (arith, ints)
-
     up : (high : MEnd) (n : ℤ) → IsTrue (ends_ascend (At n) high) → IsTrue (is_up_to high n)
     up Free n h = refl
     up (At b) n h = h
 
 not_start : (low : MEnd) (m : ℤ) → IsTrue (is_from low m) → is_at (m +ℤ pos 1) low ≡ false
-not_start low m h = not_its_low low (m +ℤ pos 1) (subst (λ x. IsTrue (is_from low x)) (back m) h)
-  where
-    back : (m : ℤ) → m ≡ m +ℤ pos 1 -ℤ pos 1
-    back m = omega (arith, ints)
+not_start low m h = not_its_low low (m +ℤ pos 1) (subst (λ x. IsTrue (is_from low x)) (sym (back m)) h)
 
 -- pieces that go on behind a number begin there
 starts_next : (low high : MEnd) (m : ℤ) (rest : List MRange) → IsTrue (is_from low m) → Follow (At (m +ℤ pos 1)) high rest → starts (m +ℤ pos 1) (range_of low (At m) ∷ rest) ≡ true

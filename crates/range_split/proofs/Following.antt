@@ -1,16 +1,12 @@
 -- Ranges that follow one another without a gap.
-use Rattle.std.proofs.Common.{◌≡◌, ◌≢◌, ℕ, suc, ℤ, pos, ◌+ℤ◌, ◌-ℤ◌, Bool, true, false, not, ◌&&◌, ◌||◌, List, [], ◌∷◌, refl, arith, sym, ◌∙◌, ap, subst}
-use Rattle.std.specs.Prelude.{IsTrue, int_le, int_lt}
-use Rattle.std.specs.Ordering.{int_eq}
-use Rattle.std.specs.List.{All, AllPairs, list_any}
+use Rattle.std.proofs.Common.{◌≡◌, ℤ, pos, ◌+ℤ◌, ◌||◌, List, refl, arith, ◌∙◌, ap}
+use Rattle.std.specs.Prelude.{IsTrue, int_le}
+use Rattle.std.specs.List.{list_any}
 use Rattle.std.proofs.lemmas.Int.{ints}
-use Rattle.std.proofs.lemmas.List.Elements.{All-nil, All-cons, All-head, All-tail, All-weaker}
-use Rattle.std.proofs.lemmas.List.Kept.{AllPairs-cons}
-use Rattle.match_model.specs.Numbers.{MEnd, Free, At, MRange, in_range, is_from, is_up_to}
-use Rattle.match_model.specs.Pieces.{Follow, last_one, one_more, is_at}
-use Rattle.range_split.specs.Ranges.{IsBelow}
+use Rattle.match_model.specs.Numbers.{MEnd, Free, At, MRange, in_range, is_from}
+use Rattle.match_model.specs.Pieces.{Follow, last_one, one_more}
 use Rattle.range_split.specs.Ends.{ends_ascend}
-use Rattle.range_split.proofs.Pairs.{both_true}
+use Rattle.range_split.proofs.Basics.{both_true, or_false}
 
 abbrev pub range_of : (low high : MEnd) → MRange
 range_of low high = record { low = low; high = high }
@@ -38,10 +34,6 @@ Follow-ascends (one_more low high n rest h f) = joined low high n (both_true _ _
 -- the pieces have the numbers of the whole together
 pub Follow-together : {low high : MEnd} {ps : List MRange} → Follow low high ps → (k : ℤ) → list_any (λ p. in_range p k) ps ≡ in_range (range_of low high) k
 Follow-together (last_one low high n h) k = or_false (in_range (range_of low high) k)
-  where
-    or_false : (b : Bool) → (b || false) ≡ b
-    or_false true = refl
-    or_false false = refl
 Follow-together (one_more low high n rest h f) k =
     ap (λ b. in_range (range_of low (At n)) k || b) (Follow-together f k) ∙ joined low high n k (both_true _ _ h).0 (Follow-ascends f)
   where

@@ -1,10 +1,10 @@
 -- Numbers and ranges stay among the numbers that can be held.
-use Rattle.std.proofs.Common.{◌≡◌, ℕ, ℤ, pos, negsuc, ◌<◌, ◌^◌, Bool, true, false, not, ◌&&◌, refl, arith, sym, ◌∙◌, ap}
+use Rattle.std.proofs.Common.{◌≡◌, ℕ, ℤ, ◌<◌, ◌^◌, Bool, true, false, not, ◌&&◌, refl, arith, sym, ◌∙◌}
 use Rattle.std.specs.Prelude.{IsTrue, int_le, int_lt}
 use Rattle.std.specs.Ordering.{int_eq}
 use Rattle.std.proofs.lemmas.Int.{ints}
 use Rattle.std.proofs.lemmas.Bool.Decides.{Decides-int_eq}
-use Rattle.match_model.specs.Numbers.{MEnd, Free, At, MRange, in_range, is_from, is_up_to}
+use Rattle.match_model.specs.Numbers.{At, is_from, is_up_to}
 use Rattle.match_model.specs.Constructors.{least_held, greatest_held, is_free}
 use Rattle.match_model.specs.Pieces.{is_at}
 use Rattle.range_split.specs.declared.num.Num.{Num}

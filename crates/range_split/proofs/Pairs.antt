@@ -1,10 +1,11 @@
 -- Two ranges by their ends.
-use Rattle.std.proofs.Common.{◌≡◌, ℤ, pos, Bool, true, false, cond, ◌&&◌, ◌↔◌, refl, arith, sym, ◌∙◌}
+use Rattle.std.proofs.Common.{◌≡◌, ℤ, pos, Bool, true, cond, ◌↔◌, refl, arith, sym, ◌∙◌}
 use Rattle.std.specs.Prelude.{IsTrue, int_le, int_lt}
 use Rattle.std.proofs.lemmas.Int.{ints}
 use Rattle.match_model.specs.Numbers.{MEnd, Free, At, MRange, in_range, is_from, is_up_to}
 use Rattle.range_split.specs.Ends.{ends_ascend, ends_are_apart}
 use Rattle.range_split.specs.Ranges.{Meet, IsBelow}
+use Rattle.range_split.proofs.Basics.{both_true}
 
 -- a number in both ranges, where there is one
 abbrev later_of : ℤ → ℤ → ℤ
@@ -46,11 +47,6 @@ through Free Free n p q = refl
 through Free (At b) n p q = refl
 through (At a) Free n p q = refl
 through (At a) (At b) n p q = grind (arith, ints)
-
-pub both_true : (a b : Bool) → IsTrue (a && b) → IsTrue a × IsTrue b
-both_true true true h = (refl, refl)
-both_true true false h = absurd (cc)
-both_true false b h = absurd (cc)
 
 -- two ranges share a number exactly where each begins at or before the end of the other
 pub meets_by_ends : (r s : MRange) (a b : Bool) → IsTrue (ends_ascend r.low r.high) → IsTrue (ends_ascend s.low s.high) →

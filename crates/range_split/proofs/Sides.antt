@@ -1,21 +1,20 @@
 -- Where the ranges of a column are cut, and so which of them have a piece.
-use Rattle.std.proofs.Common.{◌≡◌, ◌≢◌, ℕ, suc, ℤ, pos, ◌+ℤ◌, ◌-ℤ◌, Bool, true, false, not, cond, ◌&&◌, ◌||◌, List, [], ◌∷◌, refl, arith, sym, ◌∙◌, ap, subst}
+use Rattle.std.proofs.Common.{◌≡◌, ℤ, pos, ◌+ℤ◌, ◌-ℤ◌, Bool, true, false, ◌&&◌, ◌||◌, List, [], ◌∷◌, refl, arith, sym, ◌∙◌, ap, subst}
 use Rattle.std.specs.Prelude.{IsTrue, int_le, int_lt}
 use Rattle.std.specs.Ordering.{int_eq}
 use Rattle.std.specs.List.{All, AllPairs, list_any}
 use Rattle.std.proofs.lemmas.Int.{ints}
 use Rattle.std.proofs.lemmas.Bool.Decides.{Decides-int_eq}
-use Rattle.std.proofs.lemmas.List.Elements.{All-nil, All-cons, All-head, All-tail, All-weaker}
+use Rattle.std.proofs.lemmas.List.Elements.{All-nil, All-cons, All-weaker}
 use Rattle.std.proofs.lemmas.List.Kept.{AllPairs-cons}
-use Rattle.std.proofs.lemmas.List.Folds.{list_any_at, Any-from_list_any}
+use Rattle.std.proofs.lemmas.List.Folds.{list_any_at}
 use Rattle.match_model.specs.Numbers.{MEnd, Free, At, MRange, in_range, is_from, is_up_to}
-use Rattle.match_model.specs.Pieces.{Follow, last_one, one_more, is_at, IsCut, is_cut_at}
+use Rattle.match_model.specs.Pieces.{Follow, last_one, one_more, is_at}
 use Rattle.range_split.specs.Ranges.{IsBelow}
-use Rattle.range_split.specs.Ends.{ends_ascend}
-use Rattle.range_split.specs.Splits.{IsOnOneSide, AreToldApart, some_has}
-use Rattle.range_split.proofs.Pairs.{both_true}
+use Rattle.range_split.specs.Splits.{IsOnOneSide}
+use Rattle.range_split.proofs.Basics.{both_true, and_true, either_false, same_bool}
 use Rattle.range_split.proofs.Held.{not_equal}
-use Rattle.range_split.proofs.Following.{range_of, Follow-ascends, Follow-together}
+use Rattle.range_split.proofs.Following.{range_of, Follow-together}
 
 pub lower : (a k n : ℤ) → IsTrue (int_le a n) → IsTrue (int_le n k) → IsTrue (int_le a k)
 lower a k n p q = grind (arith, ints)
@@ -119,16 +118,7 @@ Follow-within {low} {high} {ps} f = λ i d l k h. sym (Follow-together f k) ∙ 
 
 pub none_any : {A : Type 0} (p : A → Bool) (xs : List A) → list_any p xs ≡ false → All (λ x. p x ≡ false) xs
 none_any p [] h = All-nil (λ x. p x ≡ false)
-none_any p (x ∷ xs) h = let s = both_false (p x) (list_any p xs) h in All-cons (λ x. p x ≡ false) x xs s.0 (none_any p xs s.1)
-  where
-    both_false : (a b : Bool) → (a || b) ≡ false → (a ≡ false) × (b ≡ false)
-    both_false true b h = absurd (cc)
-    both_false false b h = (refl, h)
-
-pub same_bool : (a b : Bool) → (a ≡ true → b ≡ true) → (b ≡ true → a ≡ true) → a ≡ b
-same_bool true b f g = sym (f refl)
-same_bool false true f g = g refl
-same_bool false false f g = refl
+none_any p (x ∷ xs) h = let s = either_false (p x) (list_any p xs) h in All-cons (λ x. p x ≡ false) x xs s.0 (none_any p xs s.1)
 
 convex : (p : MRange) (m k n : ℤ) → IsTrue (in_range p m) → IsTrue (in_range p n) → IsTrue (int_le m k) → IsTrue (int_le k n) → IsTrue (in_range p k)
 convex p m k n h i below above = and_true _ _ (from p.low m k (both_true _ _ h).0 below) (up_to p.high k n (both_true _ _ i).1 above)
@@ -141,18 +131,9 @@ convex p m k n h i below above = and_true _ _ (from p.low m k (both_true _ _ h).
     up_to Free k n p q = refl
     up_to (At b) k n p q = grind (arith, ints)
 
-    and_true : (a b : Bool) → IsTrue a → IsTrue b → IsTrue (a && b)
-    and_true true true p q = refl
-    and_true true false p q = q
-    and_true false b p q = p
-
 -- no end of the range stands inside the piece
 abbrev pub HasNoEndIn : (p r : MRange) → Type 0
 HasNoEndIn p r = (k : ℤ) → IsTrue (in_range p (k -ℤ pos 1)) → IsTrue (in_range p k) → (is_at k r.low || is_at (k -ℤ pos 1) r.high) ≡ false
-
-either_false : (a b : Bool) → (a || b) ≡ false → (a ≡ false) × (b ≡ false)
-either_false true b h = absurd (cc)
-either_false false b h = (refl, h)
 
 module _ (p : MRange) where
   low_side : (low : MEnd) → ((k : ℤ) → IsTrue (in_range p (k -ℤ pos 1)) → IsTrue (in_range p k) → is_at k low ≡ false) →

@@ -1,5 +1,5 @@
 -- Cuts sorted by their key ascend.
-use Rattle.std.proofs.Common.{◌≡◌, ℕ, zero, suc, ℤ, pos, ◌+◌, ◌<◌, ◌≤◌, Bool, true, false, not, List, [], ◌∷◌, map, get_or, length, refl, arith, sym, ◌∙◌, ap, subst, add-one}
+use Rattle.std.proofs.Common.{◌≡◌, ℕ, zero, suc, ◌<◌, Bool, true, false, List, [], ◌∷◌, get_or, length, arith, subst, add-one}
 use Rattle.std.specs.Prelude.{IsTrue, int_le}
 use Rattle.std.specs.List.{All}
 use Rattle.std.specs.List.Sorted.{IsSortedByKey}
@@ -13,7 +13,7 @@ use Rattle.match_model.specs.Numbers.{MEnd, At, is_from}
 use Rattle.range_split.specs.declared.cut.Cut.{Cut}
 use Rattle.range_split.specs.Numbers.{signed, num_value}
 use Rattle.range_split.specs.Order.{key_by, order_key}
-use Rattle.range_split.specs.Cuts.{plain_cut, plain_cuts, Rise}
+use Rattle.range_split.specs.Cuts.{plain_cuts, Rise}
 
 -- the order of two keys
 abbrev pub key_cmp : Reverse ℕ × ℕ → Reverse ℕ × ℕ → Ordering

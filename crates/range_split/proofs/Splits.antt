@@ -1,32 +1,24 @@
 -- Pieces that are cut at the ends of a column's ranges, with true flags, are a split.
-use Rattle.std.proofs.Common.{◌≡◌, ◌≢◌, ℕ, zero, suc, ℤ, pos, ◌+◌, ◌<◌, ◌+ℤ◌, ◌-ℤ◌, Bool, true, false, not, cond, ◌&&◌, ◌||◌, List, [], ◌∷◌, map, length, get_or, refl, arith, sym, ◌∙◌, ap, subst, add-one}
-use Rattle.std.specs.Prelude.{IsTrue, int_le, int_lt}
+use Rattle.std.proofs.Common.{◌≡◌, ℕ, zero, suc, ℤ, pos, ◌<◌, ◌+ℤ◌, ◌-ℤ◌, Bool, true, false, cond, ◌&&◌, ◌||◌, List, [], ◌∷◌, map, length, get_or, refl, arith, sym, ◌∙◌, ap, subst, add-one}
+use Rattle.std.specs.Prelude.{IsTrue, int_le}
 use Rattle.std.specs.Ordering.{int_eq}
-use Rattle.std.specs.List.{All, AllPairs, AllAdjacentBelow, Any, Contains, list_any}
+use Rattle.std.specs.List.{All, list_any}
 use Rattle.std.proofs.lemmas.Int.{ints}
 use Rattle.std.proofs.lemmas.Bool.Decides.{Decides-int_eq}
-use Rattle.std.proofs.lemmas.List.{get_or-map, get_or_default, length-map}
-use Rattle.std.proofs.lemmas.List.Elements.{All-nil, All-cons, All-head, All-tail, All-weaker}
+use Rattle.std.proofs.lemmas.List.{get_or-map, length-map}
+use Rattle.std.proofs.lemmas.List.Elements.{All-nil, All-cons, All-head, All-tail}
 use Rattle.std.proofs.lemmas.List.Folds.{list_any_at, Any-from_list_any}
 use Rattle.match_model.specs.Numbers.{MEnd, Free, At, MRange, in_range, is_from, is_up_to}
 use Rattle.match_model.specs.Constructors.{low_within, high_within}
 use Rattle.match_model.specs.Pieces.{Follow, last_one, one_more, is_at, IsCut, is_cut_at}
 use Rattle.range_split.specs.Ranges.{IsBelow}
 use Rattle.range_split.specs.Ends.{ends_ascend}
-use Rattle.range_split.specs.Splits.{IsOnOneSide, AreToldApart, some_has, IsSplit}
-use Rattle.range_split.proofs.Pairs.{both_true}
-use Rattle.range_split.proofs.Following.{range_of, Follow-ascends, Follow-together}
-use Rattle.range_split.proofs.Sides.{Follow-pairs, Follow-inside, Follow-within, none_any, same_bool, one_side, HasNoEndIn}
-
-and_true : (a b : Bool) → IsTrue a → IsTrue b → IsTrue (a && b)
-and_true true true p q = refl
-and_true true false p q = q
-and_true false b p q = p
+use Rattle.range_split.specs.Splits.{IsOnOneSide, AreToldApart, IsSplit}
+use Rattle.range_split.proofs.Basics.{both_true, and_true, same_bool, reflexive, back, piece_of}
+use Rattle.range_split.proofs.Following.{range_of, Follow-together}
+use Rattle.range_split.proofs.Sides.{Follow-pairs, Follow-inside, Follow-within, none_any, one_side}
 
 -- ---- which ranges have a piece
-
-reflexive : (a : ℤ) → IsTrue (int_le a a)
-reflexive a = grind (arith, ints)
 
 abbrev lesser : ℤ → ℤ → ℤ
 lesser a n = cond (int_le a n) (a -ℤ pos 1) n
@@ -230,12 +222,6 @@ module _ (whole : MRange) (columns ps : List MRange) (up : All (λ r. IsTrue (en
       let side_p : IsOnOneSide p r = subst (IsOnOneSide p) found.3 (sides_of k d (omega arith) found.0 r found.2) in
       let side_q : IsOnOneSide q r = subst (IsOnOneSide q) found.3 (sides_of (suc k) d l found.0 r found.2) in
       (r, (found.0, found.2, found.3), λ m n h i e. apart_at r t.at up_r found.4 (side_p t.at m t.in_first h ∙ e ∙ side_q n next i t.in_second))
-    where
-      back : (m : ℤ) → m +ℤ pos 1 -ℤ pos 1 ≡ m
-      back m = omega (arith, ints)
-
-abbrev piece_of : MRange × Bool → MRange
-piece_of p = p.0
 
 -- pieces cut at the ends of the column's ranges, with flags that are true of each of their numbers, are a split
 pub makes_split : (whole : MRange) (columns : List MRange) (pieces : List (MRange × Bool)) → All (λ r. IsTrue (ends_ascend r.low r.high)) columns →

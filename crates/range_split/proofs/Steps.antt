@@ -1,15 +1,14 @@
 -- One cut more of the walk over ascending cuts.
-use Rattle.std.proofs.Common.{◌≡◌, ℕ, ℤ, pos, ◌+◌, ◌<◌, ◌+ℤ◌, ◌-ℤ◌, Bool, true, false, not, List, [], ◌∷◌, ◌++◌, map, drop, get_or, length, refl, arith, sym, ◌∙◌, ap, subst}
+use Rattle.std.proofs.Common.{◌≡◌, ℕ, ℤ, pos, ◌+◌, ◌+ℤ◌, ◌-ℤ◌, Bool, true, false, not, List, [], ◌∷◌, ◌++◌, arith, sym, ◌∙◌, ap}
 use Rattle.std.specs.Prelude.{IsTrue, nat_eq}
-use Rattle.std.specs.List.{All}
 use Rattle.std.proofs.lemmas.Int.{ints}
-use Rattle.std.proofs.lemmas.List.{map-append, append_assoc, drop_more, drop_all}
+use Rattle.std.proofs.lemmas.List.{map-append, append_assoc}
 use Rattle.match_model.specs.Numbers as model
 use Rattle.match_model.specs.Numbers.{MEnd, MRange, is_up_to}
 use Rattle.match_model.specs.Pieces.{is_at}
 use Rattle.range_split.specs.declared.cut.Cut.{Cut}
 use Rattle.range_split.specs.declared.end.End.{End}
-use Rattle.range_split.specs.declared.end.End.TheVariants.{Free, At}
+use Rattle.range_split.specs.declared.end.End.TheVariants.{At}
 use Rattle.range_split.specs.declared.range.Range.{Range}
 use Rattle.range_split.specs.Numbers.{num_value}
 use Rattle.range_split.specs.Ends.{plain_end, ends_ascend}

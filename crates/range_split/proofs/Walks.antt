@@ -1,17 +1,18 @@
 -- The pieces between ascending cuts.
-use Rattle.std.proofs.Common.{◌≡◌, ℕ, ℤ, pos, ◌+◌, ◌+ℤ◌, ◌-ℤ◌, Bool, true, false, not, cond, ◌&&◌, ◌||◌, List, [], ◌∷◌, map, get_or, refl, arith, sym, ◌∙◌, ap, subst, add-zero, zero-add}
+use Rattle.std.proofs.Common.{◌≡◌, ℕ, ℤ, pos, ◌+◌, ◌+ℤ◌, ◌-ℤ◌, Bool, true, false, not, cond, ◌&&◌, ◌||◌, List, [], ◌∷◌, map, refl, arith, sym, ◌∙◌, ap, subst, add-zero, zero-add}
 use Rattle.std.specs.Prelude.{IsTrue, int_le, int_lt, nat_eq}
 use Rattle.std.specs.Ordering.{int_eq}
-use Rattle.std.specs.List.{All, list_any, count_by}
+use Rattle.std.specs.List.{All, list_any}
 use Rattle.std.proofs.lemmas.Int.{ints}
 use Rattle.std.proofs.lemmas.Bool.Decides.{Decides-int_eq}
-use Rattle.std.proofs.lemmas.List.Elements.{All-nil, All-cons, All-head, All-tail, All-weaker}
+use Rattle.std.proofs.lemmas.List.Elements.{All-nil, All-cons, All-head, All-tail}
 use Rattle.std.proofs.lemmas.List.Sums.{sum_by-cons}
 use Rattle.match_model.specs.Numbers.{MEnd, Free, At, MRange, in_range, is_from, is_up_to}
 use Rattle.match_model.specs.Pieces.{Follow, last_one, one_more, is_at}
 use Rattle.range_split.specs.Ends.{ends_ascend}
 use Rattle.range_split.specs.Cuts.{Rise, begun_at, ended_at, AreBetween}
-use Rattle.range_split.proofs.Pairs.{both_true, some_number}
+use Rattle.range_split.proofs.Basics.{both_true, and_true, reflexive, piece_of}
+use Rattle.range_split.proofs.Pairs.{some_number}
 use Rattle.range_split.proofs.Held.{not_equal}
 use Rattle.range_split.proofs.Following.{range_of}
 
@@ -57,17 +58,6 @@ before_cut (At a) n p q = numbers a n p (not_equal n a q)
 pub ascend_to : (high : MEnd) (n : ℤ) → IsTrue (is_up_to high n) → IsTrue (ends_ascend (At n) high)
 ascend_to Free n h = refl
 ascend_to (At b) n h = h
-
-reflexive : (a : ℤ) → IsTrue (int_le a a)
-reflexive a = grind (arith, ints)
-
-and_true : (a b : Bool) → IsTrue a → IsTrue b → IsTrue (a && b)
-and_true true true p q = refl
-and_true true false p q = q
-and_true false b p q = p
-
-abbrev piece_of : MRange × Bool → MRange
-piece_of p = p.0
 
 by_place : (t : Bool) (P : Type 0) → (t ≡ true → P) → (t ≡ false → P) → P
 by_place true P f g = f refl

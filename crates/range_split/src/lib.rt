@@ -4,8 +4,8 @@
 //! apart and others not: where a range begins, or behind where one ends, the numbers are cut. Between two cuts no range
 //! of the column begins or ends, so each range has all of such a piece or nothing of it.
 //!
-//! `split` sorts the cuts once and walks them in order. It counts how many ranges have begun and how many have ended, so
-//! it knows of each piece whether some range has it without trying every range. `laws` says what follows from its
+//! `split` sorts the cuts once and walks them in order. It counts how many ranges have begun and how many have ended,
+//! so it knows of each piece whether some range has it without trying every range. `laws` says what follows from its
 //! contract.
 //!
 //! Numbers (`Num`) go from -(2^128 - 1) to 2^128 - 1, so that the literals of every integer type and their neighbours

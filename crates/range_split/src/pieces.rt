@@ -41,7 +41,8 @@ pub fn split(
 fn sorted_cuts(alloc: Global, whole: &Range, columns: &[Range]) -> Result<Vec<Cut>, NoMemory>
     requires below { All (λ r. HasRoomBelow (plain_range whole.now) (plain_range r)) columns.now }
     requires above { All (λ r. HasRoomAbove (plain_range whole.now) (plain_range r)) columns.now }
-    ensures same { IfOk result (λ v. IsPermutation (cuts_of (plain_range whole.now) (plain_ranges columns.now)) (plain_cuts v.items)) }
+    ensures same { IfOk result
+        (λ v. IsPermutation (cuts_of (plain_range whole.now) (plain_ranges columns.now)) (plain_cuts v.items)) }
     ensures rising { IfOk result (λ v. Rise (plain_end whole.now.low) (plain_cuts v.items)) }
 {
     let mut cuts = cuts_inside(alloc, whole, columns)?;
@@ -124,7 +125,8 @@ fn starts(whole: &Range, column: &Range) -> bool
 // The cut before a range of the column, where it begins inside the whole.
 fn cut_before(whole: &Range, column: &Range) -> Option<Cut>
     requires { HasRoomBelow (plain_range whole.now) (plain_range column.now) }
-    ensures { option_to_list (option_map plain_cut result) ≡ begin_cut (plain_range whole.now) (plain_end column.now.low) }
+    ensures { option_to_list (option_map plain_cut result)
+        ≡ begin_cut (plain_range whole.now) (plain_end column.now.low) }
 {
     match column.low {
         End::Free => None,
@@ -147,7 +149,8 @@ fn cut_before(whole: &Range, column: &Range) -> Option<Cut>
 // The cut behind a range of the column, where it ends inside the whole.
 fn cut_behind(whole: &Range, column: &Range) -> Option<Cut>
     requires { HasRoomAbove (plain_range whole.now) (plain_range column.now) }
-    ensures { option_to_list (option_map plain_cut result) ≡ end_cut (plain_range whole.now) (plain_end column.now.high) }
+    ensures { option_to_list (option_map plain_cut result)
+        ≡ end_cut (plain_range whole.now) (plain_end column.now.high) }
 {
     match column.high {
         End::Free => None,

@@ -1,12 +1,13 @@
 -- The one piece of rows of one length, as a split of lengths.
-use Rattle.std.proofs.Common.{◌≡◌, ℕ, suc, ◌+◌, ◌-◌, ◌<◌, ◌≤◌, max, Bool, true, false, not, cond, ◌||◌, List, [], ◌∷◌, map, length, get_or, refl, ap, sym, ◌∙◌, arith, subst, Option, Some}
+use Rattle.std.proofs.Common.{◌≡◌, ℕ, suc, ◌+◌, ◌≤◌, max, Bool, true, false, not, cond, ◌||◌, List, [], ◌∷◌, map, length, get_or, refl, ap, sym, ◌∙◌, arith, subst, Some}
 use Rattle.std.specs.Prelude.{nat_eq, nat_le, nat_lt, IsTrue}
-use Rattle.std.specs.List.{All, AllPairs, list_any}
-use Rattle.std.proofs.lemmas.List.Elements.{All-nil, All-cons, All-head, All-tail, All-weaker, All-get_or}
+use Rattle.std.specs.List.{All, list_any}
+use Rattle.std.proofs.lemmas.List.Elements.{All-nil, All-cons, All-head, All-weaker}
 use Rattle.std.proofs.lemmas.Bool.Decides.{nat_tests}
-use Rattle.match_model.specs.Constructors.{MShape, FixedShape, LongerShape, RowCtor, covers, shape_has, allows_length}
+use Rattle.match_model.specs.Constructors.{MShape, FixedShape, LongerShape, RowCtor, covers, shape_has}
 use Rattle.match_model.specs.Pieces.{fixed_end, longest_front, longest_back, is_fixed, array_piece}
-use Rattle.slice_split.specs.Lengths.{IsSplit, some_has, IsOnOneSide, HasRoomFor, IsShorter}
+use Rattle.slice_split.specs.Lengths.{IsSplit, some_has, IsOnOneSide, HasRoomFor}
+use Rattle.slice_split.proofs.Below.{same_length, same_test, at_most, test_le}
 use Rattle.slice_split.proofs.Columns.{IsWithin, within_ends}
 
 pub some_fixed : (columns : List MShape) → list_any is_fixed (map RowCtor columns) ≡ nat_lt 0 (fixed_end (map RowCtor columns))
@@ -27,18 +28,6 @@ any_of_all p (x ∷ xs) h = some (length xs) ∙ sym (ap (λ b. b || list_any p 
 
 single : {A : Type 0} (P : A → Type 0) (x : A) → P x → All P (x ∷ [])
 single P x h = All-cons P x [] h (All-nil P)
-
-same_length : (k m : ℕ) → nat_eq k m ≡ true → k ≡ m
-same_length k m h = grind (arith, nat_tests)
-
-same_test : (k : ℕ) → nat_eq k k ≡ true
-same_test k = grind (arith, nat_tests)
-
-at_most : (k m : ℕ) → nat_le k m ≡ true → k ≤ m
-at_most k m h = grind (arith, nat_tests)
-
-test_le : (k m : ℕ) → k ≤ m → nat_le k m ≡ true
-test_le k m h = grind (arith, nat_tests)
 
 fixed_split : (columns : List MShape) (n : ℕ) (flag : Bool) → All (λ s. IsTrue (covers s n)) columns → flag ≡ not (nat_eq (length columns) 0) →
     array_piece n (map RowCtor columns) ≡ RowCtor (FixedShape n) → IsSplit (Some n) columns ((FixedShape n, flag) ∷ [])

@@ -1,6 +1,6 @@
--- Lists made by a function of the numbers below another, and lists made by a function of each element.
-use Rattle.std.proofs.Common.{◌≡◌, ℕ, zero, suc, ◌+◌, ◌<◌, ◌≤◌, Bool, true, false, ◌||◌, List, [], ◌∷◌, ◌++◌, map, length, get_or, refl, ap, sym, ◌∙◌, arith, subst}
-use Rattle.std.specs.Prelude.{nat_lt}
+-- Tests of lengths, and lists made by a function of the numbers below another or of each element.
+use Rattle.std.proofs.Common.{◌≡◌, ℕ, zero, suc, ◌<◌, ◌≤◌, Bool, true, false, ◌||◌, List, [], ◌∷◌, ◌++◌, map, length, get_or, refl, ap, sym, ◌∙◌, arith, subst}
+use Rattle.std.specs.Prelude.{nat_eq, nat_le, nat_lt}
 use Rattle.std.specs.List.{All, AllPairs, list_any}
 use Rattle.std.proofs.lemmas.List.{map-append, get_or-map, length-map}
 use Rattle.std.proofs.lemmas.List.Elements.{All-push, All-get_or, All-nil}
@@ -8,6 +8,18 @@ use Rattle.std.proofs.lemmas.List.Quantifiers.{all_pairs_push}
 use Rattle.std.proofs.lemmas.List.Folds.{list_any-append}
 use Rattle.std.proofs.lemmas.Bool.Decides.{nat_tests}
 use Rattle.match_model.specs.Pieces.{each_below}
+
+pub same_length : (k m : ℕ) → nat_eq k m ≡ true → k ≡ m
+same_length k m h = grind (arith, nat_tests)
+
+pub at_most : (k m : ℕ) → nat_le k m ≡ true → k ≤ m
+at_most k m h = grind (arith, nat_tests)
+
+pub test_le : (k m : ℕ) → k ≤ m → nat_le k m ≡ true
+test_le k m h = grind (arith, nat_tests)
+
+pub same_test : (k : ℕ) → nat_eq k k ≡ true
+same_test k = grind (arith, nat_tests)
 
 pub map-map : {A B C : Type 0} (g : B → C) (f : A → B) (xs : List A) → map g (map f xs) ≡ map (λ x. g (f x)) xs
 map-map g f [] = refl

@@ -1,11 +1,11 @@
 -- What the shapes of a column name at most.
-use Rattle.std.proofs.Common.{◌≡◌, ℕ, ◌+◌, ◌<◌, ◌≤◌, max, Bool, true, false, ◌||◌, List, [], ◌∷◌, map, refl, ap, sym, ◌∙◌, arith}
-use Rattle.std.specs.Prelude.{nat_eq, nat_le, nat_lt}
+use Rattle.std.proofs.Common.{◌≡◌, ℕ, ◌+◌, ◌<◌, ◌≤◌, max, Bool, true, false, ◌||◌, List, [], ◌∷◌, map, refl, ap, ◌∙◌, arith}
+use Rattle.std.specs.Prelude.{nat_eq, nat_le}
 use Rattle.std.specs.List.{All, list_any}
 use Rattle.std.proofs.lemmas.List.Elements.{All-nil, All-cons, All-weaker}
 use Rattle.std.proofs.lemmas.Bool.Decides.{nat_tests}
-use Rattle.match_model.specs.Constructors.{MShape, FixedShape, LongerShape, RowCtor, covers, shape_has, least_length}
-use Rattle.match_model.specs.Pieces.{fixed_end, longest_front, longest_back, is_fixed}
+use Rattle.match_model.specs.Constructors.{MShape, FixedShape, LongerShape, RowCtor}
+use Rattle.match_model.specs.Pieces.{fixed_end, longest_front, longest_back}
 use Rattle.slice_split.specs.Lengths.{some_has, is_fixed_at, is_longer_at}
 
 -- the shape is within these ends

@@ -1,5 +1,5 @@
 -- The pieces that the code makes, as a split of lengths.
-use Rattle.std.proofs.Common.{◌≡◌, ℕ, ◌+◌, ◌-◌, ◌^◌, ◌<◌, ◌≤◌, max, Bool, List, [], ◌∷◌, ◌++◌, map, length, refl, ap, sym, ◌∙◌, arith, subst, None}
+use Rattle.std.proofs.Common.{◌≡◌, ℕ, ◌+◌, ◌-◌, ◌^◌, ◌<◌, ◌≤◌, max, Bool, List, [], ◌∷◌, ◌++◌, map, length, ap, sym, ◌∙◌, arith, subst, None}
 use Rattle.std.specs.Prelude.{nat_le}
 use Rattle.std.specs.List.{All, list_any}
 use Rattle.std.proofs.lemmas.List.{map-append}
@@ -7,11 +7,11 @@ use Rattle.std.proofs.lemmas.List.Elements.{All-push, All-map}
 use Rattle.match_model.specs.Constructors.{MShape, FixedShape, LongerShape, RowCtor}
 use Rattle.match_model.specs.Pieces.{each_below, fixed_end, longest_front, longest_back}
 use Rattle.slice_split.specs.declared.shape.Shape.{Shape}
-use Rattle.slice_split.specs.declared.shape.Shape.TheVariants.{Fixed, Longer}
+use Rattle.slice_split.specs.declared.shape.Shape.TheVariants.{Longer}
 use Rattle.slice_split.specs.Shapes.{plain_shape, plain_shapes, plain_pieces}
 use Rattle.slice_split.specs.Lengths.{IsSplit, some_has, AreMarks, is_marked, is_longer_at}
-use Rattle.slice_split.proofs.Below.{map-map, All-unmap}
-use Rattle.slice_split.proofs.Splits.{every_split, short_flags, last_flag, up_to}
+use Rattle.slice_split.proofs.Below.{map-map}
+use Rattle.slice_split.proofs.Splits.{every_split, short_flags, last_flag}
 
 -- what `every_length` computes, part by part
 pub record Computes (columns : List Shape) (short all : List (Shape × Bool)) (marks : List Bool) (least end front back : ℕ) (flag : Bool) : Type 0 where

@@ -1,5 +1,5 @@
 -- The list of pieces and its flags make a split of lengths.
-use Rattle.std.proofs.Common.{◌≡◌, ℕ, ◌+◌, ◌-◌, ◌^◌, ◌<◌, ◌≤◌, max, Bool, true, false, ◌||◌, List, [], ◌∷◌, ◌++◌, map, length, get_or, refl, ap, sym, ◌∙◌, arith, subst, Option, Some, None}
+use Rattle.std.proofs.Common.{◌≡◌, ℕ, ◌+◌, ◌-◌, ◌^◌, ◌<◌, ◌≤◌, Bool, true, false, ◌||◌, List, [], ◌∷◌, ◌++◌, map, get_or, refl, ap, sym, ◌∙◌, arith, subst, None}
 use Rattle.std.specs.Prelude.{nat_eq, nat_le, nat_lt, IsTrue}
 use Rattle.std.specs.List.{All, AllPairs, list_any}
 use Rattle.std.proofs.lemmas.List.{map-append}
@@ -7,27 +7,15 @@ use Rattle.std.proofs.lemmas.List.Elements.{All-push, All-get_or, All-weaker}
 use Rattle.std.proofs.lemmas.List.Quantifiers.{all_pairs_push}
 use Rattle.std.proofs.lemmas.List.Folds.{list_any-append}
 use Rattle.std.proofs.lemmas.Bool.Decides.{nat_tests}
-use Rattle.match_model.specs.Constructors.{MShape, FixedShape, LongerShape, MCtor, RowCtor, covers, shape_has}
+use Rattle.match_model.specs.Constructors.{MShape, FixedShape, LongerShape, RowCtor, covers, shape_has}
 use Rattle.match_model.specs.Pieces.{each_below, fixed_end, longest_front, longest_back, lengths_end, slice_pieces}
 use Rattle.slice_split.specs.Lengths.{IsSplit, some_has, IsShorter, IsOnOneSide, HasRoomFor, AreMarks, is_marked, is_fixed_at, is_longer_at}
-use Rattle.slice_split.proofs.Below.{map-map, map-each_below, All-each_below, AllPairs-each_below, list_any-each_below, list_any-map, All-unmap, AllPairs-unmap}
-use Rattle.slice_split.proofs.Columns.{IsWithin, within_ends, some_has_fixed, some_has_longer, none_fixed}
+use Rattle.slice_split.proofs.Below.{same_length, same_test, at_most, test_le, map-map, map-each_below, All-each_below, AllPairs-each_below, list_any-each_below, list_any-map, All-unmap, AllPairs-unmap}
+use Rattle.slice_split.proofs.Columns.{IsWithin, within_ends, some_has_fixed, some_has_longer}
 
 -- the shapes of the pieces: each length below the end, and all from there on
 abbrev pub up_to : (end back : ℕ) → List MShape
 up_to end back = each_below FixedShape end ++ LongerShape (end - back) back ∷ []
-
-same_length : (k m : ℕ) → nat_eq k m ≡ true → k ≡ m
-same_length k m h = grind (arith, nat_tests)
-
-at_most : (k m : ℕ) → nat_le k m ≡ true → k ≤ m
-at_most k m h = grind (arith, nat_tests)
-
-test_le : (k m : ℕ) → k ≤ m → nat_le k m ≡ true
-test_le k m h = grind (arith, nat_tests)
-
-same_test : (k : ℕ) → nat_eq k k ≡ true
-same_test k = grind (arith, nat_tests)
 
 not_same : (k m : ℕ) → k < m → nat_eq k m ≡ false
 not_same k m h = grind (arith, nat_tests)

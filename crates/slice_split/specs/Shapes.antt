@@ -1,5 +1,5 @@
 -- The shape of a row as the definitions have it.
-use Rattle.std.specs.Prelude.{Bool, List, map, ℕ, ◌^◌, ◌≤◌}
+use Rattle.std.specs.Prelude.{Bool, List, map, ◌^◌, ◌≤◌}
 use Rattle.match_model.specs.Constructors.{MShape, FixedShape, LongerShape, least_length}
 use Rattle.slice_split.specs.declared.shape.Shape.{Shape}
 use Rattle.slice_split.specs.declared.shape.Shape.TheVariants.{Fixed, Longer}

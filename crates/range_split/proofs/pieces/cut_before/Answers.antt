@@ -1,11 +1,10 @@
-use Rattle.std.proofs.Common.{sym, ap, ◌∙◌, subst, rules}
+use Rattle.std.proofs.Common.{sym, ◌∙◌, subst}
 use Rattle.std.specs.Prelude.{IsTrue, not, ◌&&◌}
 use Rattle.match_model.specs.Constructors.{is_free, least_held}
 use Rattle.match_model.specs.Pieces.{is_at}
-use Rattle.range_split.specs.Numbers.{num_value}
 use Rattle.range_split.specs.declared.end.End.{End}
 use Rattle.range_split.specs.Ends.{plain_end}
-use Rattle.range_split.proofs.Pairs.{both_true}
+use Rattle.range_split.proofs.Basics.{both_true}
 use Rattle.range_split.proofs.Held.{above_least}
 use Rattle.range_split.proofs.pieces.cut_before.Goals as goal
 

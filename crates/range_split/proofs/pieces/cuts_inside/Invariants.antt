@@ -1,4 +1,4 @@
-use Rattle.std.proofs.Common.{◌≡◌, ◌++◌, take, drop}
+use Rattle.std.proofs.Common.{◌≡◌, ◌++◌, drop}
 use Rattle.range_split.specs.Ranges.{plain_range}
 use Rattle.range_split.specs.Splits.{plain_ranges}
 use Rattle.range_split.specs.Cuts.{plain_cuts, cuts_of}

@@ -1,5 +1,5 @@
-use Rattle.std.proofs.Common.{◌≡◌, ℕ, ◌+◌, ◌<◌, ◌≤◌, ◌^◌, Bool, not, List, [], ◌∷◌, ◌++◌, drop, get_or, length, refl, arith, sym, ◌∙◌, ap, subst, add-zero, true, false, ℤ, Vec, Global}
-use Rattle.std.specs.Prelude.{nat_eq, IsTrue}
+use Rattle.std.proofs.Common.{◌≡◌, ℕ, ◌+◌, ◌≤◌, ◌^◌, Bool, not, List, ◌∷◌, drop, refl, arith, sym, ◌∙◌, ap, subst, add-zero, true, false, ℤ, Vec, Global}
+use Rattle.std.specs.Prelude.{IsTrue}
 use Rattle.std.proofs.lemmas.List.{drop_more, drop_all}
 use Rattle.match_model.specs.Numbers.{MRange, is_up_to}
 use Rattle.range_split.specs.declared.cut.Cut.{Cut}

@@ -1,15 +1,14 @@
-use Rattle.std.proofs.Common.{◌≡◌, sym, subst, ap, rules, ℤ, Bool, List, IsPermutation}
+use Rattle.std.proofs.Common.{sym, subst, rules, ℤ, Bool, List, IsPermutation}
 use Rattle.std.specs.Prelude.{IsTrue}
 use Rattle.std.specs.List.{All}
 use Rattle.std.proofs.lemmas.List.Sorted.{IsPermutation-map, All-permutation, answers_always}
 use Rattle.match_model.specs.Numbers.{is_from}
 use Rattle.range_split.specs.declared.cut.Cut.{Cut}
-use Rattle.range_split.specs.Numbers.{num_value}
 use Rattle.range_split.specs.Order.{order_key}
 use Rattle.range_split.specs.Ends.{plain_end}
 use Rattle.range_split.specs.Ranges.{plain_range}
 use Rattle.range_split.specs.Splits.{plain_ranges}
-use Rattle.range_split.specs.Cuts.{plain_cut, plain_cuts, cuts_of}
+use Rattle.range_split.specs.Cuts.{plain_cut, plain_cuts}
 use Rattle.range_split.proofs.Counts.{all_inside}
 use Rattle.range_split.proofs.Sorting.{rise_sorted}
 use Rattle.range_split.proofs.Splits.{All-unmap}

@@ -1,5 +1,5 @@
-use Rattle.std.proofs.Common.{◌≡◌, ◌<◌, sym, subst, ap, ◌∙◌, rules, ℤ, Bool, List, Vec, Global, get_or, IsPermutation}
-use Rattle.std.specs.Prelude.{IsTrue, IfOk}
+use Rattle.std.proofs.Common.{sym, subst, ℤ, Bool, List, Vec, Global, get_or, IsPermutation}
+use Rattle.std.specs.Prelude.{IsTrue}
 use Rattle.std.specs.List.{All}
 use Rattle.std.proofs.lemmas.List.Sorted.{All-permutation}
 use Rattle.std.proofs.lemmas.List.Elements.{All-map}
@@ -7,7 +7,7 @@ use Rattle.std.proofs.lemmas.Result.{IfOk-weaker}
 use Rattle.match_model.specs.Numbers.{MRange, is_up_to}
 use Rattle.range_split.specs.declared.cut.Cut.{Cut}
 use Rattle.range_split.specs.declared.range.Range.{Range}
-use Rattle.range_split.specs.Ends.{plain_end, ends_ascend}
+use Rattle.range_split.specs.Ends.{ends_ascend}
 use Rattle.range_split.specs.Ranges.{plain_range}
 use Rattle.range_split.specs.Splits.{plain_ranges, plain_pieces, IsSplit}
 use Rattle.range_split.specs.Cuts.{plain_cut, plain_cuts, cuts_of, AreBetween}

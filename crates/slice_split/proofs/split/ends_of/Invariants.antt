@@ -1,8 +1,7 @@
 use Rattle.std.proofs.Common.{◌≡◌, ◌+◌, ◌^◌, ◌≤◌, max, map, drop}
-use Rattle.std.specs.List.{All}
 use Rattle.match_model.specs.Constructors.{RowCtor}
 use Rattle.match_model.specs.Pieces.{fixed_end, longest_front, longest_back}
-use Rattle.slice_split.specs.Shapes.{plain_shapes, IsShort}
+use Rattle.slice_split.specs.Shapes.{plain_shapes}
 use Rattle.slice_split.proofs.split.ends_of.Given as goal
 
 abbrev pub invariant-loop-column : goal.invariant-loop-column

@@ -1,5 +1,5 @@
 use Rattle.std.proofs.Common.{rules, arith, refl}
-use Rattle.slice_split.proofs.Rows.{computed_split, Computes}
+use Rattle.slice_split.proofs.Rows.{computed_split}
 use Rattle.slice_split.proofs.split.every_length.Goals as goal
 
 pub returns : goal.returns

@@ -1,8 +1,8 @@
-use Rattle.std.proofs.Common.{◌≡◌, Some, not, length, Bool, List, rules, arith, refl, ap, sym, ◌∙◌, ◌++◌, ◌∷◌, [], subst}
+use Rattle.std.proofs.Common.{◌≡◌, Some, not, length, Bool, List, ap, sym, ◌∙◌, ◌++◌, ◌∷◌, [], subst}
 use Rattle.std.specs.Prelude.{IsTrue, nat_eq}
 use Rattle.std.proofs.lemmas.List.{length-map}
 use Rattle.std.proofs.lemmas.List.Elements.{All-map}
-use Rattle.match_model.specs.Constructors.{MShape, covers}
+use Rattle.match_model.specs.Constructors.{covers}
 use Rattle.slice_split.specs.declared.shape.Shape.{Shape}
 use Rattle.slice_split.specs.Shapes.{plain_shape, plain_shapes, plain_pieces}
 use Rattle.slice_split.specs.Lengths.{IsSplit}
