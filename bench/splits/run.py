@@ -2,7 +2,7 @@
 """Times `split` and `split_lengths` on 1,000, 10,000 and 100,000 random columns.
 
 Writes a copy of the crates with a small program over them into a temporary folder, proves and builds it with `rt run`,
-and prints the least times and how much longer ten times as many columns take.
+and prints the least processor times and how much longer ten times as many columns take.
 """
 import pathlib
 import re
@@ -25,7 +25,7 @@ use range_split::{End, Num, Range};
 use slice_split::Shape;
 use std::alloc::{AllocError, Global};
 use std::io;
-use std::time::Instant;
+use std::time::CpuClock;
 
 fn next(seed: &mut u64) -> u64 {
     *seed = seed
@@ -102,17 +102,17 @@ fn count_shapes(alloc: Global, columns: &[Shape]) -> usize {
     }
 }
 
-fn run(rt: &(impl Print + std::rt::Clock), alloc: Global, count: u64) -> io::Result<()> {
+fn run(rt: &(impl Print + CpuClock), alloc: Global, count: u64) -> io::Result<()> {
     let mut seed = count;
     let ranges = ranges(alloc, &mut seed, count)?;
-    let start = Instant::now(rt)?;
+    let start = rt.thread_cpu_time()?;
     let pieces = count_ranges(alloc, &ranges);
-    let took = start.elapsed(rt)?.as_micros();
+    let took = rt.thread_cpu_time()?.saturating_sub(start).as_micros();
     println!(rt; "split {count} {pieces} {took}")?;
     let shapes = shapes(alloc, &mut seed, count)?;
-    let start = Instant::now(rt)?;
+    let start = rt.thread_cpu_time()?;
     let pieces = count_shapes(alloc, &shapes);
-    let took = start.elapsed(rt)?.as_micros();
+    let took = rt.thread_cpu_time()?.saturating_sub(start).as_micros();
     println!(rt; "split_lengths {count} {pieces} {took}")
 }
 
