@@ -1,0 +1,6 @@
+pub mod Below
+pub mod Columns
+pub mod Splits
+pub mod Rows
+pub mod Arrays
+pub mod Determined
