@@ -1,0 +1,1 @@
+//! What follows from the laws of a context.
