@@ -1,5 +1,5 @@
 // The context of a language's types.
-ghost use Rattle.std.specs.Prelude.{◌≡◌, ℕ, ◌<◌, Bool, true, false, IsTrue};
+ghost use Rattle.std.specs.Prelude.{◌≡◌, ℕ, ◌<◌, ◌≤◌, ◌^◌, Bool, true, false, IsTrue};
 ghost use Rattle.match_model.specs.Values.{MValue};
 ghost use Rattle.match_model.specs.Constructors.{OneVariant, VariantCtor, builds_one, belongs};
 ghost use Rattle.match_model.specs.Contexts.{Context};
@@ -87,4 +87,26 @@ pub fn variant_has_value<C: PatCx>(cx: &C, ty: C::Ty, k: u32) -> bool
     ensures none { result ≡ false → (v : MValue) → IsTrue (builds_one (OneVariant k) v) → ¬ C.is_value cx.now ty true v }
 {
     !cx.variant_empty(ty, k)
+}
+
+/// The type of the part with the number `i`, from 0, of the constructor, which is of the type's set. It takes no memory.
+pub fn part_type<C: PatCx>(cx: &C, c: &Ctor, ty: C::Ty, i: usize) -> C::Ty
+    requires ty { C.is_type cx.now ty }
+    requires belongs { IsTrue (belongs ((C.context cx.now).set_of ty) (plain_ctor c.now)) }
+    requires below { i < (C.context cx.now).arity (plain_ctor c.now) ty }
+    ensures value { result ≡ (C.context cx.now).sub (plain_ctor c.now) ty i }
+    ensures is { C.is_type cx.now result }
+{
+    cx.sub(c, ty, i)
+}
+
+/// How many parts the constructor, which is of the type's set, has in the type. It takes no memory.
+pub fn count_parts<C: PatCx>(cx: &C, c: &Ctor, ty: C::Ty) -> usize
+    requires ty { C.is_type cx.now ty }
+    requires belongs { IsTrue (belongs ((C.context cx.now).set_of ty) (plain_ctor c.now)) }
+    requires held { IsHeld (plain_ctor c.now) }
+    ensures value { result ≡ (C.context cx.now).arity (plain_ctor c.now) ty }
+    ensures few { result ≤ 2 ^ 33 }
+{
+    cx.arity(c, ty)
 }
