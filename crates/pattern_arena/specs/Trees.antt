@@ -1,5 +1,6 @@
 -- Patterns, arms and matches of an arena as the definitions have them.
 use Rattle.std.specs.Prelude.{◌≡◌, List, map}
+use Rattle.match_model.specs.Constructors.{MCtor}
 use Rattle.match_model.specs.ArenaPatterns.{MPart, WholePart, MiddlePart, MBound, MDePat, de_pat, de_pats_of, MDeArm, MDeMatch}
 use Rattle.pat_context.specs.Views.{plain_ctor, is_sure}
 use Rattle.pattern_arena.specs.declared.pattern.Part.{Part}
@@ -25,6 +26,10 @@ tree_step f = de_pat (plain_ctor f.ctor) f.ty f.uid f.at (de_pats_of f.subs.now)
 -- the plain tree of a pattern
 abbrev pub tree : {T : Type 0} → DePat T → MDePat T
 tree {T} = fold-DePat T (MDePat T) tree_step
+
+-- the constructor of a pattern, as it stands in the arena
+abbrev pub placed_ctor : {T : Type 0} → DePat T → MCtor
+placed_ctor {T} p = plain_ctor (out-DePat T p).ctor
 
 -- the patterns below, as they stand in the arena
 abbrev pub placed_subs : {T : Type 0} → DePat T → List (DePat T)

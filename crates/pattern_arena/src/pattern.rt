@@ -1,8 +1,8 @@
 // Patterns by constructors, and the names that they bind.
 ghost use Rattle.std.specs.Prelude.{◌≡◌, ◌<◌, length, map, slice_get, Some};
 ghost use Rattle.match_model.specs.Constructors.{OrCtor};
-ghost use Rattle.match_model.specs.ArenaPatterns.{subs_of, ctor_of};
-ghost use Rattle.pattern_arena.specs.Trees.{tree, placed_subs};
+ghost use Rattle.match_model.specs.ArenaPatterns.{subs_of};
+ghost use Rattle.pattern_arena.specs.Trees.{tree, placed_ctor, placed_subs};
 
 use match_model::Mode;
 use pat_context::Ctor;
@@ -52,7 +52,7 @@ impl<'a, T: Copy> DePat<'a, T> {
 
     /// The alternatives of an or-pattern, in order. They are lent, and take no memory.
     pub fn alternatives(&self) -> &'a [DePat<'a, T>]
-        requires { ctor_of (tree self.now) ≡ OrCtor }
+        requires { placed_ctor self.now ≡ OrCtor }
         ensures are { result.now ≡ placed_subs self.now }
         ensures trees { map tree result.now ≡ subs_of (tree self.now) }
     {
