@@ -1,6 +1,6 @@
 //! What follows from the laws of a context: each function has an empty body, and its contract is a law.
 
-ghost use Rattle.pat_context.specs.Laws.{ValuesAreBuilt, OneBuilds, PartsAreValues, ValuesCanBeBuilt};
+ghost use Rattle.pat_context.specs.Laws.{ValuesAreBuilt, OneBuilds, PartsAreValues, ValuesCanBeBuilt, BareValues, ItemsHaveOneType, RangesAreApart};
 
 use crate::PatCx;
 
@@ -20,4 +20,20 @@ pub fn parts_are_values<C: PatCx>(cx: &C)
 /// From as many values as it has parts, each of the type of its part, a constructor builds a value.
 pub fn values_can_be_built<C: PatCx>(cx: &C)
     ensures { ValuesCanBeBuilt (C.is_type cx.now) (C.is_value cx.now) (C.context cx.now) }
+{}
+
+/// What no constructor builds: a thing of an opaque type is a value, and a type without constructors has its one value
+/// at unsure places alone.
+pub fn bare_values_are_there<C: PatCx>(cx: &C)
+    ensures { BareValues (C.is_type cx.now) (C.is_value cx.now) (C.context cx.now) }
+{}
+
+/// All items of the rows of a type have one type, whichever constructors of rows are asked.
+pub fn items_have_one_type<C: PatCx>(cx: &C)
+    ensures { ItemsHaveOneType (C.is_type cx.now) (C.context cx.now) }
+{}
+
+/// Where the numbers of a type lie in two ranges, no number is in both.
+pub fn ranges_are_apart<C: PatCx>(cx: &C)
+    ensures { RangesAreApart (C.is_type cx.now) (C.context cx.now) }
 {}
