@@ -1,1 +1,2 @@
 pub mod TreeFacts
+mod FlagMatch
