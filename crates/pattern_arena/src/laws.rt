@@ -1,0 +1,20 @@
+//! What holds of everything that is placed.
+
+ghost use Rattle.std.specs.Prelude.{◌≡◌, map, IfOk};
+ghost use Rattle.pattern_arena.specs.Trees.{tree};
+
+use crate::{DePat, Placer};
+use match_model::NoMemory;
+
+/// What was placed stands for the same trees after a further call, whether that one had its memory or not.
+pub fn placed_patterns_stand<'a, T: Copy>(
+    placer: &Placer<'a>,
+    placed: &'a [DePat<'a, T>],
+    more: &[DePat<'a, T>],
+) -> (&'a [DePat<'a, T>], Result<&'a [DePat<'a, T>], NoMemory>)
+    ensures stand { map tree result.0.now ≡ map tree placed.entry.now }
+    ensures more { IfOk result.1 (λ next. map tree next.now ≡ map tree more.now) }
+{
+    let next = placer.place_subs(more);
+    (placed, next)
+}

@@ -1,0 +1,117 @@
+// Placing patterns, using them, and resetting the arena.
+ghost use Rattle.std.specs.Prelude.{◌≡◌, IfOk};
+ghost use Rattle.pat_context.specs.Toy.{toy_context, ToyValue};
+ghost use Rattle.pat_context.specs.ToyLaws.{IsToyType};
+ghost use Rattle.pattern_arena.specs.Trees.{plain_arm};
+ghost use Rattle.pattern_arena.specs.Examples.{flag_arm};
+ghost use Rattle.pattern_arena.specs.Meaning.{IsWellTyped, IsExhaustive, IsArmReachable};
+
+use crate::laws::placed_patterns_stand;
+use crate::{Bound, CheckedArm, CheckedMatch, DePat, Part, Placer};
+use bumpalo::Bump;
+use match_model::{Mode, NoMemory};
+use pat_context::toy::ToyTy;
+use pat_context::{Ctor, Validity};
+use std::test::Fail;
+
+// A pattern of a flag.
+fn flag<'a>(ctor: Ctor<'a>, uid: u64) -> DePat<'a, ToyTy> {
+    DePat {
+        ctor,
+        ty: ToyTy::Flag,
+        uid,
+        at: uid,
+        subs: &[],
+        binds: &[],
+    }
+}
+
+#[test]
+fn placed_patterns_are_used_and_the_arena_is_reset(rt: HostRuntime) -> Result<(), Fail> {
+    let mut arena = Bump::new(rt.alloc());
+    let placer = Placer::new(&arena);
+    let name = placer.place_text("x")?;
+    let binds = placer.place_binds(&[Bound {
+        name,
+        mode: Mode::Ref,
+        part: Part::Whole,
+    }])?;
+    let choices = placer.place_subs(&[flag(Ctor::Flag(true), 3), flag(Ctor::Flag(false), 4)])?;
+    let either = DePat {
+        subs: choices,
+        ..flag(Ctor::Or, 2)
+    };
+    let subs = placer.place_subs(&[either, flag(Ctor::Wild, 5)])?;
+    let pair = DePat {
+        ctor: Ctor::Single,
+        ty: ToyTy::Pair,
+        uid: 1,
+        at: 0,
+        subs,
+        binds,
+    };
+    let arms = placer.place_arms(&[CheckedArm {
+        pat: pair,
+        guarded: false,
+    }])?;
+    let checked = CheckedMatch {
+        ty: ToyTy::Pair,
+        validity: Validity::Sure,
+        arms,
+    };
+    let first = checked.arms[0].pat;
+    assert_eq!(rt; first.binds[0].name, "x");
+    assert_eq!(rt; first.sub(1).uid, 5);
+    if let Ctor::Or = first.sub(0).ctor {
+        let alternatives = first.sub(0).alternatives();
+        assert_eq!(rt; alternatives.len(), 2);
+        assert_eq!(rt; alternatives[1].uid, 4);
+    } else {
+        assert!(rt; false);
+    }
+    arena.reset()?;
+    Ok(())
+}
+
+// The arm of a flag, without a guard.
+fn flag_arm<'a>(value: bool, uid: u64) -> CheckedArm<'a, ToyTy>
+    ensures { plain_arm result ≡ flag_arm value uid }
+{
+    CheckedArm {
+        pat: DePat {
+            ctor: Ctor::Flag(value),
+            ty: ToyTy::Flag,
+            uid,
+            at: uid,
+            subs: &[],
+            binds: &[],
+        },
+        guarded: false,
+    }
+}
+
+// The match of a flag with an arm for each of the two.
+fn both_flags<'a>(placer: &Placer<'a>) -> Result<CheckedMatch<'a, ToyTy>, NoMemory>
+    ensures typed { IfOk result (λ m. IsWellTyped IsToyType toy_context m) }
+    ensures exhaustive { IfOk result (λ m. IsExhaustive ToyValue m) }
+    ensures reachable { IfOk result (λ m. IsArmReachable ToyValue m 0 × IsArmReachable ToyValue m 1) }
+{
+    let arms = placer.place_arms(&[flag_arm(true, 1), flag_arm(false, 2)])?;
+    Ok(CheckedMatch {
+        ty: ToyTy::Flag,
+        validity: Validity::Sure,
+        arms,
+    })
+}
+
+#[test]
+fn what_was_placed_stands(rt: HostRuntime) -> Result<(), Fail> {
+    let arena = Bump::new(rt.alloc());
+    let placer = Placer::new(&arena);
+    let checked = both_flags(&placer)?;
+    let placed = placer.place_subs(&[checked.arms[0].pat, checked.arms[1].pat])?;
+    let (before, next) = placed_patterns_stand(&placer, placed, &[flag(Ctor::Wild, 3)]);
+    assert_eq!(rt; before[1].uid, 2);
+    assert_eq!(rt; next?[0].uid, 3);
+    Ok(())
+}
