@@ -1,6 +1,6 @@
 -- Worked examples: what written ranges mean at their types, and which patterns the source can have.
 use Rattle.std.proofs.Common.{◌≡◌, pos, negsuc, true, false, Some, None, refl}
-use Rattle.match_model.specs.declared.Width.TheVariants.{Endless, W16}
+use Rattle.match_model.specs.declared.Width.TheVariants.{Endless, Bits16}
 use Rattle.match_model.specs.declared.IntKind.TheVariants.{U8, USize, I8, ISize}
 use Rattle.match_model.specs.Types.{CharType, IntType}
 use Rattle.match_model.specs.Numbers.{Free, At}
@@ -17,7 +17,7 @@ pub last_alone : written_range Endless (IntType U8) (Some (pos 255)) false None 
 last_alone = refl
 
 -- an open end of `usize` is free above, of `isize` on both sides; with a width neither is
-pub endless_ends : (written_range Endless (IntType USize) None false None ≡ record { low = At (pos 0); high = Free }) × (written_range Endless (IntType ISize) None false (Some (pos 0)) ≡ record { low = Free; high = At (negsuc 0) }) × (written_range W16 (IntType USize) (Some (pos 3)) false None ≡ record { low = At (pos 3); high = At (pos 65535) })
+pub endless_ends : (written_range Endless (IntType USize) None false None ≡ record { low = At (pos 0); high = Free }) × (written_range Endless (IntType ISize) None false (Some (pos 0)) ≡ record { low = Free; high = At (negsuc 0) }) × (written_range Bits16 (IntType USize) (Some (pos 3)) false None ≡ record { low = At (pos 3); high = At (pos 65535) })
 endless_ends = (refl, refl, refl)
 
 -- an exclusive end of `char` is brought to the scalar value before it, over the surrogates

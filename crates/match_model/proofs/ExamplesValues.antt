@@ -1,7 +1,7 @@
 -- Worked examples: which values a type has.
 use Rattle.std.proofs.Common.{◌≡◌, ℕ, pos, negsuc, Bool, true, false, List, [], ◌∷◌, ◌^◌, ◌-◌, Some, None, refl}
 use Rattle.match_model.specs.declared.Width.{Width}
-use Rattle.match_model.specs.declared.Width.TheVariants.{Endless, W16, W32, W64}
+use Rattle.match_model.specs.declared.Width.TheVariants.{Endless, Bits16, Bits32, Bits64}
 use Rattle.match_model.specs.declared.IntKind.TheVariants.{U8, U16, U32, U64, U128, USize, I8, I16, I32, I64, I128, ISize}
 use Rattle.match_model.specs.Types.{DeclaredItem, OptionOwner, ResultOwner, StringName, BoxName, MType, BoolType, CharType, StrType, NeverType, IntType, OpaqueType, TupleType, PointType, SliceType, ArrayType, NamedType, no_types, more_types}
 use Rattle.match_model.specs.Declarations.{UnitForm, TupleForm, BraceForm, MItem, StructItem, EnumItem, OtherItem, MProgram, variants_of}
@@ -83,19 +83,19 @@ pub isize_endless : (sure (IntType ISize) (Num (negsuc (2 ^ 70))) ≡ true) × (
 isize_endless = (refl, refl)
 
 -- with a width they have the numbers of so many bits
-pub usize_16 : (is_value (sized W16) true (IntType USize) (Num (pos 65535)) ≡ true) × (is_value (sized W16) true (IntType USize) (Num (pos 65536)) ≡ false)
+pub usize_16 : (is_value (sized Bits16) true (IntType USize) (Num (pos 65535)) ≡ true) × (is_value (sized Bits16) true (IntType USize) (Num (pos 65536)) ≡ false)
 usize_16 = (refl, refl)
 
-pub usize_32 : (is_value (sized W32) true (IntType USize) (Num (pos (2 ^ 32 - 1))) ≡ true) × (is_value (sized W32) true (IntType USize) (Num (pos (2 ^ 32))) ≡ false)
+pub usize_32 : (is_value (sized Bits32) true (IntType USize) (Num (pos (2 ^ 32 - 1))) ≡ true) × (is_value (sized Bits32) true (IntType USize) (Num (pos (2 ^ 32))) ≡ false)
 usize_32 = (refl, refl)
 
-pub isize_64 : (is_value (sized W64) true (IntType ISize) (Num (negsuc (2 ^ 63 - 1))) ≡ true) × (is_value (sized W64) true (IntType ISize) (Num (negsuc (2 ^ 63))) ≡ false)
+pub isize_64 : (is_value (sized Bits64) true (IntType ISize) (Num (negsuc (2 ^ 63 - 1))) ≡ true) × (is_value (sized Bits64) true (IntType ISize) (Num (negsuc (2 ^ 63))) ≡ false)
 isize_64 = (refl, refl)
 
-pub isize_16 : (is_value (sized W16) true (IntType ISize) (Num (negsuc 32767)) ≡ true) × (is_value (sized W16) true (IntType ISize) (Num (pos 32768)) ≡ false)
+pub isize_16 : (is_value (sized Bits16) true (IntType ISize) (Num (negsuc 32767)) ≡ true) × (is_value (sized Bits16) true (IntType ISize) (Num (pos 32768)) ≡ false)
 isize_16 = (refl, refl)
 
-pub isize_32 : (is_value (sized W32) true (IntType ISize) (Num (pos (2 ^ 31 - 1))) ≡ true) × (is_value (sized W32) true (IntType ISize) (Num (pos (2 ^ 31))) ≡ false)
+pub isize_32 : (is_value (sized Bits32) true (IntType ISize) (Num (pos (2 ^ 31 - 1))) ≡ true) × (is_value (sized Bits32) true (IntType ISize) (Num (pos (2 ^ 31))) ≡ false)
 isize_32 = (refl, refl)
 
 -- a `char` is a scalar value: no surrogate, none beyond the last

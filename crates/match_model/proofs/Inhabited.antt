@@ -2,7 +2,7 @@
 use Rattle.std.proofs.Common.{◌≡◌, ℕ, zero, suc, pos, Bool, true, false, ◌&&◌, ◌||◌, List, [], Some, None, nat_eq, length, refl, ap, ◌∙◌, arith, slice_get}
 use Rattle.std.proofs.lemmas.Bool.Decides.{nat_tests}
 use Rattle.match_model.specs.declared.Width.{Width}
-use Rattle.match_model.specs.declared.Width.TheVariants.{Endless, W16, W32, W64}
+use Rattle.match_model.specs.declared.Width.TheVariants.{Endless, Bits16, Bits32, Bits64}
 use Rattle.match_model.specs.declared.IntKind.{IntKind}
 use Rattle.match_model.specs.declared.IntKind.TheVariants.{U8, U16, U32, U64, U128, USize, I8, I16, I32, I64, I128, ISize}
 use Rattle.match_model.specs.Types.{DeclaredItem, OptionOwner, ResultOwner, MType, BoolType, CharType, StrType, NeverType, IntType, OpaqueType, TupleType, PointType, SliceType, ArrayType, NamedType, MTypes, no_types, more_types, types_list}
@@ -27,13 +27,13 @@ zero_is width I32 = refl
 zero_is width I64 = refl
 zero_is width I128 = refl
 zero_is Endless USize = refl
-zero_is W16 USize = refl
-zero_is W32 USize = refl
-zero_is W64 USize = refl
+zero_is Bits16 USize = refl
+zero_is Bits32 USize = refl
+zero_is Bits64 USize = refl
 zero_is Endless ISize = refl
-zero_is W16 ISize = refl
-zero_is W32 ISize = refl
-zero_is W64 ISize = refl
+zero_is Bits16 ISize = refl
+zero_is Bits32 ISize = refl
+zero_is Bits64 ISize = refl
 
 untrue : false ≡ true → ⊥
 untrue e = cc

@@ -3,7 +3,7 @@ use Rattle.std.specs.Prelude.{ℕ, ℤ, pos, negsuc, ◌-◌, ◌^◌, Bool, tru
 use Rattle.std.specs.List.{list_any}
 use Rattle.std.specs.Ordering.{int_eq}
 use Rattle.match_model.specs.declared.Width.{Width}
-use Rattle.match_model.specs.declared.Width.TheVariants.{Endless, W16, W32, W64}
+use Rattle.match_model.specs.declared.Width.TheVariants.{Endless, Bits16, Bits32, Bits64}
 use Rattle.match_model.specs.declared.IntKind.{IntKind}
 use Rattle.match_model.specs.declared.IntKind.TheVariants.{U8, U16, U32, U64, U128, USize, I8, I16, I32, I64, I128, ISize}
 use Rattle.match_model.specs.Types.{MType, CharType, IntType}
@@ -69,13 +69,13 @@ kind_range width I16 = signed_range 16
 kind_range width I32 = signed_range 32
 kind_range width I64 = signed_range 64
 kind_range width I128 = signed_range 128
-kind_range W16 USize = unsigned_range 16
-kind_range W32 USize = unsigned_range 32
-kind_range W64 USize = unsigned_range 64
+kind_range Bits16 USize = unsigned_range 16
+kind_range Bits32 USize = unsigned_range 32
+kind_range Bits64 USize = unsigned_range 64
 kind_range Endless USize = record { low = At (pos 0); high = Free }
-kind_range W16 ISize = signed_range 16
-kind_range W32 ISize = signed_range 32
-kind_range W64 ISize = signed_range 64
+kind_range Bits16 ISize = signed_range 16
+kind_range Bits32 ISize = signed_range 32
+kind_range Bits64 ISize = signed_range 64
 kind_range Endless ISize = record { low = Free; high = Free }
 
 -- the ranges of numbers that a type has, ascending: two for `char`, one for an integer type, else none

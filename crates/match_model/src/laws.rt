@@ -48,7 +48,8 @@ pub fn readings_agree()
     ensures { ReadingsAgree }
 {}
 
-/// Every value of a type of Rust is built by exactly one elementary constructor of the type, opaque and unseen ones apart.
+/// Every value of a type of Rust is built by exactly one elementary constructor of the type, but for opaque and unseen
+/// ones.
 pub fn rust_values()
     ensures { RustValuesLaw }
 {}

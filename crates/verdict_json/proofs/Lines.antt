@@ -69,19 +69,19 @@ behind : (before after piece rest : List ℕ) → after ≡ before ++ piece → 
 behind before after piece rest e = ap (λ z. z ++ rest) e ∙ append_assoc before piece rest
 
 -- the pieces of what is reported of a function, one after the other, make its text
-pub function_written : (f : FnReport) (t0 t1 t2 t3 t4 t5 t6 t7 t8 t9 : List ℕ)
-    → t1 ≡ t0 ++ codes "{\"exhaustive\":"
-    → t2 ≡ t1 ++ flag_word f.exhaustive
-    → t3 ≡ t2 ++ codes ",\"name\":"
-    → t4 ≡ t3 ++ compact_text (string f.name.now)
-    → t5 ≡ t4 ++ codes ",\"overlaps\":[],\"unreachable\":["
-    → t6 ≡ t5 ++ items_text false (items_of (map unreachable_data f.unreachable.items))
-    → t7 ≡ t6 ++ codes ",\"witnesses\":["
-    → t8 ≡ t7 ++ items_text false (items_of (map witness_data f.witnesses.items))
-    → t9 ≡ t8 ++ 125 ∷ []
-    → t9 ≡ t0 ++ compact_text (function_data f)
+pub function_written : (f : FnReport) (x0 x1 x2 x3 x4 x5 x6 x7 x8 x9 : List ℕ)
+    → x1 ≡ x0 ++ codes "{\"exhaustive\":"
+    → x2 ≡ x1 ++ flag_word f.exhaustive
+    → x3 ≡ x2 ++ codes ",\"name\":"
+    → x4 ≡ x3 ++ compact_text (string f.name.now)
+    → x5 ≡ x4 ++ codes ",\"overlaps\":[],\"unreachable\":["
+    → x6 ≡ x5 ++ items_text false (items_of (map unreachable_data f.unreachable.items))
+    → x7 ≡ x6 ++ codes ",\"witnesses\":["
+    → x8 ≡ x7 ++ items_text false (items_of (map witness_data f.witnesses.items))
+    → x9 ≡ x8 ++ 125 ∷ []
+    → x9 ≡ x0 ++ compact_text (function_data f)
 unfolding serde_json_on_literals
-function_written f t0 t1 t2 t3 t4 t5 t6 t7 t8 t9 e1 e2 e3 e4 e5 e6 e7 e8 e9 =
+function_written f x0 x1 x2 x3 x4 x5 x6 x7 x8 x9 e1 e2 e3 e4 e5 e6 e7 e8 e9 =
     let p1 = codes "{\"exhaustive\":" in
     let p2 = flag_word f.exhaustive in
     let p3 = codes ",\"name\":" in
@@ -92,11 +92,11 @@ function_written f t0 t1 t2 t3 t4 t5 t6 t7 t8 t9 e1 e2 e3 e4 e5 e6 e7 e8 e9 =
     let p8 = items_text false (items_of (map witness_data f.witnesses.items)) in
     let p9 = 125 ∷ [] in
     e9
-    ∙ behind t7 t8 p8 p9 e8
-    ∙ behind t6 t7 p7 (p8 ++ p9) e7
-    ∙ behind t5 t6 p6 (p7 ++ (p8 ++ p9)) e6
-    ∙ behind t4 t5 p5 (p6 ++ (p7 ++ (p8 ++ p9))) e5
-    ∙ behind t3 t4 p4 (p5 ++ (p6 ++ (p7 ++ (p8 ++ p9)))) e4
-    ∙ behind t2 t3 p3 (p4 ++ (p5 ++ (p6 ++ (p7 ++ (p8 ++ p9))))) e3
-    ∙ behind t1 t2 p2 (p3 ++ (p4 ++ (p5 ++ (p6 ++ (p7 ++ (p8 ++ p9)))))) e2
-    ∙ behind t0 t1 p1 (p2 ++ (p3 ++ (p4 ++ (p5 ++ (p6 ++ (p7 ++ (p8 ++ p9))))))) e1
+    ∙ behind x7 x8 p8 p9 e8
+    ∙ behind x6 x7 p7 (p8 ++ p9) e7
+    ∙ behind x5 x6 p6 (p7 ++ (p8 ++ p9)) e6
+    ∙ behind x4 x5 p5 (p6 ++ (p7 ++ (p8 ++ p9))) e5
+    ∙ behind x3 x4 p4 (p5 ++ (p6 ++ (p7 ++ (p8 ++ p9)))) e4
+    ∙ behind x2 x3 p3 (p4 ++ (p5 ++ (p6 ++ (p7 ++ (p8 ++ p9))))) e3
+    ∙ behind x1 x2 p2 (p3 ++ (p4 ++ (p5 ++ (p6 ++ (p7 ++ (p8 ++ p9)))))) e2
+    ∙ behind x0 x1 p1 (p2 ++ (p3 ++ (p4 ++ (p5 ++ (p6 ++ (p7 ++ (p8 ++ p9))))))) e1

@@ -130,7 +130,8 @@ impl ReportText {
 
     /// The report with one more function at its end.
     pub fn add(self, report: &FnReport<'_>) -> Result<ReportText, NoMemory>
-        ensures { (reports : List FnReport) → HasReports reports self → IfOk result (HasReports (reports ++ report.now ∷ [])) }
+        ensures { (reports : List FnReport) → HasReports reports self
+            → IfOk result (HasReports (reports ++ report.now ∷ [])) }
     {
         let ReportText {
             mut text,
@@ -148,7 +149,8 @@ impl ReportText {
 
     /// The whole output: the report, and a line feed.
     pub fn finish(self) -> Result<Vec<u8>, NoMemory>
-        ensures { (reports : List FnReport) → HasReports reports self → IfOk result (λ bytes. bytes.items ≡ report_text reports) }
+        ensures { (reports : List FnReport) → HasReports reports self
+            → IfOk result (λ bytes. bytes.items ≡ report_text reports) }
     {
         let ReportText { mut text, .. } = self;
         text.push_str("]}\n")?;
