@@ -78,8 +78,8 @@ pub fn has_value<C: PatCx>(cx: &C, ty: C::Ty, validity: Validity) -> bool
     }
 }
 
-/// Tells whether a value of the variant with the number `k`, from 0, can stand at a sure place of the type, whose set has
-/// the variant. It takes no memory.
+/// Tells whether a value of the variant with the number `k`, from 0, can stand at a sure place of the type. The type's
+/// set has the variant. It takes no memory.
 pub fn variant_has_value<C: PatCx>(cx: &C, ty: C::Ty, k: u32) -> bool
     requires ty { C.is_type cx.now ty }
     requires belongs { IsTrue (belongs ((C.context cx.now).set_of ty) (VariantCtor k)) }
@@ -89,7 +89,8 @@ pub fn variant_has_value<C: PatCx>(cx: &C, ty: C::Ty, k: u32) -> bool
     !cx.variant_empty(ty, k)
 }
 
-/// The type of the part with the number `i`, from 0, of the constructor, which is of the type's set. It takes no memory.
+/// The type of the part with the number `i`, from 0, of the constructor, which is of the type's set. It takes no
+/// memory.
 pub fn part_type<C: PatCx>(cx: &C, c: &Ctor, ty: C::Ty, i: usize) -> C::Ty
     requires ty { C.is_type cx.now ty }
     requires belongs { IsTrue (belongs ((C.context cx.now).set_of ty) (plain_ctor c.now)) }

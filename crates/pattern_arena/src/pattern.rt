@@ -34,8 +34,8 @@ pub struct DePat<'a, T: Copy> {
     pub uid: u64,
     /// The byte offset in the file.
     pub at: u64,
-    /// One pattern for each part of the constructor; the alternatives of an or-pattern; of a row with a rest the items at
-    /// the front and then those at the back.
+    /// One pattern for each part of the constructor; the alternatives of an or-pattern; of a row with a rest the items
+    /// at the front and then those at the back.
     pub subs: &'a [DePat<'a, T>],
     pub binds: &'a [Bound<'a>],
 }
