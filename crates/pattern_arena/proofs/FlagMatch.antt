@@ -1,10 +1,10 @@
 -- The match of a flag with an arm for each of the two is well typed and exhaustive, and both arms are reached.
-use Rattle.std.proofs.Common.{◌≡◌, ◌≢◌, ◌<◌, ℕ, zero, suc, Bool, true, false, List, [], ◌∷◌, length, IsTrue, refl, sym, subst, arith}
+use Rattle.std.proofs.Common.{◌≡◌, zero, suc, true, false, [], ◌∷◌, refl, sym, subst, arith}
 use Rattle.std.specs.List.{Contains, IsDistinct}
 use Rattle.match_model.specs.ArenaPatterns.{MDeArm, MDeMatch}
 use Rattle.match_model.specs.ArenaWays.{match_arms, InMatchDomain}
 use Rattle.match_model.specs.Match.{IsArmReachable, IsExhaustive}
-use Rattle.match_model.specs.Values.{MValue, Flag, Unseen}
+use Rattle.match_model.specs.Values.{Flag}
 use Rattle.match_model.specs.WellTyped.{IsWellTyped, IsTyped, names_differ}
 use Rattle.match_model.proofs.Basics.{untrue}
 use Rattle.pat_context.specs.Toy.{toy_context, ToyValue}

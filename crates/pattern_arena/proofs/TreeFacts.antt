@@ -1,6 +1,6 @@
 -- A pattern's tree has the trees of the patterns below it.
-use Rattle.std.proofs.Common.{◌≡◌, ℕ, zero, suc, List, [], ◌∷◌, map, Option, Some, None, slice_get, refl, ap, ◌∙◌, sym}
-use Rattle.match_model.specs.ArenaPatterns.{MDePat, de_pat, MDePats, de_pats_of, de_pats_list, ctor_of, subs_of}
+use Rattle.std.proofs.Common.{◌≡◌, ℕ, zero, suc, List, [], ◌∷◌, map, Some, slice_get, refl, ap, ◌∙◌}
+use Rattle.match_model.specs.ArenaPatterns.{MDePat, de_pat, de_pats_of, de_pats_list, ctor_of, subs_of}
 use Rattle.pat_context.specs.Views.{plain_ctor}
 use Rattle.pattern_arena.specs.declared.pattern.DePat.{DePat, fold_out-DePat, out-DePat}
 use Rattle.pattern_arena.specs.Trees.{tree, tree_step, placed_ctor, placed_subs, plain_bound}

@@ -1,12 +1,12 @@
 -- Patterns, arms and matches of an arena as the definitions have them.
-use Rattle.std.specs.Prelude.{◌≡◌, List, map}
+use Rattle.std.specs.Prelude.{List, map}
 use Rattle.match_model.specs.Constructors.{MCtor}
 use Rattle.match_model.specs.ArenaPatterns.{MPart, WholePart, MiddlePart, MBound, MDePat, de_pat, de_pats_of, MDeArm, MDeMatch}
 use Rattle.pat_context.specs.Views.{plain_ctor, is_sure}
 use Rattle.pattern_arena.specs.declared.pattern.Part.{Part}
 use Rattle.pattern_arena.specs.declared.pattern.Part.TheVariants.{Whole, Middle}
 use Rattle.pattern_arena.specs.declared.pattern.Bound.{Bound}
-use Rattle.pattern_arena.specs.declared.pattern.DePat.{DePat, DePat-F, fold-DePat, fold_out-DePat, out-DePat}
+use Rattle.pattern_arena.specs.declared.pattern.DePat.{DePat, DePat-F, fold-DePat, out-DePat}
 use Rattle.pattern_arena.specs.declared.matches.CheckedArm.{CheckedArm}
 use Rattle.pattern_arena.specs.declared.matches.CheckedMatch.{CheckedMatch}
 

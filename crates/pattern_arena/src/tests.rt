@@ -31,11 +31,12 @@ fn placed_patterns_are_used_and_the_arena_is_reset(rt: HostRuntime) -> Result<()
     let mut arena = Bump::new(rt.alloc());
     let placer = Placer::new(&arena);
     let name = placer.place_text("x")?;
-    let binds = placer.place_binds(&[Bound {
+    let bound = Bound {
         name,
         mode: Mode::Ref,
         part: Part::Whole,
-    }])?;
+    };
+    let binds = placer.place_binds(&[bound])?;
     let choices = placer.place_subs(&[flag(Ctor::Flag(true), 3), flag(Ctor::Flag(false), 4)])?;
     let either = DePat {
         subs: choices,
@@ -43,23 +44,16 @@ fn placed_patterns_are_used_and_the_arena_is_reset(rt: HostRuntime) -> Result<()
     };
     let subs = placer.place_subs(&[either, flag(Ctor::Wild, 5)])?;
     let pair = DePat {
-        ctor: Ctor::Single,
         ty: ToyTy::Pair,
-        uid: 1,
-        at: 0,
         subs,
         binds,
+        ..flag(Ctor::Single, 1)
     };
     let arms = placer.place_arms(&[CheckedArm {
         pat: pair,
         guarded: false,
     }])?;
-    let checked = CheckedMatch {
-        ty: ToyTy::Pair,
-        validity: Validity::Sure,
-        arms,
-    };
-    let first = checked.arms[0].pat;
+    let first = arms[0].pat;
     assert_eq!(rt; first.binds[0].name, "x");
     assert_eq!(rt; first.sub(1).uid, 5);
     if let Ctor::Or = first.sub(0).ctor {
