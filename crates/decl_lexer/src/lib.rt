@@ -7,7 +7,7 @@
 //!
 //! [`lex`] gives all tokens or the first fault. [`next_token`] gives the first token at or behind a
 //! place, so that a reader need not hold all of them. [`name_form`] gives the form in which names
-//! are compared. The laws of `laws.rt` say that a source has one list of tokens or one fault.
+//! are compared, [`word_of`] the keyword that a text is. The laws of `laws.rt` say that a source has one list of tokens or one fault.
 #![tactic(auto)]
 
 mod characters;
@@ -32,4 +32,4 @@ pub use laws::{
 pub use lexing::{lex, name_form, next_token};
 pub use marks::Mark;
 pub use token::{LexFault, Token, TokenKind};
-pub use words::Word;
+pub use words::{Word, word_of};

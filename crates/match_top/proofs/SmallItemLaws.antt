@@ -2,7 +2,6 @@
 use Rattle.std.proofs.Common.{◌≡◌, ℕ, zero, suc, false, List, [], ◌∷◌, length, Some, None, refl, sym, ap, subst, ◌∙◌, inl, inr}
 use Rattle.decl_lexer.specs.declared.words.Word.TheVariants as words
 use Rattle.decl_lexer.specs.declared.marks.Mark.TheVariants as marks
-use Rattle.decl_lexer.specs.Pieces.{Named}
 use Rattle.decl_lexer.specs.Lexing.{Placed}
 use Rattle.match_top.specs.declared.small.symbols.Sign.{Sign}
 use Rattle.match_top.specs.declared.small.symbols.Sign.TheVariants as signs
@@ -42,13 +41,13 @@ pub name_complete : (ts us : List Placed) (n : List ℕ) → SpellsName ts n us 
 name_complete _ _ _ (a_name t rest n e) = name_it t rest n e
 
 name_opens : (ts us : List Placed) (n : List ℕ) → SpellsName ts n us → behind signs.CloseCurly ts ≡ None
-name_opens _ _ _ (a_name t rest n e) = rw e refl
+name_opens _ _ _ (a_name t rest n e) = rw e.1 refl
 
 pattern_opens : (ts us : List Placed) (p : SmallPattern) → SpellsPattern ts p us → behind signs.CloseCurly ts ≡ None
 pattern_opens _ _ _ (wildcard t rest e) = rw e refl
 pattern_opens _ _ _ (is_true t rest e) = rw e refl
 pattern_opens _ _ _ (is_false t rest e) = rw e refl
-pattern_opens _ _ _ (path first separator second rest owner variant e f g) = rw e refl
+pattern_opens _ _ _ (path first separator second rest owner variant e f g) = rw e.1 refl
 
 arm_opens : (ts us : List Placed) (x : SmallArm) → SpellsArm ts x us → behind signs.CloseCurly ts ≡ None
 arm_opens _ _ _ (an_arm first arrow digits ts rest p spelled f d) = pattern_opens (first ∷ ts) _ p spelled
@@ -171,11 +170,11 @@ signature_sound ts us h e =
       colon = colon.first;
       t = type.first;
       closing = closing.first;
-      n_is = name.is ∙ ap (λ (x : List ℕ × List ℕ × List ℕ). Named x.0 false) names_are;
+      n_is = subst (λ (x : List ℕ × List ℕ × List ℕ). IsName x.0 name.first) names_are name.is;
       bracket_is = bracket.is;
-      p_is = param.is ∙ ap (λ (x : List ℕ × List ℕ × List ℕ). Named x.1 false) names_are;
+      p_is = subst (λ (x : List ℕ × List ℕ × List ℕ). IsName x.1 param.first) names_are param.is;
       colon_is = colon.is;
-      t_is = type.is ∙ ap (λ (x : List ℕ × List ℕ × List ℕ). Named x.2 false) names_are;
+      t_is = subst (λ (x : List ℕ × List ℕ × List ℕ). IsName x.2 type.first) names_are type.is;
       closing_is = closing.is;
       whole = name.whole ∙ ap (cons name.first) (bracket.whole ∙ ap (cons bracket.first) (param.whole ∙ ap (cons param.first) (colon.whole ∙ ap (cons colon.first)
           (type.whole ∙ ap (cons type.first) (closing.whole ∙ ap (cons closing.first) rest_is)))));
@@ -211,7 +210,7 @@ scrutinee_sound ts us name e =
       opening = opening.first;
       body_is = body.is;
       keyword_is = keyword.is;
-      s_is = scrutinee.is ∙ ap (λ (x : List ℕ). Named x false) (first_is r.0.0 o.0 us name o.2);
+      s_is = subst (λ (x : List ℕ). IsName x scrutinee.first) (first_is r.0.0 o.0 us name o.2) scrutinee.is;
       opening_is = opening.is;
       whole = body.whole ∙ ap (cons body.first) (keyword.whole ∙ ap (cons keyword.first) (scrutinee.whole ∙ ap (cons scrutinee.first) (opening.whole ∙ ap (cons opening.first) (second_is r.0.0 o.0 us name o.2))));
     }
