@@ -1,5 +1,16 @@
+pub mod Begins
+pub mod Characters
+pub mod Escapes
+pub mod Gaps
+pub mod Laws
 pub mod Lexing
+pub mod Marks
+pub mod Names
+pub mod Numbers
 pub mod Pieces
 pub mod Tables
+pub mod Text
+pub mod Texts
+pub mod Tokens
 pub mod Views
 pub mod Words

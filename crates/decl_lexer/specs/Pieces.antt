@@ -1,83 +1,57 @@
--- What the bytes of a small source begin with (the Rust Reference, Lexical structure; the small part of it is our own choice).
-use Rattle.std.specs.Prelude.{ℕ, ◌+◌, ◌-◌, ◌*◌, ◌^◌, Bool, true, false, ◌&&◌, ◌||◌, ◌==◌, nat_le, nat_lt, nat_eq, List, [], ◌∷◌, length, take, codes, Option, Some, None, if◌then◌else◌}
-use Rattle.std.specs.List.{prefix_len, starts_with, list_all}
-use Rattle.std.specs.Option.{option_map_or}
-use Rattle.std.specs.Str.{bytes_eq}
-use Rattle.decl_lexer.specs.Words.{word_of}
-use Rattle.decl_lexer.specs.declared.words.Word.{Word}
-use Rattle.decl_lexer.specs.declared.marks.Mark.{Mark}
-use Rattle.decl_lexer.specs.declared.marks.Mark.TheVariants.{Underscore, PathSeparator, FatArrow, Comma, Colon, OpenRound, CloseRound, OpenCurly, CloseCurly}
+-- What a text begins with: whitespace, a comment or a token, or else a fault.
+use Rattle.std.specs.Prelude.{ℕ, Bool, ◌&&◌, List, [], ◌∷◌, drop}
+use Rattle.std.specs.Char.{is_digit}
+use lib.Chars.{codes}
+use Rattle.decl_lexer.specs.Begins.{Begins, gap, first_case}
+use Rattle.decl_lexer.specs.Text.{skip_while, first_passes, begins_with}
+use Rattle.decl_lexer.specs.Gaps.{is_space, is_within_line, comment_at}
+use Rattle.decl_lexer.specs.Names.{is_name_start, name_at, raw_name_at}
+use Rattle.decl_lexer.specs.Numbers.{number_at}
+use Rattle.decl_lexer.specs.Characters.{quote_at, byte_at}
+use Rattle.decl_lexer.specs.Texts.{text_at, is_raw_text, raw_text_at}
+use Rattle.decl_lexer.specs.declared.escapes.Quoted.TheVariants.{Text, Bytes, CText}
+use Rattle.decl_lexer.specs.Marks.{mark_at}
 
--- a token without its place, and without where its text lies in memory
-pub data Lexeme : Type 0 where
-  Named : List ℕ → Bool → Lexeme
-  Keyword : Word → Lexeme
-  Marked : Mark → Lexeme
-  ALifetime : Lexeme
-  AnInt : Option ℕ → List ℕ → Bool → Lexeme
-  AFloat : Lexeme
-  AChar : ℕ → Lexeme
-  AByte : ℕ → Lexeme
-  AStr : List ℕ → Lexeme
-  AByteStr : Lexeme
-  ACStr : Lexeme
+-- the first of these cases that holds decides what a text begins with whose first character c may begin an identifier
+abbrev pub letter_cases : ℕ → List ℕ → List (Bool × Begins)
+letter_cases c cs =
+    -- `b'` begins a byte
+    (begins_with (codes "b'") (c ∷ cs), byte_at (c ∷ cs) (drop 1 cs)) ∷
+    -- `b` and a quote begin a byte text
+    (begins_with (codes "b\"") (c ∷ cs), text_at Bytes (c ∷ cs) (drop 1 cs)) ∷
+    -- `c` and a quote begin a C text
+    (begins_with (codes "c\"") (c ∷ cs), text_at CText (c ∷ cs) (drop 1 cs)) ∷
+    -- `r`, `#` and a quote begin a raw text
+    (begins_with (codes "r") (c ∷ cs) && is_raw_text cs, raw_text_at Text (c ∷ cs) cs) ∷
+    -- `br`, `#` and a quote begin a raw byte text
+    (begins_with (codes "br") (c ∷ cs) && is_raw_text (drop 1 cs), raw_text_at Bytes (c ∷ cs) (drop 1 cs)) ∷
+    -- `cr`, `#` and a quote begin a raw C text
+    (begins_with (codes "cr") (c ∷ cs) && is_raw_text (drop 1 cs), raw_text_at CText (c ∷ cs) (drop 1 cs)) ∷
+    -- `r#` and an identifier are a raw name
+    (begins_with (codes "r#") (c ∷ cs) && first_passes is_name_start (drop 1 cs), raw_name_at (c ∷ cs) (drop 1 cs)) ∷ []
 
--- a space, a tab, a line feed or a carriage return
-abbrev pub is_blank : ℕ → Bool
-is_blank b = b == 32 || b == 9 || b == 10 || b == 13
+-- else it begins with an identifier
+abbrev pub letter_at : ℕ → List ℕ → Begins
+letter_at c cs = first_case (letter_cases c cs) (name_at (c ∷ cs))
 
--- a decimal digit
-abbrev pub is_digit : ℕ → Bool
-is_digit b = nat_le 48 b && nat_le b 57
+-- the first of these cases that holds decides what a text begins with whose first character is c
+abbrev pub piece_cases : ℕ → List ℕ → List (Bool × Begins)
+piece_cases c cs =
+    -- whitespace
+    (is_space c, gap (skip_while is_space cs)) ∷
+    -- `//` begins a comment to the end of the line
+    (begins_with (codes "//") (c ∷ cs), gap (skip_while is_within_line cs)) ∷
+    -- `/*` begins a comment to its own `*/`
+    (begins_with (codes "/*") (c ∷ cs), comment_at (c ∷ cs) (drop 1 cs)) ∷
+    -- numbers begin with a decimal digit
+    (is_digit c 10, number_at c cs) ∷
+    -- `'` begins a character or a lifetime
+    (begins_with (codes "'") (c ∷ cs), quote_at (c ∷ cs) cs) ∷
+    -- a quote begins a text
+    (begins_with (codes "\"") (c ∷ cs), text_at Text (c ∷ cs) cs) ∷
+    -- names, and what else begins with a letter
+    (is_name_start c, letter_at c cs) ∷ []
 
--- a letter, a digit or an underscore
-abbrev pub is_word : ℕ → Bool
-is_word b = (nat_le 97 b && nat_le b 122) || (nat_le 65 b && nat_le b 90) || b == 95 || is_digit b
-
--- whether the bytes begin with a digit
-abbrev pub starts_with_digit : List ℕ → Bool
-starts_with_digit [] = false
-starts_with_digit (b ∷ bs) = is_digit b
-
--- the number that decimal digits write, behind a number
-abbrev pub number_from : ℕ → List ℕ → ℕ
-number_from n [] = n
-number_from n (d ∷ ds) = number_from (10 * n + (d - 48)) ds
-
--- the number, or nothing where it has more than 128 bits
-unfoldable pub number_of : List ℕ → Option ℕ
-number_of digits = if nat_lt (number_from 0 digits) (2 ^ 128) then Some (number_from 0 digits) else None
-
--- what a word that begins with no digit is: the mark `_`, a keyword or a name
-abbrev pub word_lexeme : List ℕ → Lexeme
-word_lexeme word = if bytes_eq word (codes "_") then Marked Underscore else option_map_or Keyword (word_of word) (Named word false)
-
--- the other marks of small sources, longer ones first
-abbrev pub small_marks : List (List ℕ × Mark)
-small_marks =
-    (codes "::", PathSeparator) ∷
-    (codes "=>", FatArrow) ∷
-    (codes ",", Comma) ∷
-    (codes ":", Colon) ∷
-    (codes "(", OpenRound) ∷
-    (codes ")", CloseRound) ∷
-    (codes "{", OpenCurly) ∷
-    (codes "}", CloseCurly) ∷ []
-
--- the first mark of a table that the bytes begin with, and how many bytes it takes
-abbrev pub mark_in : List (List ℕ × Mark) → List ℕ → Option (Lexeme × ℕ)
-mark_in [] bytes = None
-mark_in (entry ∷ entries) bytes = if starts_with nat_eq bytes entry.0 then Some (Marked entry.1, length entry.0) else mark_in entries bytes
-
--- The longest run of letters, digits and underscores is a decimal number where it has digits alone, and else a word where
--- it begins with no digit.
-abbrev pub run_lexeme : List ℕ → Option Lexeme
-run_lexeme run =
-    if starts_with_digit run then (if list_all is_digit run then Some (AnInt (number_of run) [] true) else None)
-    else Some (word_lexeme run)
-
--- the token that the bytes begin with, and how many bytes it takes
-unfoldable pub token_at : List ℕ → Option (Lexeme × ℕ)
-token_at bytes =
-    let n = prefix_len is_word bytes in
-    if nat_lt 0 n then option_map_or (λ lexeme. Some (lexeme, n)) (run_lexeme (take n bytes)) None else mark_in small_marks bytes
+-- else it begins with a mark, and where there is none no token begins there
+unfoldable pub piece_at : ℕ → List ℕ → Begins
+piece_at c cs = first_case (piece_cases c cs) (mark_at (c ∷ cs))

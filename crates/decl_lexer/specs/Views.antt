@@ -1,65 +1,55 @@
--- What a caller sees of tokens and of answers.
-use Rattle.std.specs.Prelude.{◌≡◌, ℕ, ◌≤◌, ◌<◌, List, map, string_bytes, Option, Some, None, Result, Ok, Err}
+-- What a caller sees of pieces and of answers.
+use Rattle.std.specs.Prelude.{◌≡◌, ℕ, List, chars, String, string_bytes, Result, Ok, Err}
+use denote.Ref.{Bor}
+use Rattle.std.specs.declared.alloc.Global.{Global}
 use Rattle.decl_lexer.specs.declared.marks.Mark.{Mark}
-use Rattle.decl_lexer.specs.declared.token.Token as declared
 use Rattle.decl_lexer.specs.declared.token.TokenKind.{TokenKind}
 use Rattle.decl_lexer.specs.declared.token.TokenKind.TheVariants as kinds
-use Rattle.decl_lexer.specs.declared.token.LexFault.{LexFault}
-use Rattle.decl_lexer.specs.declared.token.LexFault.TheVariants as faults
-use Rattle.decl_lexer.specs.Pieces.{Lexeme, Named, Keyword, Marked, ALifetime, AnInt, AFloat, AChar, AByte, AStr, AByteStr, ACStr}
-use Rattle.decl_lexer.specs.Lexing.{Placed, Next, Token, End, Neither, Lexes}
+use Rattle.decl_lexer.specs.declared.pieces.Piece as declared
+use Rattle.decl_lexer.specs.declared.pieces.Piece.TheVariants as pieces
+use Rattle.decl_lexer.specs.declared.pieces.PieceError.{PieceError}
+use Rattle.decl_lexer.specs.declared.pieces.PieceError.TheVariants as errors
+use Rattle.decl_lexer.specs.Texts.{TextRead}
+use Rattle.decl_lexer.specs.Begins.{Lexeme, Named, Keyword, Marked, Lifetime, Integer, Float, Character, Byte, Text, ByteText, CText, Piece, Gap, Token, Fault, Begins}
+
+-- a mark and the characters behind it
+abbrev pub mark_view : Mark × Bor (List ℕ) → Mark × List ℕ
+mark_view p = (p.0, chars p.1.now)
+
+-- a character and the characters behind it
+abbrev pub char_view : ℕ × Bor (List ℕ) → ℕ × List ℕ
+char_view p = (p.0, chars p.1.now)
 
 -- a token's kind, without where its text lies in memory
 abbrev pub lexeme_view : TokenKind → Lexeme
 lexeme_view (kinds.Name text raw) = Named (string_bytes text) raw
 lexeme_view (kinds.Word word) = Keyword word
 lexeme_view (kinds.Mark mark) = Marked mark
-lexeme_view kinds.Lifetime = ALifetime
-lexeme_view (kinds.Int value suffix decimal) = AnInt value (string_bytes suffix) decimal
-lexeme_view kinds.Float = AFloat
-lexeme_view (kinds.Char c) = AChar c
-lexeme_view (kinds.Byte b) = AByte b
-lexeme_view (kinds.Str text) = AStr (string_bytes text)
-lexeme_view kinds.ByteStr = AByteStr
-lexeme_view kinds.CStr = ACStr
+lexeme_view kinds.Lifetime = Lifetime
+lexeme_view (kinds.Int value suffix decimal) = Integer value (string_bytes suffix) decimal
+lexeme_view kinds.Float = Float
+lexeme_view (kinds.Char c) = Character c
+lexeme_view (kinds.Byte b) = Byte b
+lexeme_view (kinds.Str text) = Text (string_bytes text)
+lexeme_view kinds.ByteStr = ByteText
+lexeme_view kinds.CStr = CText
 
--- a mark, and how many bytes it takes
-abbrev pub marked : Mark × ℕ → Lexeme × ℕ
-marked (mark, n) = (Marked mark, n)
+-- a piece, without where its text lies in memory
+abbrev pub piece_view : declared.Piece → Piece
+piece_view pieces.Gap = Gap
+piece_view (pieces.Token kind) = Token (lexeme_view kind)
 
--- a kind, and how many bytes it takes
-abbrev pub sized : TokenKind × ℕ → Lexeme × ℕ
-sized (kind, n) = (lexeme_view kind, n)
+-- memory ran out, or this fault is what the definition gives
+abbrev pub Fails : {A : Type 0} → PieceError → Result A Fault → Type 0
+Fails errors.Memory read = Unit {0}
+Fails (errors.Fault rule rest) read = read ≡ Err (record { rule = rule; rest = chars rest.now })
 
--- a token, without where its text lies in memory
-abbrev pub token_view : declared.Token → Placed
-token_view t = record { lexeme = lexeme_view t.kind; from = t.from; to = t.to }
+-- what a function returned is what the definition gives, unless memory ran out
+abbrev pub GivesPiece : Result (declared.Piece × Bor (List ℕ)) PieceError → Begins → Type 0
+GivesPiece (Ok x) read = read ≡ Ok (piece_view x.0, chars x.1.now)
+GivesPiece (Err e) read = Fails e read
 
-abbrev pub tokens_view : List declared.Token → List Placed
-tokens_view ts = map token_view ts
-
--- the fault of a source that is no small one: rule 90 at the byte 0
-abbrev pub IsNotBuilt : ℕ → ℕ → Type 0
-IsNotBuilt rule at = (rule ≡ 90) × (at ≡ 0)
-
--- memory ran out, or no token stands there
-abbrev pub FailsAt : LexFault → Next → Type 0
-FailsAt (faults.Rule rule at) next = (next ≡ Neither) × IsNotBuilt rule at
-FailsAt faults.NoMemory next = Unit {0}
-
--- the answer is what stands there, unless memory ran out
-abbrev pub GivesNext : Result (Option declared.Token) LexFault → Next → Type 0
-GivesNext (Ok (Some t)) next = next ≡ Token (token_view t)
-GivesNext (Ok None) next = next ≡ End
-GivesNext (Err e) next = FailsAt e next
-
--- the token stands from this byte on within a source, and is not empty
-pub record StandsWithin (at len : ℕ) (t : declared.Token) : Type 0 where
-  pub behind : at ≤ t.from
-  pub some : t.from < t.to
-  pub within : t.to ≤ len
-
--- memory ran out, or the source has no tokens
-abbrev pub IsFaultOf : List ℕ → LexFault → Type 0
-IsFaultOf source (faults.Rule rule at) = IsNotBuilt rule at × ((ts : List Placed) → Lexes source 0 ts → ⊥)
-IsFaultOf source faults.NoMemory = Unit {0}
+-- the same of a text that is read, and the characters behind it
+abbrev pub GivesText : Result (String Global × Bor (List ℕ)) PieceError → TextRead → Type 0
+GivesText (Ok x) read = read ≡ Ok (string_bytes x.0, chars x.1.now)
+GivesText (Err e) read = Fails e read

@@ -1,10 +1,13 @@
--- The keywords and their texts.
-use Rattle.std.specs.Prelude.{ℕ, List, [], ◌∷◌, Option, codes}
+-- The keywords and their texts (the Rust Reference, "Keywords": strict and reserved ones, without `gen`, which is our own choice).
+use Rattle.std.specs.Prelude.{length, filter, ◌==◌, ℕ, Bool, not, List, [], ◌∷◌, Option}
+use Rattle.std.specs.List.{list_any}
+use Rattle.std.specs.Str.{bytes_eq}
+use lib.Chars.{codes}
 use Rattle.decl_lexer.specs.Tables.{with_text}
 use Rattle.decl_lexer.specs.declared.words.Word.{Word}
 use Rattle.decl_lexer.specs.declared.words.Word.TheVariants.{As, Async, Await, Break, Const, Continue, Crate, Dyn, Else, Enum, Extern, False, Fn, For, If, Impl, In, Let, Loop, Match, Mod, Move, Mut, Pub, Ref, Return, SelfValue, SelfType, Static, Struct, Super, Trait, True, TypeWord, Unsafe, Use, Where, While, Abstract, Become, Box, Do, Final, Macro, Override, Priv, Try, Typeof, Unsized, Virtual, Yield}
 
--- each keyword beside its text, in the order of the Rust Reference
+-- each keyword beside its text
 abbrev pub words : List (List ℕ × Word)
 words =
     (codes "as", As) ∷
@@ -62,3 +65,11 @@ words =
 -- the keyword with this text
 abbrev pub word_of : List ℕ → Option Word
 word_of text = with_text words text
+
+-- whether `r#` may stand before this name
+abbrev pub can_be_raw : List ℕ → Bool
+can_be_raw text = not (list_any (bytes_eq text) (codes "crate" ∷ codes "self" ∷ codes "super" ∷ codes "Self" ∷ codes "_" ∷ []))
+
+-- the keywords of so many letters
+abbrev pub words_of : ℕ → List (List ℕ × Word)
+words_of n = filter (λ entry. length entry.0 == n) words

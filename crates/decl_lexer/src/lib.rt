@@ -1,21 +1,36 @@
-//! Cuts a source file into tokens: names, keywords, marks of punctuation and literals, each with the byte offsets at
-//! which it stands (the Rust Reference, Lexical structure).
+//! Cuts a source text into tokens.
 //!
-//! Built are the tokens of small sources alone (our own choice): ASCII names, keywords, decimal digits and the marks
-//! `::`, `=>`, `,`, `:`, `(`, `)`, `{`, `}` and `_`, with spaces, tabs, line feeds and carriage returns between them.
-//! Anything else is refused by rule 90 at the byte 0. The longest token that fits is taken. `lex` gives all tokens of
-//! a source; `next_token` gives one, so that a reader need not hold them all.
+//! A rest of a text begins with one *piece*: a run of whitespace, a comment or a token, or with one
+//! fault. `specs/Pieces.antt` says which, a case for each kind of piece, in the words of the Rust
+//! Reference's chapter "Lexical structure". A source *lexes* where it is pieces from its start to its
+//! end; else its fault is the one behind the pieces that come before it (`specs/Lexing.antt`).
+//!
+//! [`lex`] gives all tokens or the first fault. [`next_token`] gives the first token at or behind a
+//! place, so that a reader need not hold all of them. [`name_form`] gives the form in which names
+//! are compared, [`word_of`] the keyword that a text is. The laws of `laws.rt` say that a source has
+//! one list of tokens or one fault.
 #![tactic(auto)]
 
+mod characters;
+mod escapes;
+mod gaps;
+mod laws;
 mod lexing;
 mod marks;
+mod names;
+mod numbers;
 mod pieces;
 #[cfg(test)]
 mod tests;
+mod text;
+mod texts;
 mod token;
 mod words;
 
-pub use lexing::{lex, next_token};
+pub use laws::{
+    comments_nest, faults_are_known, one_fault, one_token_list, tokens_in_order, tokens_or_fault,
+};
+pub use lexing::{lex, name_form, next_token};
 pub use marks::Mark;
 pub use token::{LexFault, Token, TokenKind};
 pub use words::{Word, word_of};

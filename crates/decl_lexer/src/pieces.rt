@@ -1,172 +1,183 @@
-//! The token that bytes begin with.
-ghost use Rattle.std.specs.Prelude.{◌≡◌, [], ℕ, ◌<◌, ◌≤◌, All, IfOk, IfSome, length, take, option_map, string_bytes, true};
-ghost use Rattle.std.specs.List.{list_all, prefix_len};
-ghost use Rattle.decl_lexer.specs.Pieces.{AnInt, Lexeme, is_blank, is_digit, is_word, starts_with_digit, number_of, word_lexeme, small_marks, mark_in, run_lexeme, token_at};
-ghost use Rattle.decl_lexer.specs.Views.{lexeme_view, marked, sized};
+//! What a text begins with: whitespace, a comment or a token, or else a fault.
+ghost use Rattle.std.specs.Prelude.{◌≡◌, [], ◌∷◌, ◌&&◌, ◌==◌, drop, option_map, chars, codes};
+ghost use Rattle.decl_lexer.specs.Gaps.{comment_at};
+ghost use Rattle.decl_lexer.specs.Marks.{longest_mark, mark_at};
+ghost use Rattle.decl_lexer.specs.Text.{begins_with, first_passes};
+ghost use Rattle.decl_lexer.specs.Names.{is_name_start};
+ghost use Rattle.decl_lexer.specs.Texts.{is_raw_text};
+ghost use Rattle.decl_lexer.specs.Pieces.{letter_at, piece_at};
+ghost use Rattle.decl_lexer.specs.Views.{GivesPiece, mark_view};
 
-use crate::marks::Mark;
+use crate::characters::{byte_at, quote_at};
+use crate::escapes::Quoted;
+use crate::gaps::{is_space, skip_comment, skip_line, skip_spaces};
+use crate::marks::{Mark, mark_of_one, mark_of_three, mark_of_two};
+use crate::names::{is_name_start, name_at, raw_name_at, starts_name};
+use crate::numbers::number_at;
+use crate::text::{first_is, pair_is, skip_first, split_first};
+use crate::texts::{raw_text_at, starts_raw_text, text_at};
 use crate::token::TokenKind;
-use crate::words::word_of;
 use std::alloc::{AllocError, Global};
 
-fn is_blank_byte(b: u8) -> bool
-    ensures { result ≡ is_blank b }
-{
-    b == b' ' || b == b'\t' || b == b'\n' || b == b'\r'
+/// Whitespace or a comment, or a token.
+#[derive(Debug, Drop)]
+pub enum Piece {
+    Gap,
+    Token(TokenKind),
 }
 
-fn is_digit_byte(b: u8) -> bool
-    ensures { result ≡ is_digit b }
-{
-    b'0' <= b && b <= b'9'
+/// Why no piece was read. A fault holds the text from there on.
+#[derive(Drop)]
+pub enum PieceError<'a> {
+    Memory,
+    Fault { rule: u32, rest: &'a str },
 }
 
-fn is_word_byte(b: u8) -> bool
-    ensures { result ≡ is_word b }
-{
-    b'a' <= b && b <= b'z' || b'A' <= b && b <= b'Z' || b == b'_' || is_digit_byte(b)
-}
+impl From<AllocError> for PieceError<'_> {
+    ghost use Rattle.decl_lexer.specs.declared.pieces.PieceError.TheVariants.{Memory};
 
-/// How many blanks stand first.
-pub fn blank_len(bytes: &[u8]) -> usize
-    ensures len { result ≡ prefix_len is_blank bytes.now }
-    ensures within { result ≤ length bytes.now }
-{
-    bytes.iter().take_while(|b| is_blank_byte(**b)).count()
-}
+    ghost from_gives = { λ _ e. e ≡ Memory };
 
-fn run_len(bytes: &[u8]) -> usize
-    ensures len { result ≡ prefix_len is_word bytes.now }
-    ensures within { result ≤ length bytes.now }
-{
-    bytes.iter().take_while(|b| is_word_byte(**b)).count()
-}
-
-// The longest run of letters, digits and underscores at the front.
-fn first_run(bytes: &[u8]) -> &[u8]
-    ensures run { result.now ≡ take (prefix_len is_word bytes.now) bytes.now }
-    ensures len { length result.now ≡ prefix_len is_word bytes.now }
-    ensures within { length result.now ≤ length bytes.now }
-    ensures word { list_all is_word result.now ≡ true }
-{
-    &bytes[..run_len(bytes)]
-}
-
-fn begins_with_digit(run: &[u8]) -> bool
-    ensures digit { result ≡ starts_with_digit run.now }
-    ensures some { result ≡ true → 0 < length run.now }
-{
-    match run.first() {
-        Some(b) => is_digit_byte(*b),
-        None => false,
+    fn from(_e: AllocError) -> Self {
+        PieceError::Memory
     }
 }
 
-fn are_digits(run: &[u8]) -> bool
-    ensures { result ≡ list_all is_digit run.now }
+/// The piece that the text begins with, and the text behind it.
+/// `behind` is the text behind its first character.
+#[tactic(auto, unfolding(crate::specs::Pieces::piece_at))]
+pub fn piece_at<'a>(
+    alloc: Global,
+    text: &'a str,
+    first: char,
+    behind: &'a str,
+) -> Result<(Piece, &'a str), PieceError<'a>>
+    requires { chars text.now ≡ first ∷ chars behind.now }
+    ensures { GivesPiece result (piece_at first (chars behind.now)) }
 {
-    run.iter().all(|b| is_digit_byte(*b))
+    if is_space(first) {
+        return Ok((Piece::Gap, skip_spaces(behind)));
+    }
+    if first == '/' && first_is('/', behind) {
+        return Ok((Piece::Gap, skip_line(behind)));
+    }
+    if first == '/' && first_is('*', behind) {
+        return comment_at(text, skip_first(behind));
+    }
+    if first.is_digit(10) {
+        return number_at(alloc, text, first, behind);
+    }
+    if first == '\'' {
+        return quote_at(text, behind);
+    }
+    if first == '"' {
+        return text_at(alloc, Quoted::Text, text, behind);
+    }
+    if is_name_start(first) {
+        return letter_at(alloc, text, first, behind);
+    }
+    mark_at(text)
 }
 
-// The text of a run of word bytes, which are all below 128.
-fn run_text(alloc: Global, run: &[u8]) -> Result<String, AllocError>
-    requires { list_all is_word run.now ≡ true }
-    ensures { IfOk result (λ text. string_bytes text ≡ run.now) }
+/// The piece that the text begins with, where an identifier may begin with its first character.
+/// `behind` is the text behind that character.
+fn letter_at<'a>(
+    alloc: Global,
+    text: &'a str,
+    first: char,
+    behind: &'a str,
+) -> Result<(Piece, &'a str), PieceError<'a>>
+    requires { chars text.now ≡ first ∷ chars behind.now }
+    ensures { GivesPiece result (letter_at first (chars behind.now)) }
 {
-    String::from_utf8_lossy(alloc, run)
+    if pair_is('b', '\'', first, behind) {
+        return byte_at(text, skip_first(behind));
+    }
+    if pair_is('b', '"', first, behind) {
+        return text_at(alloc, Quoted::Bytes, text, skip_first(behind));
+    }
+    if pair_is('c', '"', first, behind) {
+        return text_at(alloc, Quoted::CText, text, skip_first(behind));
+    }
+    if is_raw('r', first, behind) {
+        return raw_text_at(alloc, Quoted::Text, text, behind);
+    }
+    if is_raw_pair('b', first, behind) {
+        return raw_text_at(alloc, Quoted::Bytes, text, skip_first(behind));
+    }
+    if is_raw_pair('c', first, behind) {
+        return raw_text_at(alloc, Quoted::CText, text, skip_first(behind));
+    }
+    if is_raw_name(first, behind) {
+        return raw_name_at(alloc, text, skip_first(behind));
+    }
+    name_at(alloc, text)
 }
 
-fn number_in(text: &str) -> Option<u128>
-    requires digits { list_all is_digit text.now ≡ true }
-    requires some { 0 < length text.now }
-    ensures { result ≡ number_of text.now }
+/// Whether the first character is this letter, and a raw text goes on behind it.
+fn is_raw(letter: char, first: char, behind: &str) -> bool
+    ensures { result ≡ (first == letter && is_raw_text (chars behind.now)) }
 {
-    text.parse::<u128>().ok()
+    first == letter && starts_raw_text(behind)
 }
 
-// A keyword, the mark `_` or a name.
-fn word_kind(alloc: Global, run: &[u8]) -> Result<TokenKind, AllocError>
-    requires { list_all is_word run.now ≡ true }
-    ensures { IfOk result (λ kind. lexeme_view kind ≡ word_lexeme run.now) }
+/// Whether this letter and an `r` stand first, and a raw text goes on behind them.
+fn is_raw_pair(letter: char, first: char, behind: &str) -> bool
+    ensures { result ≡ (begins_with (letter ∷ 114 ∷ []) (first ∷ chars behind.now)
+        && is_raw_text (drop 1 (chars behind.now))) }
 {
-    let text = run_text(alloc, run)?;
-    if text.as_str() == "_" {
-        return Ok(TokenKind::Mark(Mark::Underscore));
-    }
-    match word_of(text.as_str()) {
-        Some(word) => Ok(TokenKind::Word(word)),
-        None => Ok(TokenKind::Name { text, raw: false }),
+    pair_is(letter, 'r', first, behind) && starts_raw_text(skip_first(behind))
+}
+
+/// Whether `r#` and an identifier stand first.
+fn is_raw_name(first: char, behind: &str) -> bool
+    ensures { result ≡ (begins_with (codes "r#") (first ∷ chars behind.now)
+        && first_passes is_name_start (drop 1 (chars behind.now))) }
+{
+    pair_is('r', '#', first, behind) && starts_name(skip_first(behind))
+}
+
+/// The block comment that the text begins with, which goes on behind its `/*` as `inside`.
+fn comment_at<'a>(text: &'a str, inside: &'a str) -> Result<(Piece, &'a str), PieceError<'a>>
+    ensures { GivesPiece result (comment_at (chars text.now) (chars inside.now)) }
+{
+    match skip_comment(inside) {
+        Some(rest) => Ok((Piece::Gap, rest)),
+        None => Err(PieceError::Fault {
+            rule: 3,
+            rest: text,
+        }),
     }
 }
 
-fn number_kind(alloc: Global, run: &[u8]) -> Result<TokenKind, AllocError>
-    requires word { list_all is_word run.now ≡ true }
-    requires digits { list_all is_digit run.now ≡ true }
-    requires some { 0 < length run.now }
-    ensures { IfOk result (λ kind. lexeme_view kind ≡ AnInt (number_of run.now) [] true) }
+/// The mark that the text begins with.
+fn mark_at(text: &str) -> Result<(Piece, &str), PieceError<'_>>
+    ensures { GivesPiece result (mark_at (chars text.now)) }
 {
-    let text = run_text(alloc, run)?;
-    Ok(TokenKind::Int {
-        value: number_in(text.as_str()),
-        suffix: String::new(alloc),
-        decimal: true,
-    })
+    match longest_mark(text) {
+        Some((mark, rest)) => Ok((Piece::Token(TokenKind::Mark(mark)), rest)),
+        None => Err(PieceError::Fault {
+            rule: 2,
+            rest: text,
+        }),
+    }
 }
 
-// What a run is, where it is a token.
-fn run_kind(alloc: Global, run: &[u8]) -> Result<Option<TokenKind>, AllocError>
-    requires { list_all is_word run.now ≡ true }
-    ensures { IfOk result (λ o. option_map lexeme_view o ≡ run_lexeme run.now) }
+/// The longest mark that the text begins with, and the text behind it.
+pub fn longest_mark(text: &str) -> Option<(Mark, &str)>
+    ensures { option_map mark_view result ≡ longest_mark (chars text.now) }
 {
-    if !begins_with_digit(run) {
-        return Ok(Some(word_kind(alloc, run)?));
+    let (a, behind_one) = split_first(text)?;
+    if let Some((b, behind_two)) = split_first(behind_one) {
+        if let Some((c, behind_three)) = split_first(behind_two) {
+            if let Some(mark) = mark_of_three(a, b, c) {
+                return Some((mark, behind_three));
+            }
+        }
+        if let Some(mark) = mark_of_two(a, b) {
+            return Some((mark, behind_two));
+        }
     }
-    if are_digits(run) {
-        return Ok(Some(number_kind(alloc, run)?));
-    }
-    Ok(None)
-}
-
-// The mark that stands first, and how many bytes it takes.
-fn mark_at(bytes: &[u8]) -> Option<(Mark, usize)>
-    ensures mark { option_map marked result ≡ mark_in small_marks bytes.now }
-    ensures within { IfSome result (λ m. m.1 ≤ length bytes.now) }
-    ensures some { IfSome result (λ m. 0 < m.1) }
-{
-    if bytes.starts_with(b"::") {
-        return Some((Mark::PathSeparator, 2));
-    }
-    if bytes.starts_with(b"=>") {
-        return Some((Mark::FatArrow, 2));
-    }
-    let mark = match bytes.first()? {
-        b',' => Mark::Comma,
-        b':' => Mark::Colon,
-        b'(' => Mark::OpenRound,
-        b')' => Mark::CloseRound,
-        b'{' => Mark::OpenCurly,
-        b'}' => Mark::CloseCurly,
-        _ => return None,
-    };
-    Some((mark, 1))
-}
-
-/// The token that stands first, and how many bytes it takes: at least one.
-#[tactic(auto, unfolding(crate::specs::Pieces::token_at))]
-pub fn token_at(alloc: Global, bytes: &[u8]) -> Result<Option<(TokenKind, usize)>, AllocError>
-    ensures token { IfOk result (λ o. option_map sized o ≡ token_at bytes.now) }
-    ensures within { IfOk result (λ o. IfSome o (λ t. t.1 ≤ length bytes.now)) }
-    ensures some { IfOk result (λ o. IfSome o (λ t. 0 < t.1)) }
-{
-    let run = first_run(bytes);
-    if run.is_empty() {
-        return Ok(match mark_at(bytes) {
-            Some((mark, n)) => Some((TokenKind::Mark(mark), n)),
-            None => None,
-        });
-    }
-    match run_kind(alloc, run)? {
-        Some(kind) => Ok(Some((kind, run.len()))),
-        None => Ok(None),
-    }
+    let mark = mark_of_one(a)?;
+    Some((mark, behind_one))
 }

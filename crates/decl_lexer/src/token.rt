@@ -1,9 +1,12 @@
-//! Tokens, and the fault of a source that has none.
+//! Tokens, and why a source has none.
+ghost use Rattle.std.specs.Prelude.{◌≡◌};
+
 use crate::marks::Mark;
 use crate::words::Word;
-use std::alloc::{AllocError, AllocFailed};
+use std::alloc::AllocFailed;
 
-/// A token, with the byte offsets in the file of its first byte and of the one behind its last.
+/// A token and its place: the byte offsets in the file where it begins and where it ends.
+/// `from` is below `to`, and the byte at `to` is the first one behind it.
 #[derive(Debug, Drop)]
 pub struct Token {
     pub kind: TokenKind,
@@ -11,60 +14,48 @@ pub struct Token {
     pub to: u64,
 }
 
-/// What a token is, in the kinds of the Rust Reference's chapter Tokens.
+/// What a token is.
+///
+/// Source: the Rust Reference, "Tokens".
 #[derive(Debug, Drop)]
 pub enum TokenKind {
-    /// A name that is no keyword; `raw` where it was written behind `r#`, which `text` leaves out.
+    /// An identifier in NFC, without its `r#`.
     Name {
         text: String,
         raw: bool,
     },
-    /// A keyword.
     Word(Word),
-    /// A mark of punctuation.
     Mark(Mark),
-    /// A lifetime.
+    /// A lifetime or a raw lifetime.
     Lifetime,
-    /// An integer: its value, `None` from 2^128 on, its suffix, empty where there is none, and whether it is decimal.
+    /// An integer literal. `value` is `None` from 2^128 on, `suffix` is as written, or empty, and
+    /// `decimal` says that no base stands before the digits.
     Int {
         value: Option<u128>,
         suffix: String,
         decimal: bool,
     },
-    /// A floating-point number.
     Float,
-    /// A character.
     Char(char),
-    /// A byte.
     Byte(u8),
-    /// A text.
+    /// A text, with a line feed for each CR LF and with its escapes read.
     Str(String),
-    /// A text of bytes.
     ByteStr,
-    /// A C text.
     CStr,
 }
 
-/// Why a source has no tokens: the number of the rule that it breaks, with the byte offset of the fault, or memory.
+/// Why a source has no tokens: the first rule that it breaks and the byte offset there, or memory.
+///
+/// Rule 1: the bytes are not UTF-8 from there on. Rule 2: no token begins there. Rule 3: a block
+/// comment is not closed. Rule 4: a text is not closed. Rule 5: no escape begins at this backslash.
+/// The numbers are our own choice.
 #[derive(Debug, Drop)]
 pub enum LexFault {
     Rule { rule: u32, at: u64 },
     NoMemory,
 }
 
-impl From<AllocError> for LexFault {
-    ghost use Rattle.std.specs.Prelude.{◌≡◌};
-    ghost use Rattle.decl_lexer.specs.declared.token.LexFault.TheVariants.{NoMemory};
-
-    ghost from_gives = { λ _ e. e ≡ NoMemory };
-
-    fn from(_e: AllocError) -> Self {
-        LexFault::NoMemory
-    }
-}
-
 impl<T: Drop> From<AllocFailed<T>> for LexFault {
-    ghost use Rattle.std.specs.Prelude.{◌≡◌};
     ghost use Rattle.decl_lexer.specs.declared.token.LexFault.TheVariants.{NoMemory};
 
     ghost from_gives = { λ _ e. e ≡ NoMemory };

@@ -1,6 +1,8 @@
 pub mod Answered
 pub mod Fronts
 pub mod Going
+pub mod Judged
+pub mod Scans
 pub mod SmallCasesLemmas
 pub mod SmallFiles
 pub mod SmallItemLaws
@@ -10,7 +12,6 @@ pub mod SmallNames
 pub mod SmallSeen
 pub mod SmallStreams
 pub mod SmallReported
-pub mod SmallGood
 pub mod SmallMeaning
 pub mod SmallVerdict
 pub mod SmallCover

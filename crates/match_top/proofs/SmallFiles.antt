@@ -59,7 +59,7 @@ whole ts rest items all r e s =
 
 -- what a small source spells, as a reader comes to it
 pub spelled_stream : (source : List ℕ) (all : List SmallItem) → IsSmallSource source all → SpellsFile (stream source 0) all
-spelled_stream source all h = subst (λ (ts : List Placed). SpellsFile ts all) (sym (lexes_stream source 0 h.tokens h.lexed)) h.spelled
+spelled_stream source all h = subst (λ (ts : List Placed). SpellsFile ts all) (sym (lexes_stream source h.tokens h.lexed)) h.spelled
 
 -- ---- names
 

@@ -2,7 +2,6 @@
 use Rattle.std.proofs.Common.{◌≡◌, ℕ, zero, suc, false, List, [], ◌∷◌, length, Some, None, refl, sym, ap, subst, ◌∙◌, inl, inr}
 use Rattle.decl_lexer.specs.declared.words.Word.TheVariants as words
 use Rattle.decl_lexer.specs.declared.marks.Mark.TheVariants as marks
-use Rattle.decl_lexer.specs.Pieces.{Named}
 use Rattle.decl_lexer.specs.Lexing.{Placed}
 use Rattle.match_top.specs.declared.small.symbols.Sign.{Sign}
 use Rattle.match_top.specs.declared.small.symbols.Sign.TheVariants as signs
@@ -42,13 +41,13 @@ pub name_complete : (ts us : List Placed) (n : List ℕ) → SpellsName ts n us 
 name_complete _ _ _ (a_name t rest n e) = name_it t rest n e
 
 name_opens : (ts us : List Placed) (n : List ℕ) → SpellsName ts n us → behind signs.CloseCurly ts ≡ None
-name_opens _ _ _ (a_name t rest n e) = rw e refl
+name_opens _ _ _ (a_name t rest n e) = rw e.1 refl
 
 pattern_opens : (ts us : List Placed) (p : SmallPattern) → SpellsPattern ts p us → behind signs.CloseCurly ts ≡ None
 pattern_opens _ _ _ (wildcard t rest e) = rw e refl
 pattern_opens _ _ _ (is_true t rest e) = rw e refl
 pattern_opens _ _ _ (is_false t rest e) = rw e refl
-pattern_opens _ _ _ (path first separator second rest owner variant e f g) = rw e refl
+pattern_opens _ _ _ (path first separator second rest owner variant e f g) = rw e.1 refl
 
 arm_opens : (ts us : List Placed) (x : SmallArm) → SpellsArm ts x us → behind signs.CloseCurly ts ≡ None
 arm_opens _ _ _ (an_arm first arrow digits ts rest p spelled f d) = pattern_opens (first ∷ ts) _ p spelled
@@ -171,11 +170,11 @@ signature_sound ts us h e =
       colon = colon.first;
       t = type.first;
       closing = closing.first;
-      n_is = name.is ∙ ap (λ (x : List ℕ × List ℕ × List ℕ). Named x.0 false) names_are;
+      n_is = subst (λ (x : List ℕ × List ℕ × List ℕ). IsName x.0 name.first) names_are name.is;
       bracket_is = bracket.is;
-      p_is = param.is ∙ ap (λ (x : List ℕ × List ℕ × List ℕ). Named x.1 false) names_are;
+      p_is = subst (λ (x : List ℕ × List ℕ × List ℕ). IsName x.1 param.first) names_are param.is;
       colon_is = colon.is;
-      t_is = type.is ∙ ap (λ (x : List ℕ × List ℕ × List ℕ). Named x.2 false) names_are;
+      t_is = subst (λ (x : List ℕ × List ℕ × List ℕ). IsName x.2 type.first) names_are type.is;
       closing_is = closing.is;
       whole = name.whole ∙ ap (cons name.first) (bracket.whole ∙ ap (cons bracket.first) (param.whole ∙ ap (cons param.first) (colon.whole ∙ ap (cons colon.first)
           (type.whole ∙ ap (cons type.first) (closing.whole ∙ ap (cons closing.first) rest_is)))));
@@ -211,7 +210,7 @@ scrutinee_sound ts us name e =
       opening = opening.first;
       body_is = body.is;
       keyword_is = keyword.is;
-      s_is = scrutinee.is ∙ ap (λ (x : List ℕ). Named x false) (first_is r.0.0 o.0 us name o.2);
+      s_is = subst (λ (x : List ℕ). IsName x scrutinee.first) (first_is r.0.0 o.0 us name o.2) scrutinee.is;
       opening_is = opening.is;
       whole = body.whole ∙ ap (cons body.first) (keyword.whole ∙ ap (cons keyword.first) (scrutinee.whole ∙ ap (cons scrutinee.first) (opening.whole ∙ ap (cons opening.first) (second_is r.0.0 o.0 us name o.2))));
     }
@@ -237,21 +236,21 @@ function_sound word ts us x is e =
 
 pub function_complete : (word : Placed) (ts us : List Placed) (x : SmallFunction) → SpellsFunction (word ∷ ts) x us → IsWord words.Fn word × (function_behind ts ≡ Some (x, us))
 unfolding function_behind signature_behind scrutinee_behind
-function_complete _ _ _ _ (a_function word n bracket p colon t closing body keyword s opening end ts rest name param type scrutinee fs w1 w2 w3 w4 w5 w6 w7 w8 w9 w10 w11 list w12) = (
-  w1,
+function_complete _ _ _ _ (a_function word n bracket p colon t closing body keyword s opening end ts rest name param type scrutinee fs k1 k2 k3 k4 k5 k6 k7 k8 k9 k10 k11 list k12) = (
+  k1,
   rw (
-    name_it n (bracket ∷ p ∷ colon ∷ t ∷ closing ∷ body ∷ keyword ∷ s ∷ opening ∷ ts) name w2,
-    behind_it signs.OpenRound bracket (p ∷ colon ∷ t ∷ closing ∷ body ∷ keyword ∷ s ∷ opening ∷ ts) w3,
-    name_it p (colon ∷ t ∷ closing ∷ body ∷ keyword ∷ s ∷ opening ∷ ts) param w4,
-    behind_it signs.Colon colon (t ∷ closing ∷ body ∷ keyword ∷ s ∷ opening ∷ ts) w5,
-    name_it t (closing ∷ body ∷ keyword ∷ s ∷ opening ∷ ts) type w6,
-    behind_it signs.CloseRound closing (body ∷ keyword ∷ s ∷ opening ∷ ts) w7,
-    behind_it signs.OpenCurly body (keyword ∷ s ∷ opening ∷ ts) w8,
-    behind_it signs.Match keyword (s ∷ opening ∷ ts) w9,
-    name_it s (opening ∷ ts) scrutinee w10,
-    behind_it signs.OpenCurly opening ts w11,
+    name_it n (bracket ∷ p ∷ colon ∷ t ∷ closing ∷ body ∷ keyword ∷ s ∷ opening ∷ ts) name k2,
+    behind_it signs.OpenRound bracket (p ∷ colon ∷ t ∷ closing ∷ body ∷ keyword ∷ s ∷ opening ∷ ts) k3,
+    name_it p (colon ∷ t ∷ closing ∷ body ∷ keyword ∷ s ∷ opening ∷ ts) param k4,
+    behind_it signs.Colon colon (t ∷ closing ∷ body ∷ keyword ∷ s ∷ opening ∷ ts) k5,
+    name_it t (closing ∷ body ∷ keyword ∷ s ∷ opening ∷ ts) type k6,
+    behind_it signs.CloseRound closing (body ∷ keyword ∷ s ∷ opening ∷ ts) k7,
+    behind_it signs.OpenCurly body (keyword ∷ s ∷ opening ∷ ts) k8,
+    behind_it signs.Match keyword (s ∷ opening ∷ ts) k9,
+    name_it s (opening ∷ ts) scrutinee k10,
+    behind_it signs.OpenCurly opening ts k11,
     list_complete SpellsArm arm_at arms ts (end ∷ rest) fs list,
-    behind_it signs.CloseCurly end rest w12,
+    behind_it signs.CloseCurly end rest k12,
   ) refl,
 )
 

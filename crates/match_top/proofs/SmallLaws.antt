@@ -6,11 +6,11 @@ use Rattle.decl_lexer.specs.declared.words.Word.{Word}
 use Rattle.decl_lexer.specs.declared.words.Word.TheVariants as words
 use Rattle.decl_lexer.specs.declared.marks.Mark.{Mark}
 use Rattle.decl_lexer.specs.declared.marks.Mark.TheVariants as marks
-use Rattle.decl_lexer.specs.Pieces.{Lexeme, Named, Keyword, Marked, AnInt}
+use Rattle.decl_lexer.specs.Begins.{Lexeme, Named, Keyword, Marked, Integer}
 use Rattle.decl_lexer.specs.Lexing.{Placed}
 use Rattle.match_top.specs.declared.small.symbols.Sign.{Sign}
 use Rattle.match_top.specs.declared.small.symbols.Sign.TheVariants as signs
-use Rattle.match_top.specs.SmallSymbols.{Sym, ASign, AName, SomeDigits, OtherSym, symbol_of, sign_symbol, word_sign, mark_sign, int_symbol, name_symbol, sign_number, same_sign}
+use Rattle.match_top.specs.SmallSymbols.{Sym, ASign, AName, SomeDigits, OtherSym, symbol_of, sign_symbol, word_sign, mark_sign, int_symbol, sign_number, same_sign}
 use Rattle.match_top.specs.SmallStream.{behind, behind_sym}
 use Rattle.match_top.specs.SmallSource.{SmallPattern, Wildcard, Literal, Path, IsName, IsDigits, SpellsPattern, wildcard, is_true, is_false, path}
 use Rattle.match_top.specs.SmallReading.{name_of, name_at, digits_of, digits_at, path_behind, pattern_of}
@@ -76,10 +76,6 @@ mark_is marks.OpenCurly g e = ap sign_lexeme (some_is _ _ e)
 mark_is marks.CloseCurly g e = ap sign_lexeme (some_is _ _ e)
 mark_is _ g e = absurd cc
 
-no_sign_name : (text : List ℕ) (raw : Bool) (g : Sign) → name_symbol text raw ≡ ASign g → ⊥
-no_sign_name text true g e = cc
-no_sign_name text false g e = cc
-
 no_sign_int : (suffix : List ℕ) (decimal : Bool) (g : Sign) → int_symbol suffix decimal ≡ ASign g → ⊥
 no_sign_int [] true g e = cc
 no_sign_int [] false g e = cc
@@ -88,10 +84,10 @@ no_sign_int (b ∷ bs) false g e = cc
 
 -- a token that a sign is
 pub lexeme_is : (l : Lexeme) (g : Sign) → symbol_of l ≡ ASign g → l ≡ sign_lexeme g
-lexeme_is (Named text raw) g e = absurd (no_sign_name text raw g e)
+lexeme_is (Named text raw) g e = absurd cc
 lexeme_is (Keyword w) g e = word_is w g (of_sign (word_sign w) g e)
 lexeme_is (Marked m) g e = mark_is m g (of_sign (mark_sign m) g e)
-lexeme_is (AnInt value suffix decimal) g e = absurd (no_sign_int suffix decimal g e)
+lexeme_is (Integer value suffix decimal) g e = absurd (no_sign_int suffix decimal g e)
 lexeme_is _ g e = absurd cc
 
 no_name_sign : (o : Option Sign) (n : List ℕ) → sign_symbol o ≡ AName n → ⊥
@@ -101,10 +97,6 @@ no_name_sign None n e = cc
 name_text : (m n : List ℕ) → AName m ≡ AName n → m ≡ n
 name_text m n e = cc
 
-name_named : (text : List ℕ) (raw : Bool) (n : List ℕ) → name_symbol text raw ≡ AName n → Named text raw ≡ Named n false
-name_named text false n e = ap (λ (m : List ℕ). Named m false) (name_text text n e)
-name_named text true n e = absurd cc
-
 no_name_int : (suffix : List ℕ) (decimal : Bool) (n : List ℕ) → int_symbol suffix decimal ≡ AName n → ⊥
 no_name_int [] true n e = cc
 no_name_int [] false n e = cc
@@ -112,32 +104,28 @@ no_name_int (b ∷ bs) true n e = cc
 no_name_int (b ∷ bs) false n e = cc
 
 -- a token that a name is
-name_lexeme : (l : Lexeme) (n : List ℕ) → symbol_of l ≡ AName n → l ≡ Named n false
-name_lexeme (Named text raw) n e = name_named text raw n e
+name_lexeme : (l : Lexeme) (n : List ℕ) → symbol_of l ≡ AName n → (raw : Bool) × (l ≡ Named n raw)
+name_lexeme (Named text raw) n e = (raw, ap (λ (m : List ℕ). Named m raw) (name_text text n e))
 name_lexeme (Keyword w) n e = absurd (no_name_sign (word_sign w) n e)
 name_lexeme (Marked m) n e = absurd (no_name_sign (mark_sign m) n e)
-name_lexeme (AnInt value suffix decimal) n e = absurd (no_name_int suffix decimal n e)
+name_lexeme (Integer value suffix decimal) n e = absurd (no_name_int suffix decimal n e)
 name_lexeme _ n e = absurd cc
 
 no_digits_sign : (o : Option Sign) → sign_symbol o ≡ SomeDigits → ⊥
 no_digits_sign (Some g) e = cc
 no_digits_sign None e = cc
 
-no_digits_name : (text : List ℕ) (raw : Bool) → name_symbol text raw ≡ SomeDigits → ⊥
-no_digits_name text false e = cc
-no_digits_name text true e = cc
-
-int_digits : (value : Option ℕ) (suffix : List ℕ) (decimal : Bool) → int_symbol suffix decimal ≡ SomeDigits → (v : Option ℕ) × (AnInt value suffix decimal ≡ AnInt v [] true)
+int_digits : (value : Option ℕ) (suffix : List ℕ) (decimal : Bool) → int_symbol suffix decimal ≡ SomeDigits → (v : Option ℕ) × (Integer value suffix decimal ≡ Integer v [] true)
 int_digits value [] true e = (value, refl)
 int_digits value [] false e = absurd cc
 int_digits value (b ∷ bs) true e = absurd cc
 int_digits value (b ∷ bs) false e = absurd cc
 
-digits_lexeme : (l : Lexeme) → symbol_of l ≡ SomeDigits → (v : Option ℕ) × (l ≡ AnInt v [] true)
-digits_lexeme (Named text raw) e = absurd (no_digits_name text raw e)
+digits_lexeme : (l : Lexeme) → symbol_of l ≡ SomeDigits → (v : Option ℕ) × (l ≡ Integer v [] true)
+digits_lexeme (Named text raw) e = absurd cc
 digits_lexeme (Keyword w) e = absurd (no_digits_sign (word_sign w) e)
 digits_lexeme (Marked m) e = absurd (no_digits_sign (mark_sign m) e)
-digits_lexeme (AnInt value suffix decimal) e = int_digits value suffix decimal e
+digits_lexeme (Integer value suffix decimal) e = int_digits value suffix decimal e
 digits_lexeme _ e = absurd cc
 
 -- the sign of a number
@@ -206,14 +194,20 @@ named_behind (ASign g) ts us n e = absurd cc
 named_behind SomeDigits ts us n e = absurd cc
 named_behind OtherSym ts us n e = absurd cc
 
-pub name_some : (ts us : List Placed) (n : List ℕ) → name_at ts ≡ Some (n, us) → Heads (Named n false) ts us
+-- the tokens begin with a name, and these stand behind it
+pub record HeadsName (n : List ℕ) (ts rest : List Placed) : Type 0 where
+  pub first : Placed
+  pub is : IsName n first
+  pub whole : ts ≡ first ∷ rest
+
+pub name_some : (ts us : List Placed) (n : List ℕ) → name_at ts ≡ Some (n, us) → HeadsName n ts us
 name_some [] us n e = absurd cc
 name_some (t ∷ ts) us n e =
     let s = named_behind (symbol_of t.lexeme) ts us n e in
     record { first = t; is = name_lexeme t.lexeme n s.0; whole = ap (λ (vs : List Placed). t ∷ vs) s.1 }
 
-pub name_it : (t : Placed) (rest : List Placed) (n : List ℕ) → t.lexeme ≡ Named n false → name_at (t ∷ rest) ≡ Some (n, rest)
-name_it t rest n e = rw e refl
+pub name_it : (t : Placed) (rest : List Placed) (n : List ℕ) → IsName n t → name_at (t ∷ rest) ≡ Some (n, rest)
+name_it t rest n (raw, e) = rw e refl
 
 -- the tokens begin with digits, and these stand behind them
 pub record HeadsDigits (ts rest : List Placed) : Type 0 where
@@ -269,4 +263,4 @@ pub pattern_complete : (t : Placed) (ts us : List Placed) (p : SmallPattern) →
 pattern_complete _ _ _ _ (wildcard t rest e) = rw e refl
 pattern_complete _ _ _ _ (is_true t rest e) = rw e refl
 pattern_complete _ _ _ _ (is_false t rest e) = rw e refl
-pattern_complete _ _ _ _ (path first separator second rest owner variant e f g) = rw (e, behind_it signs.PathSeparator separator (second ∷ rest) f, g) refl
+pattern_complete _ _ _ _ (path first separator second rest owner variant e f g) = rw (e.1, behind_it signs.PathSeparator separator (second ∷ rest) f, g.1) refl

@@ -5,19 +5,20 @@ use Rattle.std.proofs.Common.{◌≡◌, ℕ, List, [], ◌∷◌, map, Some, re
 use Rattle.std.specs.List.{AllZip}
 use Rattle.std.proofs.lemmas.List.{append-nil}
 use Rattle.verdict_json.specs.declared.report.FnReport.{FnReport}
+use Rattle.decl_lexer.specs.Lexing.{Placed}
 use Rattle.match_top.specs.declared.small.reporting.Reported.{Reported}
 use Rattle.match_top.specs.SmallSource.{SmallFunction, SmallItem, SpellsFile, no_item}
 use Rattle.match_top.specs.SmallConditions.{enums_of, functions_of, IsNotSmall}
 use Rattle.match_top.specs.SmallStream.{stream}
 use Rattle.match_top.specs.SmallCases.{count_of}
 use Rattle.match_top.specs.SmallJudging.{missing}
+use Rattle.match_top.specs.SmallDigits.{HasDigits}
 use Rattle.match_top.specs.SmallTypes.{EnumMap}
 use Rattle.match_top.specs.SmallSurvey.{variants_in, variants_named, NamesFit, Surveyed}
 use Rattle.match_top.specs.SmallReporting.{IsReportOf, HasAllReports}
 use Rattle.match_top.specs.SmallReports.{IsReportOn, IsReported}
-use Rattle.match_top.proofs.SmallStreams.{stream_lexes}
+use Rattle.match_top.proofs.SmallStreams.{lexes_stream}
 use Rattle.match_top.proofs.SmallFiles.{spelled, whole}
-use Rattle.match_top.proofs.SmallGood.{file_good}
 use Rattle.match_top.proofs.SmallReported.{type_same, reports_typed}
 use Rattle.match_top.proofs.SmallMeaning.{type_known, taking}
 use Rattle.match_top.proofs.SmallVerdict.{exhaustive_by, unreachable_by}
@@ -50,8 +51,8 @@ reports_on items enums [] (r ∷ rs) is all = absurd all
 reports_on items enums (f ∷ fs) [] is all = absurd all
 reports_on items enums (f ∷ fs) (r ∷ rs) is all = (report_on items enums f r is all.0, reports_on items enums fs rs is all.1)
 
-pub reported : (source : List ℕ) (enums : EnumMap) (r : Reported) → Surveyed source enums → HasAllReports source enums r → IsReported source r.text.items r.exhaustive
-reported source enums r s h =
+pub reported : (source : List ℕ) (enums : EnumMap) (r : Reported) → HasDigits source → Surveyed source enums → HasAllReports source enums r → IsReported source r.text.items r.exhaustive
+reported source enums r d s h =
     let file : SpellsFile (stream source 0) h.items = subst (SpellsFile (stream source 0)) (append-nil h.items) (spelled (stream source 0) [] h.items [] h.read no_item) in
     let same : h.items ≡ s.items = whole (stream source 0) [] s.items h.items s.read refl file in
     let is : (n : List ℕ) → variants_in enums n ≡ variants_named (enums_of h.items) n = λ n. s.map_is n ∙ ap (λ (xs : List SmallItem). variants_named (enums_of xs) n) (sym same) in
@@ -59,9 +60,10 @@ reported source enums r s h =
     record {
       items = h.items;
       small = record {
-        tokens = stream source 0;
-        lexed = stream_lexes source 0 (file_good (stream source 0) h.items file);
-        spelled = file;
+        tokens = d.tokens;
+        lexed = d.lexed;
+        digits = d.digits;
+        spelled = subst (λ (ts : List Placed). SpellsFile ts h.items) (lexes_stream source d.tokens d.lexed) file;
         conditions = record {
           enums = names.enums;
           functions = names.functions;
@@ -76,7 +78,7 @@ reported source enums r s h =
       exhaustive_is = h.exhaustive_is;
     }
 
-pub answered : (source : List ℕ) (enums : EnumMap) (r : Result (Option Reported) NoMemory) → Surveyed source enums → IfOk r (λ o. MatchOption o (IsNotSmall source) (HasAllReports source enums)) → IfOk r (λ o. MatchOption o (IsNotSmall source) (λ r. IsReported source r.text.items r.exhaustive))
-answered source enums (Ok None) s h = h
-answered source enums (Ok (Some r)) s h = reported source enums r s h
-answered source enums (Err e) s h = tt
+pub answered : (source : List ℕ) (enums : EnumMap) (r : Result (Option Reported) NoMemory) → HasDigits source → Surveyed source enums → IfOk r (λ o. MatchOption o (IsNotSmall source) (HasAllReports source enums)) → IfOk r (λ o. MatchOption o (IsNotSmall source) (λ r. IsReported source r.text.items r.exhaustive))
+answered source enums (Ok None) d s h = h
+answered source enums (Ok (Some r)) d s h = reported source enums r d s h
+answered source enums (Err e) d s h = tt

@@ -1,6 +1,7 @@
 -- What is written for the bytes of a file, and the status that goes with it.
-use Rattle.std.specs.Prelude.{◌≡◌, ◌⊎◌, ℕ, ◌+◌, Bool, true, false, List, None, take, length, nat_lt, MatchBool}
+use Rattle.std.specs.Prelude.{Option, Some, ◌≡◌, ◌⊎◌, ℕ, ◌+◌, Bool, true, false, List, None, take, length, nat_lt, MatchBool}
 use Rattle.verdict_json.specs.Refused.{refusal_text}
+use Rattle.decl_lexer.specs.Lexing.{Placed, HasTokens, HasFault}
 use Rattle.match_top.specs.declared.statuses.Status.{Status}
 use Rattle.match_top.specs.declared.statuses.Status.TheVariants.{Clean, Found, Refused}
 use Rattle.match_top.specs.SmallConditions.{IsNotSmall}
@@ -18,9 +19,13 @@ most_taken = longest_source + 1
 unfoldable pub taken : List ℕ → List ℕ
 taken bytes = take most_taken bytes
 
+-- the source is refused as a whole by this rule, with this place in it, if any
+abbrev pub IsRefusedAt : ℕ → Option ℕ → List ℕ → Status → Type 0
+IsRefusedAt rule place text status = (text ≡ refusal_text (record { rule = rule; item = None; arm = None; at = place })) × (status ≡ Refused)
+
 -- the source is refused as a whole by this rule, without a place in it
 abbrev pub IsRefusedBy : ℕ → List ℕ → Status → Type 0
-IsRefusedBy rule text status = (text ≡ refusal_text (record { rule = rule; item = None; arm = None; at = None })) × (status ≡ Refused)
+IsRefusedBy rule text status = IsRefusedAt rule None text status
 
 -- the status of a report, by whether every match in it is exhaustive
 abbrev pub status_of : Bool → Status
@@ -33,9 +38,24 @@ pub record IsReportedAs (source text : List ℕ) (status : Status) : Type 0 wher
   pub report : IsReported source text exhaustive
   pub status_is : status ≡ status_of exhaustive
 
--- the text and the status of a source that is not too long: a small one is judged, any other is refused by rule 90
+-- the source does not lex, and is refused by the rule of its first fault at its place
+pub record IsRefusedFault (source text : List ℕ) (status : Status) : Type 0 where
+  pub rule : ℕ
+  pub place : ℕ
+  pub fault : HasFault source rule place
+  pub refused : IsRefusedAt rule (Some place) text status
+
+-- the source has tokens, but is no small one, and is refused by rule 90
+pub record IsRefusedSource (source text : List ℕ) (status : Status) : Type 0 where
+  pub tokens : List Placed
+  pub lexed : HasTokens source tokens
+  pub other : IsNotSmall source
+  pub refused : IsRefusedBy 90 text status
+
+-- the text and the status of a source that is not too long: one that does not lex is refused with its first fault, a
+-- small one is judged, any other is refused by rule 90
 unfoldable pub IsJudged : List ℕ → List ℕ → Status → Type 0
-IsJudged source text status = IsReportedAs source text status ⊎ (IsNotSmall source × IsRefusedBy 90 text status)
+IsJudged source text status = IsRefusedFault source text status ⊎ (IsReportedAs source text status ⊎ IsRefusedSource source text status)
 
 -- the text and the status of a file that has these bytes: one that is longer than a source may be is refused by rule 7
 unfoldable pub Answers : List ℕ → List ℕ → Status → Type 0

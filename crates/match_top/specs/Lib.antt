@@ -1,7 +1,9 @@
 pub mod Answers
 pub mod Reading
+pub mod Scanning
 pub mod SmallCases
 pub mod SmallConditions
+pub mod SmallDigits
 pub mod SmallJudging
 pub mod SmallReading
 pub mod SmallSource

@@ -2,7 +2,8 @@
 use Rattle.std.specs.Prelude.{◌≡◌, ℕ, Bool, true, false, not, ◌&&◌, List, [], ◌∷◌, ◌++◌, map, codes, Option, Some, None, option_map, if◌then◌else◌}
 use Rattle.std.specs.List.{list_any, AllByRecursion}
 use Rattle.std.specs.Str.{bytes_eq}
-use Rattle.decl_lexer.specs.Lexing.{Placed, Lexes}
+use Rattle.decl_lexer.specs.Lexing.{Placed, HasTokens}
+use Rattle.match_top.specs.SmallDigits.{AreDigits}
 use Rattle.match_top.specs.SmallSource.{SmallPattern, Wildcard, Literal, Path, SmallFunction, SmallEnum, SmallItem, AnEnum, AFunction, SpellsFile}
 
 -- the enums and the functions of a file, in order
@@ -74,7 +75,8 @@ pub record KeepsConditions (items : List SmallItem) : Type 0 where
 -- the source is small, and of these items
 pub record IsSmallSource (source : List ℕ) (items : List SmallItem) : Type 0 where
   pub tokens : List Placed
-  pub lexed : Lexes source 0 tokens
+  pub lexed : HasTokens source tokens
+  pub digits : AreDigits source tokens
   pub spelled : SpellsFile tokens items
   pub conditions : KeepsConditions items
 

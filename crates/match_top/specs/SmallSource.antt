@@ -6,7 +6,7 @@ use Rattle.decl_lexer.specs.declared.words.Word.{Word}
 use Rattle.decl_lexer.specs.declared.words.Word.TheVariants as words
 use Rattle.decl_lexer.specs.declared.marks.Mark.{Mark}
 use Rattle.decl_lexer.specs.declared.marks.Mark.TheVariants as marks
-use Rattle.decl_lexer.specs.Pieces.{Named, Keyword, Marked, AnInt}
+use Rattle.decl_lexer.specs.Begins.{Named, Keyword, Marked, Integer}
 use Rattle.decl_lexer.specs.Lexing.{Placed}
 
 -- a pattern as it is written: `_`, `true` or `false`, or the names of an enum and of a variant
@@ -37,12 +37,12 @@ pub data SmallItem : Type 0 where
   AnEnum : SmallEnum → SmallItem
   AFunction : SmallFunction → SmallItem
 
--- the token is a name, a decimal number without a suffix, or this keyword or mark
+-- the token is a name, raw or not, a decimal integer without a suffix, or this keyword or mark
 abbrev pub IsName : List ℕ → Placed → Type 0
-IsName name t = t.lexeme ≡ Named name false
+IsName name t = (raw : Bool) × (t.lexeme ≡ Named name raw)
 
 abbrev pub IsDigits : Placed → Type 0
-IsDigits t = (value : Option ℕ) × (t.lexeme ≡ AnInt value [] true)
+IsDigits t = (value : Option ℕ) × (t.lexeme ≡ Integer value [] true)
 
 abbrev pub IsWord : Word → Placed → Type 0
 IsWord word t = t.lexeme ≡ Keyword word

@@ -4,7 +4,7 @@ use Rattle.decl_lexer.specs.declared.words.Word.{Word}
 use Rattle.decl_lexer.specs.declared.words.Word.TheVariants as words
 use Rattle.decl_lexer.specs.declared.marks.Mark.{Mark}
 use Rattle.decl_lexer.specs.declared.marks.Mark.TheVariants as marks
-use Rattle.decl_lexer.specs.Pieces.{Lexeme, Named, Keyword, Marked, AnInt}
+use Rattle.decl_lexer.specs.Begins.{Lexeme, Named, Keyword, Marked, Integer}
 use Rattle.match_top.specs.declared.small.symbols.Sign.{Sign}
 use Rattle.match_top.specs.declared.small.symbols.Sign.TheVariants.{Enum, Fn, Match, True, False, Underscore, Comma, Colon, PathSeparator, FatArrow, OpenRound, CloseRound, OpenCurly, CloseCurly}
 use Rattle.match_top.specs.declared.small.symbols.Symbol.{Symbol}
@@ -49,21 +49,17 @@ abbrev pub sign_symbol : Option Sign → Sym
 sign_symbol (Some sign) = ASign sign
 sign_symbol None = OtherSym
 
--- decimal digits alone
+-- decimal, without a suffix
 abbrev pub int_symbol : List ℕ → Bool → Sym
 int_symbol [] true = SomeDigits
 int_symbol _ _ = OtherSym
 
-abbrev pub name_symbol : List ℕ → Bool → Sym
-name_symbol text false = AName text
-name_symbol text true = OtherSym
-
 -- the symbol that a token is
 abbrev pub symbol_of : Lexeme → Sym
-symbol_of (Named text raw) = name_symbol text raw
+symbol_of (Named text raw) = AName text
 symbol_of (Keyword word) = sign_symbol (word_sign word)
 symbol_of (Marked mark) = sign_symbol (mark_sign mark)
-symbol_of (AnInt value suffix decimal) = int_symbol suffix decimal
+symbol_of (Integer value suffix decimal) = int_symbol suffix decimal
 symbol_of _ = OtherSym
 
 -- the signs by number

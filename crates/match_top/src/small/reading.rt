@@ -1,5 +1,6 @@
 // Reads the items of small sources from left to right, each from the byte where it begins.
 ghost use Rattle.std.specs.Prelude.{◌≡◌, ◌<◌, ◌≤◌, ◌+◌, length, option_map, IfOk, IfSome, vec_len, string_bytes, map};
+ghost use Rattle.std.specs.Str.{IsCharBoundary};
 ghost use Rattle.match_top.specs.SmallSymbols.{symbol_view};
 ghost use Rattle.match_top.specs.SmallStream.{stream};
 ghost use Rattle.match_top.specs.SmallReading.{name_at, digits_at, name_of, path_behind, pattern_of, arm_at, list_at, enum_behind, signature_behind, scrutinee_behind, function_behind, item_of, item_at, pattern_view, arm_view, enum_view, function_view, item_view, HasFew};
@@ -47,11 +48,11 @@ pub enum Item {
     Function(FunctionItem),
 }
 
-fn name(alloc: Global, source: &[u8], at: u64) -> Result<Option<(String, u64)>, NoMemory>
-    requires { at ≤ length source.now }
+fn name(alloc: Global, source: &str, at: u64) -> Result<Option<(String, u64)>, NoMemory>
+    requires { IsCharBoundary source.now at }
     ensures exact { IfOk result (λ o. option_map (λ x. (string_bytes x.0, stream source.now x.1)) o
         ≡ name_at (stream source.now at)) }
-    ensures within { IfOk result (λ o. IfSome o (λ x. x.1 ≤ length source.now)) }
+    ensures within { IfOk result (λ o. IfSome o (λ x. IsCharBoundary source.now x.1)) }
     ensures further { IfOk result (λ o. IfSome o (λ x. at < x.1)) }
 {
     let Some(spot) = next(alloc, source, at)? else {
@@ -64,10 +65,10 @@ fn name(alloc: Global, source: &[u8], at: u64) -> Result<Option<(String, u64)>, 
     }
 }
 
-fn digits(alloc: Global, source: &[u8], at: u64) -> Result<Option<u64>, NoMemory>
-    requires { at ≤ length source.now }
+fn digits(alloc: Global, source: &str, at: u64) -> Result<Option<u64>, NoMemory>
+    requires { IsCharBoundary source.now at }
     ensures exact { IfOk result (λ o. option_map (stream source.now) o ≡ digits_at (stream source.now at)) }
-    ensures within { IfOk result (λ o. IfSome o (λ to. to ≤ length source.now)) }
+    ensures within { IfOk result (λ o. IfSome o (λ to. IsCharBoundary source.now to)) }
     ensures further { IfOk result (λ o. IfSome o (λ to. at < to)) }
 {
     let Some(spot) = next(alloc, source, at)? else {
@@ -82,14 +83,14 @@ fn digits(alloc: Global, source: &[u8], at: u64) -> Result<Option<u64>, NoMemory
 // A path, whose first name is already past.
 fn path(
     alloc: Global,
-    source: &[u8],
+    source: &str,
     owner: String,
     at: u64,
 ) -> Result<Option<(PatternItem, u64)>, NoMemory>
-    requires { at ≤ length source.now }
+    requires { IsCharBoundary source.now at }
     ensures exact { IfOk result (λ o. option_map (λ x. (pattern_view x.0, stream source.now x.1)) o
         ≡ path_behind (string_bytes owner) (stream source.now at)) }
-    ensures within { IfOk result (λ o. IfSome o (λ x. x.1 ≤ length source.now)) }
+    ensures within { IfOk result (λ o. IfSome o (λ x. IsCharBoundary source.now x.1)) }
     ensures further { IfOk result (λ o. IfSome o (λ x. at < x.1)) }
 {
     let Some(rest) = behind(alloc, source, at, Sign::PathSeparator)? else {
@@ -104,14 +105,14 @@ fn path(
 // A pattern, whose first symbol is already past.
 fn pattern(
     alloc: Global,
-    source: &[u8],
+    source: &str,
     first: Symbol,
     at: u64,
 ) -> Result<Option<(PatternItem, u64)>, NoMemory>
-    requires { at ≤ length source.now }
+    requires { IsCharBoundary source.now at }
     ensures exact { IfOk result (λ o. option_map (λ x. (pattern_view x.0, stream source.now x.1)) o
         ≡ pattern_of (symbol_view first) (stream source.now at)) }
-    ensures within { IfOk result (λ o. IfSome o (λ x. x.1 ≤ length source.now)) }
+    ensures within { IfOk result (λ o. IfSome o (λ x. IsCharBoundary source.now x.1)) }
     ensures further { IfOk result (λ o. IfSome o (λ x. at ≤ x.1)) }
 {
     match first {
@@ -124,11 +125,11 @@ fn pattern(
 }
 
 #[tactic(auto, unfolding(crate::specs::SmallReading::arm_at))]
-fn arm(alloc: Global, source: &[u8], at: u64) -> Result<Option<(ArmItem, u64)>, NoMemory>
-    requires { at ≤ length source.now }
+fn arm(alloc: Global, source: &str, at: u64) -> Result<Option<(ArmItem, u64)>, NoMemory>
+    requires { IsCharBoundary source.now at }
     ensures exact { IfOk result (λ o. option_map (λ x. (arm_view x.0, stream source.now x.1)) o
         ≡ arm_at (stream source.now at)) }
-    ensures within { IfOk result (λ o. IfSome o (λ x. x.1 ≤ length source.now)) }
+    ensures within { IfOk result (λ o. IfSome o (λ x. IsCharBoundary source.now x.1)) }
     ensures further { IfOk result (λ o. IfSome o (λ x. at < x.1)) }
 {
     let Some(first) = next(alloc, source, at)? else {
@@ -148,11 +149,11 @@ fn arm(alloc: Global, source: &[u8], at: u64) -> Result<Option<(ArmItem, u64)>, 
 }
 
 // Names with commas between them, up to the closing bracket.
-fn names(alloc: Global, source: &[u8], at: u64) -> Result<Option<(Vec<String>, u64)>, NoMemory>
-    requires { at ≤ length source.now }
+fn names(alloc: Global, source: &str, at: u64) -> Result<Option<(Vec<String>, u64)>, NoMemory>
+    requires { IsCharBoundary source.now at }
     ensures exact { IfOk result (λ o. option_map (λ x. (map string_bytes x.0.items, stream source.now x.1)) o
         ≡ list_at name_at (stream source.now at)) }
-    ensures within { IfOk result (λ o. IfSome o (λ x. x.1 ≤ length source.now)) }
+    ensures within { IfOk result (λ o. IfSome o (λ x. IsCharBoundary source.now x.1)) }
     ensures few { IfOk result (λ o. IfSome o (λ x. at + vec_len x.0 < x.1)) }
 {
     let mut found = Vec::new(alloc);
@@ -176,11 +177,11 @@ fn names(alloc: Global, source: &[u8], at: u64) -> Result<Option<(Vec<String>, u
 }
 
 // Arms with commas between them, up to the closing bracket.
-fn arms(alloc: Global, source: &[u8], at: u64) -> Result<Option<(Vec<ArmItem>, u64)>, NoMemory>
-    requires { at ≤ length source.now }
+fn arms(alloc: Global, source: &str, at: u64) -> Result<Option<(Vec<ArmItem>, u64)>, NoMemory>
+    requires { IsCharBoundary source.now at }
     ensures exact { IfOk result (λ o. option_map (λ x. (map arm_view x.0.items, stream source.now x.1)) o
         ≡ list_at arm_at (stream source.now at)) }
-    ensures within { IfOk result (λ o. IfSome o (λ x. x.1 ≤ length source.now)) }
+    ensures within { IfOk result (λ o. IfSome o (λ x. IsCharBoundary source.now x.1)) }
     ensures few { IfOk result (λ o. IfSome o (λ x. at + vec_len x.0 < x.1)) }
 {
     let mut found = Vec::new(alloc);
@@ -205,11 +206,11 @@ fn arms(alloc: Global, source: &[u8], at: u64) -> Result<Option<(Vec<ArmItem>, u
 
 // An enum, whose keyword is already past.
 #[tactic(auto, unfolding(crate::specs::SmallReading::enum_behind))]
-fn enum_item(alloc: Global, source: &[u8], at: u64) -> Result<Option<(EnumItem, u64)>, NoMemory>
-    requires { at ≤ length source.now }
+fn enum_item(alloc: Global, source: &str, at: u64) -> Result<Option<(EnumItem, u64)>, NoMemory>
+    requires { IsCharBoundary source.now at }
     ensures exact { IfOk result (λ o. option_map (λ x. (enum_view x.0, stream source.now x.1)) o
         ≡ enum_behind (stream source.now at)) }
-    ensures within { IfOk result (λ o. IfSome o (λ x. x.1 ≤ length source.now)) }
+    ensures within { IfOk result (λ o. IfSome o (λ x. IsCharBoundary source.now x.1)) }
     ensures few { IfOk result (λ o. IfSome o (λ x. at + vec_len x.0.variants < x.1)) }
 {
     let Some((name, rest)) = name(alloc, source, at)? else {
@@ -232,15 +233,15 @@ struct Signature {
 }
 
 #[tactic(auto, unfolding(crate::specs::SmallReading::signature_behind))]
-fn signature_at(alloc: Global, source: &[u8], at: u64) -> Result<Option<(Signature, u64)>, NoMemory>
-    requires { at ≤ length source.now }
+fn signature_at(alloc: Global, source: &str, at: u64) -> Result<Option<(Signature, u64)>, NoMemory>
+    requires { IsCharBoundary source.now at }
     ensures exact { IfOk result (λ o.
         option_map (λ x. (
           (string_bytes x.0.name, string_bytes x.0.param, string_bytes x.0.ty),
           stream source.now x.1,
         )) o
         ≡ signature_behind (stream source.now at)) }
-    ensures within { IfOk result (λ o. IfSome o (λ x. x.1 ≤ length source.now)) }
+    ensures within { IfOk result (λ o. IfSome o (λ x. IsCharBoundary source.now x.1)) }
     ensures further { IfOk result (λ o. IfSome o (λ x. at < x.1)) }
 {
     let Some((found, rest)) = name(alloc, source, at)? else {
@@ -266,11 +267,11 @@ fn signature_at(alloc: Global, source: &[u8], at: u64) -> Result<Option<(Signatu
 }
 
 #[tactic(auto, unfolding(crate::specs::SmallReading::scrutinee_behind))]
-fn scrutinee(alloc: Global, source: &[u8], at: u64) -> Result<Option<(String, u64)>, NoMemory>
-    requires { at ≤ length source.now }
+fn scrutinee(alloc: Global, source: &str, at: u64) -> Result<Option<(String, u64)>, NoMemory>
+    requires { IsCharBoundary source.now at }
     ensures exact { IfOk result (λ o. option_map (λ x. (string_bytes x.0, stream source.now x.1)) o
         ≡ scrutinee_behind (stream source.now at)) }
-    ensures within { IfOk result (λ o. IfSome o (λ x. x.1 ≤ length source.now)) }
+    ensures within { IfOk result (λ o. IfSome o (λ x. IsCharBoundary source.now x.1)) }
     ensures further { IfOk result (λ o. IfSome o (λ x. at < x.1)) }
 {
     let Some(rest) = behind(alloc, source, at, Sign::OpenCurly)? else {
@@ -292,13 +293,13 @@ fn scrutinee(alloc: Global, source: &[u8], at: u64) -> Result<Option<(String, u6
 #[tactic(auto, unfolding(crate::specs::SmallReading::function_behind))]
 fn function_item(
     alloc: Global,
-    source: &[u8],
+    source: &str,
     at: u64,
 ) -> Result<Option<(FunctionItem, u64)>, NoMemory>
-    requires { at ≤ length source.now }
+    requires { IsCharBoundary source.now at }
     ensures exact { IfOk result (λ o. option_map (λ x. (function_view x.0, stream source.now x.1)) o
         ≡ function_behind (stream source.now at)) }
-    ensures within { IfOk result (λ o. IfSome o (λ x. x.1 ≤ length source.now)) }
+    ensures within { IfOk result (λ o. IfSome o (λ x. IsCharBoundary source.now x.1)) }
     ensures few { IfOk result (λ o. IfSome o (λ x. at + vec_len x.0.arms < x.1)) }
 {
     let Some((head, rest)) = signature_at(alloc, source, at)? else {
@@ -329,14 +330,14 @@ fn function_item(
 // An item, whose first symbol is already past.
 fn item_behind(
     alloc: Global,
-    source: &[u8],
+    source: &str,
     first: Symbol,
     at: u64,
 ) -> Result<Option<(Item, u64)>, NoMemory>
-    requires { at ≤ length source.now }
+    requires { IsCharBoundary source.now at }
     ensures exact { IfOk result (λ o. option_map (λ x. (item_view x.0, stream source.now x.1)) o
         ≡ item_of (symbol_view first) (stream source.now at)) }
-    ensures within { IfOk result (λ o. IfSome o (λ x. x.1 ≤ length source.now)) }
+    ensures within { IfOk result (λ o. IfSome o (λ x. IsCharBoundary source.now x.1)) }
     ensures few { IfOk result (λ o. IfSome o (λ x. HasFew at x.1 x.0)) }
 {
     match first {
@@ -354,11 +355,11 @@ fn item_behind(
 
 /// The item that begins at or behind a byte of the source, and the byte behind it.
 #[tactic(auto, unfolding(crate::specs::SmallReading::item_at))]
-pub fn item_at(alloc: Global, source: &[u8], at: u64) -> Result<Option<(Item, u64)>, NoMemory>
-    requires { at ≤ length source.now }
+pub fn item_at(alloc: Global, source: &str, at: u64) -> Result<Option<(Item, u64)>, NoMemory>
+    requires { IsCharBoundary source.now at }
     ensures exact { IfOk result (λ o. option_map (λ x. (item_view x.0, stream source.now x.1)) o
         ≡ item_at (stream source.now at)) }
-    ensures within { IfOk result (λ o. IfSome o (λ x. x.1 ≤ length source.now)) }
+    ensures within { IfOk result (λ o. IfSome o (λ x. IsCharBoundary source.now x.1)) }
     ensures few { IfOk result (λ o. IfSome o (λ x. HasFew at x.1 x.0)) }
 {
     let Some(first) = next(alloc, source, at)? else {

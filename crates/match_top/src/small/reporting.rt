@@ -1,7 +1,9 @@
 // The second reading of a source: a report on each function, written as soon as it is judged.
 ghost use Rattle.std.specs.Prelude.{◌≡◌, ◌≤◌, ◌<◌, ◌^◌, ◌&&◌, ◌∷◌, ◌++◌, [], List, length, true, IfOk, MatchOption};
+ghost use Rattle.std.specs.Str.{IsCharBoundary};
 ghost use Rattle.verdict_json.specs.declared.report.FnReport.{FnReport};
 ghost use Rattle.match_top.specs.SmallConditions.{IsNotSmall};
+ghost use Rattle.match_top.specs.SmallDigits.{HasDigits};
 ghost use Rattle.match_top.specs.SmallReading.{function_view, item_view};
 ghost use Rattle.match_top.specs.SmallTypes.{type_in};
 ghost use Rattle.match_top.specs.SmallSurvey.{Surveyed};
@@ -83,7 +85,7 @@ fn add_item(
 // The reports on the functions of a source whose enums are known.
 fn report_all(
     alloc: Global,
-    source: &[u8],
+    source: &str,
     enums: &IndexMap<String, IndexSet<String>>,
 ) -> Result<Option<Reported>, NoMemory>
     requires short { length source.now < 2 ^ 32 }
@@ -110,9 +112,11 @@ fn report_all(
     Ok(Some(Reported { text, exhaustive }))
 }
 
-/// The report on a small source, or `None` where the bytes are none.
-pub fn report(alloc: Global, source: &[u8]) -> Result<Option<Reported>, NoMemory>
-    requires { length source.now < 2 ^ 32 }
+/// The report on a small source, or `None` where the source is none. It has tokens, and its integers are decimal digits
+/// alone.
+pub fn report(alloc: Global, source: &str) -> Result<Option<Reported>, NoMemory>
+    requires short { length source.now < 2 ^ 32 }
+    requires digits { HasDigits source.now }
     ensures { IfOk result (λ o. MatchOption o (IsNotSmall source.now)
         (λ r. IsReported source.now r.text.items r.exhaustive)) }
 {

@@ -1,5 +1,6 @@
 // A first reading of a source: its items, and the names of its enums and variants.
 ghost use Rattle.std.specs.Prelude.{◌≡◌, ◌≤◌, ◌++◌, ◌∷◌, [], ℕ, Ok, true, false, not, length, map, string_bytes, IfOk, IfSome, MatchOption, if◌then◌else◌};
+ghost use Rattle.std.specs.Str.{IsCharBoundary};
 ghost use Rattle.match_top.specs.SmallConditions.{is_among, all_differ, IsNotSmall};
 ghost use Rattle.match_top.specs.SmallStream.{stream};
 ghost use Rattle.match_top.specs.SmallReading.{enum_view};
@@ -11,9 +12,9 @@ use indexmap::{IndexMap, IndexSet};
 use match_model::NoMemory;
 use std::alloc::Global;
 
-/// Whether only blanks stand at or behind a byte of the source.
-pub fn is_end(alloc: Global, source: &[u8], at: u64) -> Result<bool, NoMemory>
-    requires { at ≤ length source.now }
+/// Whether no token stands at or behind a byte of the source.
+pub fn is_end(alloc: Global, source: &str, at: u64) -> Result<bool, NoMemory>
+    requires { IsCharBoundary source.now at }
     ensures { IfOk result (λ b. b ≡ is_end (stream source.now at)) }
 {
     match next(alloc, source, at)? {
@@ -70,7 +71,7 @@ fn add_enum(
 /// The enums of a source by name, where it is of items whose names fit to each other.
 pub fn survey(
     alloc: Global,
-    source: &[u8],
+    source: &str,
 ) -> Result<Option<IndexMap<String, IndexSet<String>>>, NoMemory>
     ensures { IfOk result (λ o. MatchOption o (IsNotSmall source.now) (Surveyed source.now)) }
 {

@@ -1,5 +1,6 @@
 // What tokens are to a reader of small sources.
 ghost use Rattle.std.specs.Prelude.{◌≡◌, ◌<◌, ◌≤◌, length, option_map, IfOk, IfSome};
+ghost use Rattle.std.specs.Str.{IsCharBoundary};
 ghost use Rattle.decl_lexer.specs.Views.{lexeme_view};
 ghost use Rattle.match_top.specs.SmallSymbols.{word_sign, mark_sign, symbol_of, symbol_view, sign_symbol, same_sign};
 ghost use Rattle.match_top.specs.SmallStream.{stream, head, spot_view, behind};
@@ -89,13 +90,7 @@ fn symbol_in(kind: TokenKind) -> Symbol
     match kind {
         TokenKind::Word(word) => sign_symbol(word_sign(word)),
         TokenKind::Mark(mark) => sign_symbol(mark_sign(mark)),
-        TokenKind::Name { text, raw } => {
-            if raw {
-                Symbol::Other
-            } else {
-                Symbol::Name(text)
-            }
-        }
+        TokenKind::Name { text, .. } => Symbol::Name(text),
         TokenKind::Int {
             suffix,
             decimal,
@@ -111,12 +106,11 @@ fn symbol_in(kind: TokenKind) -> Symbol
     }
 }
 
-/// The symbol at or behind a byte of the source, or `None` where only blanks stand there. Where no token stands, the
-/// rest of the source is one other symbol.
-pub fn next(alloc: Global, source: &[u8], at: u64) -> Result<Option<Spot>, NoMemory>
-    requires { at ≤ length source.now }
+/// The symbol at or behind a byte of the source, or `None` where only whitespace and comments stand there, or a fault.
+pub fn next(alloc: Global, source: &str, at: u64) -> Result<Option<Spot>, NoMemory>
+    requires { IsCharBoundary source.now at }
     ensures exact { IfOk result (λ o. option_map (spot_view source.now) o ≡ head (stream source.now at)) }
-    ensures within { IfOk result (λ o. IfSome o (λ s. s.to ≤ length source.now)) }
+    ensures within { IfOk result (λ o. IfSome o (λ s. IsCharBoundary source.now s.to)) }
     ensures further { IfOk result (λ o. IfSome o (λ s. at < s.to)) }
 {
     match next_token(alloc, source, at) {
@@ -126,11 +120,7 @@ pub fn next(alloc: Global, source: &[u8], at: u64) -> Result<Option<Spot>, NoMem
             to,
         })),
         Ok(None) => Ok(None),
-        Err(LexFault::Rule { .. }) => Ok(Some(Spot {
-            symbol: Symbol::Other,
-            from: at,
-            to: source.len() as u64,
-        })),
+        Err(LexFault::Rule { .. }) => Ok(None),
         Err(LexFault::NoMemory) => Err(NoMemory),
     }
 }
@@ -142,10 +132,10 @@ fn is_same(a: Sign, b: Sign) -> bool
 }
 
 /// The byte behind the sign that stands next.
-pub fn behind(alloc: Global, source: &[u8], at: u64, wanted: Sign) -> Result<Option<u64>, NoMemory>
-    requires { at ≤ length source.now }
+pub fn behind(alloc: Global, source: &str, at: u64, wanted: Sign) -> Result<Option<u64>, NoMemory>
+    requires { IsCharBoundary source.now at }
     ensures exact { IfOk result (λ o. option_map (stream source.now) o ≡ behind wanted (stream source.now at)) }
-    ensures within { IfOk result (λ o. IfSome o (λ to. to ≤ length source.now)) }
+    ensures within { IfOk result (λ o. IfSome o (λ to. IsCharBoundary source.now to)) }
     ensures further { IfOk result (λ o. IfSome o (λ to. at < to)) }
 {
     let Some(spot) = next(alloc, source, at)? else {

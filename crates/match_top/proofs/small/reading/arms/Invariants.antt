@@ -1,4 +1,5 @@
 use Rattle.std.proofs.Common.{◌≡◌, ◌≤◌, ◌-◌, ◌+◌, length, map, vec_len}
+use Rattle.std.specs.Str.{IsCharBoundary}
 use Rattle.match_top.specs.SmallStream.{stream}
 use Rattle.match_top.specs.SmallReading.{arm_at, arm_view, list_at}
 use Rattle.match_top.proofs.SmallLists.{with_front}
@@ -7,7 +8,7 @@ use Rattle.match_top.proofs.small.reading.arms.Given as goal
 abbrev pub invariant-items : goal.invariant-items
 invariant-items l = record {
   exact : with_front (map arm_view l.found.items) (list_at arm_at (stream l.source l.rest)) ≡ list_at arm_at (stream l.source l.at);
-  within : l.rest ≤ length l.source;
+  within : IsCharBoundary l.source l.rest;
   few : l.at + vec_len l.found ≤ l.rest;
 }
 

@@ -1,4 +1,5 @@
 use Rattle.std.proofs.Common.{◌≡◌, ◌≤◌, ◌-◌, ◌+◌, length, map, vec_len, string_bytes}
+use Rattle.std.specs.Str.{IsCharBoundary}
 use Rattle.match_top.specs.SmallStream.{stream}
 use Rattle.match_top.specs.SmallReading.{name_at, list_at}
 use Rattle.match_top.proofs.SmallLists.{with_front}
@@ -7,7 +8,7 @@ use Rattle.match_top.proofs.small.reading.names.Given as goal
 abbrev pub invariant-items : goal.invariant-items
 invariant-items l = record {
   exact : with_front (map string_bytes l.found.items) (list_at name_at (stream l.source l.rest)) ≡ list_at name_at (stream l.source l.at);
-  within : l.rest ≤ length l.source;
+  within : IsCharBoundary l.source l.rest;
   few : l.at + vec_len l.found ≤ l.rest;
 }
 

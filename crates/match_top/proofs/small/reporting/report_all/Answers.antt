@@ -1,4 +1,5 @@
 use Rattle.std.proofs.Common.{[], sym, ◌∙◌, refl, arith}
+use Rattle.std.proofs.lemmas.Str.{IsCharBoundary-start}
 use Rattle.match_top.specs.SmallReading.{item_view}
 use Rattle.match_top.specs.SmallStream.{stream}
 use Rattle.match_top.specs.SmallSurvey.{none_read}
@@ -7,7 +8,7 @@ use Rattle.match_top.proofs.small.reporting.report_all.Goals as goal
 
 pub items-init : goal.items-init
 items-init c = record {
-  within = omega arith;
+  within = IsCharBoundary-start c.args.source.now c.utf8.source;
   reported = record {
     items = [];
     read = none_read (stream c.args.source.now 0);

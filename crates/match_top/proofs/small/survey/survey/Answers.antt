@@ -1,4 +1,5 @@
 use Rattle.std.proofs.Common.{[], sym, ◌∙◌, refl, rules, arith}
+use Rattle.std.proofs.lemmas.Str.{IsCharBoundary-start}
 use Rattle.match_top.specs.SmallReading.{enum_view, function_view}
 use Rattle.match_top.specs.SmallStream.{stream}
 use Rattle.match_top.specs.SmallSurvey.{names_in, none_read}
@@ -8,7 +9,7 @@ use Rattle.match_top.proofs.small.survey.survey.Goals as goal
 
 pub items-init : goal.items-init
 items-init c = record {
-  within = omega arith;
+  within = IsCharBoundary-start c.args.source.now c.utf8.source;
   surveyed = record {
     items = [];
     read = none_read (stream c.args.source.now 0);

@@ -1,0 +1,16 @@
+use Rattle.std.proofs.Common.{◌≡◌, ◌≤◌, length, chars}
+use denote.Text.{Utf8}
+use denote.Shadow.{shadow}
+use Rattle.decl_lexer.specs.Texts.{is_ordinary}
+use Rattle.decl_lexer.specs.Text.{skip_while}
+use Rattle.decl_lexer.proofs.texts.skip_run.Given as goal
+
+abbrev pub invariant-loop-first : goal.invariant-loop-first
+invariant-loop-first l = record {
+  utf8 : shadow (Utf8 l.rest);
+  rest : skip_while (is_ordinary l.escapes) (chars l.rest) ≡ skip_while (is_ordinary l.escapes) (chars l.text);
+  shorter : length l.rest ≤ length l.text;
+}
+
+abbrev pub decreases-loop-first : goal.decreases-loop-first
+decreases-loop-first l = length l.rest

@@ -1,0 +1,87 @@
+//! Names, raw names and keywords.
+ghost use Rattle.std.specs.Prelude.{◌≡◌, IfOk, chars, string_bytes, encode_utf8_all};
+ghost use Rattle.unicode_normalization.specs.Forms.{nfc};
+ghost use Rattle.decl_lexer.specs.Text.{first_passes};
+ghost use Rattle.decl_lexer.specs.Names.{is_name_start, lexeme_of, name_at, raw_name_at};
+ghost use Rattle.decl_lexer.specs.Views.{GivesPiece, lexeme_view};
+
+use crate::marks::Mark;
+use crate::pieces::{Piece, PieceError};
+use crate::text::{split_first, split_name};
+use crate::token::TokenKind;
+use crate::words::{can_be_raw, word_of};
+use std::alloc::{AllocError, Global};
+use unicode_normalization::to_nfc;
+
+/// The name, keyword or `_` that the text begins with.
+pub fn name_at(alloc: Global, text: &str) -> Result<(Piece, &str), PieceError<'_>>
+    ensures { GivesPiece result (name_at (chars text.now)) }
+{
+    let (name, rest) = split_name(text);
+    let kind = kind_of(alloc, name)?;
+    Ok((Piece::Token(kind), rest))
+}
+
+/// The raw name that the text begins with; `behind` is what stands behind its `r#`.
+#[inline(never)]
+pub fn raw_name_at<'a>(
+    alloc: Global,
+    text: &'a str,
+    behind: &'a str,
+) -> Result<(Piece, &'a str), PieceError<'a>>
+    ensures { GivesPiece result (raw_name_at (chars text.now) (chars behind.now)) }
+{
+    let (name, rest) = split_name(behind);
+    if !can_be_raw(name) {
+        return Err(PieceError::Fault {
+            rule: 2,
+            rest: text,
+        });
+    }
+    let text = in_nfc(alloc, name)?;
+    Ok((Piece::Token(TokenKind::Name { text, raw: true }), rest))
+}
+
+/// What a name is: a keyword, the mark `_`, or a name.
+fn kind_of(alloc: Global, name: &str) -> Result<TokenKind, AllocError>
+    ensures { IfOk result (λ kind. lexeme_view kind ≡ lexeme_of (chars name.now)) }
+{
+    if name == "_" {
+        return Ok(TokenKind::Mark(Mark::Underscore));
+    }
+    match word_of(name) {
+        Some(word) => Ok(TokenKind::Word(word)),
+        None => {
+            let text = in_nfc(alloc, name)?;
+            Ok(TokenKind::Name { text, raw: false })
+        }
+    }
+}
+
+/// The text in NFC. ASCII text is in NFC already.
+pub fn in_nfc(alloc: Global, text: &str) -> Result<String, AllocError>
+    ensures { IfOk result (λ s. string_bytes s ≡ encode_utf8_all (nfc (chars text.now))) }
+{
+    if text.is_ascii() {
+        String::from_str(alloc, text)
+    } else {
+        to_nfc(alloc, text)
+    }
+}
+
+/// Whether an identifier may begin with the character.
+pub fn is_name_start(c: char) -> bool
+    ensures { result ≡ is_name_start c }
+{
+    unicode_ident::is_xid_start(c) || c == '_'
+}
+
+/// Whether the text begins with an identifier.
+pub fn starts_name(text: &str) -> bool
+    ensures { result ≡ first_passes is_name_start (chars text.now) }
+{
+    match split_first(text) {
+        Some((first, _)) => is_name_start(first),
+        None => false,
+    }
+}

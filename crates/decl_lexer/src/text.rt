@@ -1,0 +1,69 @@
+//! Stepping over a text by its characters.
+ghost use Rattle.std.specs.Prelude.{◌≡◌, ◌<◌, ◌≤◌, [], ◌∷◌, length, drop, MatchOption, IfSome, chars, encode_utf8_all};
+ghost use Rattle.std.specs.List.{take_while};
+ghost use Rattle.decl_lexer.specs.Text.{skip_while, begins_with};
+ghost use Rattle.unicode_ident.specs.Ident.{is_xid_continue};
+
+/// The first character, and the text behind it.
+pub fn split_first(text: &str) -> Option<(char, &str)>
+    ensures cases { MatchOption result (chars text.now ≡ []) (λ p. chars text.now ≡ p.0 ∷ chars p.1.now) }
+    ensures shorter { IfSome result (λ p. length p.1.now < length text.now) }
+{
+    let mut all = text.chars();
+    let first = all.next()?;
+    Some((first, all.as_str()))
+}
+
+/// Whether the text begins with the character.
+pub fn first_is(wanted: char, text: &str) -> bool
+    ensures { result ≡ begins_with (wanted ∷ []) (chars text.now) }
+{
+    match split_first(text) {
+        Some((first, _)) => first == wanted,
+        None => false,
+    }
+}
+
+/// Whether the first character and the text behind it begin with these two characters.
+pub fn pair_is(one: char, two: char, first: char, behind: &str) -> bool
+    ensures { result ≡ begins_with (one ∷ two ∷ []) (first ∷ chars behind.now) }
+{
+    first == one && first_is(two, behind)
+}
+
+/// The text behind its first character.
+pub fn skip_first(text: &str) -> &str
+    ensures rest { chars result.now ≡ drop 1 (chars text.now) }
+    ensures shorter { length result.now ≤ length text.now }
+{
+    match split_first(text) {
+        Some((_, rest)) => rest,
+        None => text,
+    }
+}
+
+/// The text behind the identifier characters that it begins with.
+pub fn skip_name(text: &str) -> &str
+    ensures rest { chars result.now ≡ skip_while is_xid_continue (chars text.now) }
+    ensures shorter { length result.now ≤ length text.now }
+{
+    let mut rest = text;
+    while let Some((first, others)) = split_first(rest) {
+        if !unicode_ident::is_xid_continue(first) {
+            break;
+        }
+        rest = others;
+    }
+    rest
+}
+
+/// Cuts the text behind the identifier characters that it begins with.
+pub fn split_name(text: &str) -> (&str, &str)
+    ensures name { chars result.0.now ≡ take_while is_xid_continue (chars text.now) }
+    ensures bytes { result.0.now ≡ encode_utf8_all (take_while is_xid_continue (chars text.now)) }
+    ensures rest { chars result.1.now ≡ skip_while is_xid_continue (chars text.now) }
+{
+    let rest = skip_name(text);
+    let name = &text[..text.len() - rest.len()];
+    (name, rest)
+}
