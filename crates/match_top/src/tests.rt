@@ -6,6 +6,9 @@ use std::test::Fail;
 const NOT_BUILT: &str =
     "{\"refused\":{\"arm\":null,\"at\":null,\"item\":null,\"name\":\"not-built\",\"rule\":90}}\n";
 
+const NOT_UTF8: &str =
+    "{\"refused\":{\"arm\":null,\"at\":0,\"item\":null,\"name\":\"not-utf8\",\"rule\":1}}\n";
+
 const TOO_LONG: &str =
     "{\"refused\":{\"arm\":null,\"at\":null,\"item\":null,\"name\":\"too-long\",\"rule\":7}}\n";
 
@@ -93,7 +96,7 @@ fn the_longest_source_and_one_byte_more(rt: HostRuntime) -> Result<(), Fail> {
     let alloc = rt.alloc();
     let words = texts(alloc, CHECK)?;
     for (length, wanted) in [
-        (16_777_216, NOT_BUILT),
+        (16_777_216, NOT_UTF8),
         (16_777_217, TOO_LONG),
         (16_777_300, TOO_LONG),
     ] {
