@@ -6,6 +6,9 @@ use std::test::Fail;
 const NOT_BUILT: &str =
     "{\"refused\":{\"arm\":null,\"at\":null,\"item\":null,\"name\":\"not-built\",\"rule\":90}}\n";
 
+const NOT_UTF8: &str =
+    "{\"refused\":{\"arm\":null,\"at\":0,\"item\":null,\"name\":\"not-utf8\",\"rule\":1}}\n";
+
 const TOO_LONG: &str =
     "{\"refused\":{\"arm\":null,\"at\":null,\"item\":null,\"name\":\"too-long\",\"rule\":7}}\n";
 
@@ -93,7 +96,7 @@ fn the_longest_source_and_one_byte_more(rt: HostRuntime) -> Result<(), Fail> {
     let alloc = rt.alloc();
     let words = texts(alloc, CHECK)?;
     for (length, wanted) in [
-        (16_777_216, NOT_BUILT),
+        (16_777_216, NOT_UTF8),
         (16_777_217, TOO_LONG),
         (16_777_300, TOO_LONG),
     ] {
@@ -103,6 +106,52 @@ fn the_longest_source_and_one_byte_more(rt: HostRuntime) -> Result<(), Fail> {
         let status = run(alloc, &words, &mut files, &mut sink);
         assert_eq!(rt; status, Status::Refused, "at {length} bytes");
         assert_eq!(rt; sink.bytes(), wanted.as_bytes(), "at {length} bytes");
+    }
+    Ok(())
+}
+
+const MISSING_C: &str =
+    "{\"functions\":[{\"exhaustive\":false,\"name\":\"f\",\"overlaps\":[],\"unreachable\":[],\
+    \"witnesses\":[{\"text\":\"E::C\",\"tree\":[\"node\",\"E::C\",[]]}]}]}\n";
+
+const LAST_UNREACHABLE: &str =
+    "{\"functions\":[{\"exhaustive\":true,\"name\":\"f\",\"overlaps\":[],\
+    \"unreachable\":[{\"arm\":2,\"at\":34,\"whole\":true}],\"witnesses\":[]}]}\n";
+
+const MISSING_ALL: &str =
+    "{\"functions\":[{\"exhaustive\":false,\"name\":\"f\",\"overlaps\":[],\"unreachable\":[],\
+    \"witnesses\":[{\"text\":\"_\",\"tree\":[\"any\"]}]}]}\n";
+
+const TWO_OF_THREE: &str = "enum E{A,B,C} fn f(x:E){match x{E::A=>1,E::B=>2}}";
+
+// A source, the room of the sink, the numbers of the writes that fail, the number of the status, what is written.
+type SourceRow = (&'static str, usize, &'static [u64], u8, &'static str);
+
+const SOURCES: [SourceRow; 6] = [
+    (TWO_OF_THREE, 4096, &[], 1, MISSING_C),
+    (TWO_OF_THREE, 4096, &[2], 5, "{\"functions\":[{\""),
+    (TWO_OF_THREE, 5, &[], 5, "{\"fun"),
+    ("", 4096, &[], 0, "{\"functions\":[]}\n"),
+    (
+        "fn f(x:bool){match x{true=>1,_=>2,false=>3}}",
+        4096,
+        &[],
+        0,
+        LAST_UNREACHABLE,
+    ),
+    ("enum E{A} fn f(x:E){match x{}}", 4096, &[], 1, MISSING_ALL),
+];
+
+#[test]
+fn sources_are_reported_as_far_as_the_sink_takes_them(rt: HostRuntime) -> Result<(), Fail> {
+    let alloc = rt.alloc();
+    let words = texts(alloc, CHECK)?;
+    for (i, row) in SOURCES.iter().enumerate() {
+        let mut files = one_file(alloc, row.0.as_bytes(), &[])?;
+        let mut sink = MemorySink::new(alloc, row.1, 16, row.2.to_vec(alloc)?)?;
+        let status = run(alloc, &words, &mut files, &mut sink);
+        assert_eq!(rt; status.number(), row.3, "status of source {i}");
+        assert_eq!(rt; sink.bytes(), row.4.as_bytes(), "written for source {i}");
     }
     Ok(())
 }

@@ -30,7 +30,8 @@ pub fn run<F: Files, K: Sink>(
     ensures words { (result ≡ Status.Words) ↔ (form_of words.now ≡ None) }
     ensures untouched { result ≡ Status.Words → (files.new ≡ files.old) × (sink.new ≡ sink.old) }
 
-    // What stays, and how much is taken of the file: one file is begun, and no byte is taken beyond the limit.
+    // What stays; and what is left at the end: what was left before, or the file without at most so many bytes at its
+    // front.
     ensures holds { F.holds files.new ≡ F.holds files.old }
     ensures still_sure { F.sure files.old → F.sure files.new }
     ensures few { (file bytes : List ℕ) → form_of words.now ≡ Some file → F.holds files.old file ≡ Some bytes

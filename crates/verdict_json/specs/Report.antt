@@ -1,5 +1,6 @@
 -- The report on functions as JSON.
-use Rattle.std.specs.Prelude.{ℕ, List, [], ◌∷◌, ◌++◌, map, codes, Bool, true, false}
+use Rattle.std.specs.Prelude.{ℕ, List, [], ◌∷◌, ◌++◌, map, codes, Bool, true, false, is_some, if◌then◌else◌}
+use Rattle.decl_lexer.specs.Words.{word_of}
 use Rattle.serde_json.specs.Data.{Data, boolean, number, unsigned, string, array, object, no_items, item, no_members, member}
 use Rattle.serde_json.specs.View.{items_of}
 use Rattle.serde_json.specs.Written.{compact_text}
@@ -15,9 +16,13 @@ unreachable_data u =
     (member (codes "at") (number (unsigned u.at))
     (member (codes "whole") (boolean u.whole) no_members)))
 
+-- a name as Rust writes it: one that is a keyword has `r#` in front (the Rust Reference, "Identifiers")
+abbrev pub written_name : List ℕ → List ℕ
+written_name name = if is_some (word_of name) then codes "r#" ++ name else name
+
 -- the name of a variant, behind that of its enum
 abbrev pub unit_name : List ℕ → List ℕ → List ℕ
-unit_name owner variant = (owner ++ codes "::") ++ variant
+unit_name owner variant = (written_name owner ++ codes "::") ++ written_name variant
 
 -- a witness: its text as Rust writes a pattern, and the witness as a tree
 abbrev pub text_and_tree : List ℕ → Data → Data

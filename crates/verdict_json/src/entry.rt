@@ -2,8 +2,9 @@
 ghost use Rattle.std.specs.Prelude.{◌≡◌, ◌++◌, ◌∷◌, [], IfOk, OnOk, string_bytes};
 ghost use Rattle.serde_json.specs.View.{view};
 ghost use Rattle.serde_json.specs.Written.{has_float, compact_text};
-ghost use Rattle.verdict_json.specs.Report.{unreachable_data, witness_data, unit_data, unit_name};
+ghost use Rattle.verdict_json.specs.Report.{unreachable_data, witness_data, unit_data, unit_name, written_name};
 
+use decl_lexer::word_of;
 use serde_json::{Value, json};
 use std::alloc::{AllocError, Global};
 
@@ -25,7 +26,7 @@ pub enum Witness<'a> {
     Any,
     /// A truth value.
     Flag(bool),
-    /// A variant without fields, by the names of its enum and of itself.
+    /// A variant without fields, by the names of its enum and of itself, without `r#`.
     Unit { owner: &'a str, variant: &'a str },
 }
 
@@ -42,13 +43,24 @@ pub fn unreachable_entry(alloc: Global, entry: &Unreachable) -> Result<String, A
     unreachable_value(alloc, entry)?.to_string(alloc)
 }
 
+// Adds a name as Rust writes it: one that is a keyword has `r#` in front.
+fn push_name(text: &mut String, name: &str) -> Result<(), AllocError>
+    ensures { OnOk result (string_bytes text.new ≡ string_bytes text.old ++ written_name name.now) }
+{
+    if word_of(name).is_some() {
+        text.push_str("r#")?;
+    }
+    text.push_str(name)
+}
+
 // The name of a variant, behind that of its enum.
 fn variant_path(alloc: Global, owner: &str, variant: &str) -> Result<String, AllocError>
     ensures { IfOk result (λ s. string_bytes s ≡ unit_name owner.now variant.now) }
 {
-    let mut name = String::from_str(alloc, owner)?;
+    let mut name = String::new(alloc);
+    push_name(&mut name, owner)?;
     name.push_str("::")?;
-    name.push_str(variant)?;
+    push_name(&mut name, variant)?;
     Ok(name)
 }
 

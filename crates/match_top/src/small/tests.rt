@@ -1,24 +1,28 @@
-use crate::small::report;
+use crate::Status;
+use crate::answering::answer_to;
 use std::process::Abort;
 use std::test::Fail;
 
 const CLEAN_F: &str =
     "{\"exhaustive\":true,\"name\":\"f\",\"overlaps\":[],\"unreachable\":[],\"witnesses\":[]}";
 
+const NOT_BUILT: &str =
+    "{\"refused\":{\"arm\":null,\"at\":null,\"item\":null,\"name\":\"not-built\",\"rule\":90}}\n";
+
 // What stands in the report on the one function `f`, as JSON, or `-` where the source is no small one.
 fn judges(rt: &(impl Abort + AllocGlobal), source: &str, functions: &str) -> Result<(), Fail> {
-    let bytes = source.as_bytes();
-    assert!(rt; bytes.len() < 1000);
-    match report(rt.alloc(), bytes)? {
-        None => assert_eq!(rt; functions, "-", "{source}"),
-        Some(found) => {
-            let wanted = format!(in rt.alloc(); "{{\"functions\":[{functions}]}}\n")?;
-            let text = str::from_utf8(&found.text).map_err(|_| "no text")?;
-            assert_eq!(rt; text, wanted.as_str(), "{source}");
-            let missed = functions.contains("\"exhaustive\":false");
-            assert_eq!(rt; found.exhaustive, !missed, "{source}");
-        }
+    let found = answer_to(rt.alloc(), source.as_bytes())?;
+    let text = str::from_utf8(&found.text).map_err(|_| "no text")?;
+    if functions == "-" {
+        assert_eq!(rt; text, NOT_BUILT, "{source}");
+        assert_eq!(rt; found.status, Status::Refused, "{source}");
+        return Ok(());
     }
+    let wanted = format!(in rt.alloc(); "{{\"functions\":[{functions}]}}\n")?;
+    assert_eq!(rt; text, wanted.as_str(), "{source}");
+    let missed = functions.contains("\"exhaustive\":false");
+    let status = if missed { Status::Found } else { Status::Clean };
+    assert_eq!(rt; found.status, status, "{source}");
     Ok(())
 }
 
@@ -105,7 +109,7 @@ fn lists_witnesses(rt: HostRuntime) -> Result<(), Fail> {
 
 #[test]
 fn refuses_other_sources(rt: HostRuntime) -> Result<(), Fail> {
-    let rows: [&str; 25] = [
+    let rows: [&str; 31] = [
         "struct S;",
         "enum E{A} fn f(x:E){match x{E::B=>1}}",
         "enum E{A} fn f(x:E){match x{F::A=>1}}",
@@ -130,10 +134,63 @@ fn refuses_other_sources(rt: HostRuntime) -> Result<(), Fail> {
         "fn f(x:bool){match x{_=>}}",
         "fn f(x:bool){match x{x=>1}}",
         "fn f(x:bool){match x{_=>1}};",
-        "enum E{A} // comment",
+        "fn f(x:bool){match x{_=>1_0}}",
+        "fn f(x:bool){match x{_=>1u8}}",
+        "fn f(x:bool){match x{_=>0x1}}",
+        "fn f(x:bool){match x{_=>1.0}}",
+        "enum E{\u{e9},e\u{301}}",
+        "enum E{A,r#A}",
+        "enum r#bool{A}",
     ];
     for source in rows {
         judges(&rt, source, "-")?;
+    }
+    Ok(())
+}
+
+#[test]
+fn reads_comments_and_names(rt: HostRuntime) -> Result<(), Fail> {
+    let r = &rt;
+    judges(r, "// A small expression language.", "")?;
+    judges(r, "\u{feff}/* /* */ */enum\u{b}E\u{2028}{A /* one */,}", "")?;
+    misses(
+        r,
+        "enum E{r#in,B} fn r#f(x:r#E){match r#x{E::r#B=>1}} // end",
+        "{\"text\":\"E::r#in\",\"tree\":[\"node\",\"E::r#in\",[]]}",
+    )?;
+    misses(
+        r,
+        "enum r#enum{A,B} fn f(r#match:r#enum){match r#match{r#enum::B=>1}}",
+        "{\"text\":\"r#enum::A\",\"tree\":[\"node\",\"r#enum::A\",[]]}",
+    )?;
+    misses(
+        r,
+        "enum \u{c9}{e\u{301},B} fn f(x:E\u{301}){match x{\u{c9}::B=>1}}",
+        "{\"text\":\"\u{c9}::\u{e9}\",\"tree\":[\"node\",\"\u{c9}::\u{e9}\",[]]}",
+    )
+}
+
+// Bytes that do not lex, the rule's name and number, and the place.
+const FAULTS: [(&[u8], &str, u32, u64); 7] = [
+    (b"/* a", "open-comment", 3, 0),
+    (b"enum E{}\xff/*", "not-utf8", 1, 8),
+    (b"\"abc", "open-text", 4, 0),
+    (b"'ab'", "bad-token", 2, 0),
+    (b"\"\\q\"", "bad-escape", 5, 1),
+    (b"struct ; match /*", "open-comment", 3, 15),
+    (b"\xef\xbb\xbf enum bool{} \xc2\xa7 /*", "bad-token", 2, 16),
+];
+
+#[test]
+fn tells_the_first_fault(rt: HostRuntime) -> Result<(), Fail> {
+    for (source, name, rule, at) in FAULTS {
+        let found = answer_to(rt.alloc(), source)?;
+        let wanted = format!(in rt.alloc();
+            "{{\"refused\":{{\"arm\":null,\"at\":{at},\"item\":null,\"name\":\"{name}\",\"rule\":{rule}}}}}\n"
+        )?;
+        let text = str::from_utf8(&found.text).map_err(|_| "no text")?;
+        assert_eq!(rt; text, wanted.as_str());
+        assert_eq!(rt; found.status, Status::Refused, "{name}");
     }
     Ok(())
 }
