@@ -1,0 +1,10 @@
+pub mod EndLaws
+pub mod ListLemmas
+pub mod FieldLemmas
+pub mod Joined
+pub mod PatternLaws
+pub mod RunLaws
+pub mod TypeLaws
+pub mod ViewLemmas
+pub mod WidthLemmas
+pub mod LevelLaws

@@ -1,0 +1,15 @@
+use Rattle.std.proofs.Common.{◌≡◌, List, length}
+use Rattle.decl_lexer.specs.declared.marks.Mark.TheVariants as marks
+use Rattle.decl_syntax.specs.Units.{left, token_at}
+use Rattle.decl_syntax.specs.Reading.{parts_at}
+use Rattle.decl_syntax.specs.EndGrammar.{Segment}
+use Rattle.decl_syntax.specs.EndReading.{segment_of, segments_at}
+use Rattle.decl_syntax.proofs.ListLemmas.{with_front}
+use Rattle.decl_syntax.proofs.ends.skip_path.Given as goal
+
+abbrev pub invariant-parts : goal.invariant-parts
+invariant-parts l =
+    (front : List Segment) × (with_front front (parts_at marks.PathSeparator (token_at segment_of) (left l.rest)) ≡ segments_at (left l.at))
+
+abbrev pub decreases-parts : goal.decreases-parts
+decreases-parts l = length (left l.rest)

@@ -1,0 +1,15 @@
+pub mod EndGrammar
+pub mod EndReading
+pub mod FieldNames
+pub mod Grammar
+pub mod PatternGrammar
+pub mod PatternReading
+pub mod Patterns
+pub mod Reading
+pub mod RunReading
+pub mod Runs
+pub mod TypeGrammar
+pub mod TypeReading
+pub mod Types
+pub mod Units
+pub mod Widths

@@ -1,0 +1,204 @@
+//! A place in a list of tokens, and one step from there.
+ghost use Rattle.std.specs.Prelude.{◌≡◌, ◌∷◌, [], MatchOption, option_map, string_bytes};
+ghost use Rattle.decl_lexer.specs.Lexing.{Placed};
+ghost use Rattle.decl_lexer.specs.Tokens.{tokens_view};
+ghost use Rattle.decl_syntax.specs.Units.{units, left, unit_view, doubled, behind, is_mark, is_word, is_lifetime, token_at, name_of, flag_at, integer_of, from_of};
+
+use decl_lexer::{Mark, Token, TokenKind, Word};
+
+/// The second mark of a token `&&` or `>>`, which ends at byte `to` and begins one byte before.
+#[derive(Clone, Copy, Debug)]
+pub struct Half {
+    mark: Mark,
+    to: u64,
+}
+
+/// A place in a list of tokens, in which each `&&` and `>>` is two marks.
+#[derive(Clone, Copy)]
+pub struct Cursor<'a> {
+    pending: Option<Half>,
+    tokens: &'a [Token],
+}
+
+/// What a token is: a mark, or anything else.
+#[derive(Clone, Copy)]
+pub enum Seen<'a> {
+    Mark(Mark),
+    Other(&'a TokenKind),
+}
+
+/// A token or half of one, from byte `from` up to byte `to`.
+#[derive(Clone, Copy)]
+pub struct Unit<'a> {
+    pub kind: Seen<'a>,
+    pub from: u64,
+    pub to: u64,
+}
+
+/// The mark of which a token is two.
+fn doubled(kind: &TokenKind) -> Option<Mark>
+    ensures { result ≡ doubled kind.now }
+{
+    match kind {
+        TokenKind::Mark(Mark::And) => Some(Mark::Ampersand),
+        TokenKind::Mark(Mark::ShiftRight) => Some(Mark::Greater),
+        _ => None,
+    }
+}
+
+impl<'a> Cursor<'a> {
+    /// The place before the first token.
+    #[tactic(auto, unfolding(crate::specs::Units::left))]
+    pub fn new(tokens: &'a [Token]) -> Cursor<'a>
+        ensures { left result ≡ units (tokens_view tokens.now) }
+    {
+        Cursor {
+            pending: None,
+            tokens,
+        }
+    }
+
+    /// The token behind this place, and the place behind that.
+    #[tactic(auto, unfolding(crate::specs::Units::left, crate::specs::Units::units))]
+    pub fn next(self) -> Option<(Unit<'a>, Cursor<'a>)>
+        ensures { MatchOption result (left self.entry ≡ []) (λ p. left self.entry ≡ unit_view p.0 ∷ left p.1) }
+    {
+        if let Some(half) = self.pending {
+            let kind = Seen::Mark(half.mark);
+            let from = half.to.saturating_sub(1);
+            let rest = Cursor::new(self.tokens);
+            return Some((
+                Unit {
+                    kind,
+                    from,
+                    to: half.to,
+                },
+                rest,
+            ));
+        }
+        let (first, tokens) = self.tokens.split_first()?;
+        let (from, to) = (first.from, first.to);
+        match doubled(&first.kind) {
+            Some(mark) => {
+                let kind = Seen::Mark(mark);
+                let pending = Some(Half { mark, to });
+                let to = to.saturating_sub(1);
+                Some((Unit { kind, from, to }, Cursor { pending, tokens }))
+            }
+            None => {
+                let kind = Seen::Other(&first.kind);
+                Some((Unit { kind, from, to }, Cursor::new(tokens)))
+            }
+        }
+    }
+}
+
+impl<'a> Cursor<'a> {
+    /// The byte offset of the token behind this place, and 0 at the end.
+    pub fn from(self) -> u64
+        ensures { result ≡ from_of (left self.entry) }
+    {
+        match self.next() {
+            Some((first, _)) => first.from,
+            None => 0,
+        }
+    }
+}
+
+/// The place behind the mark.
+pub fn behind(at: Cursor<'_>, mark: Mark) -> Option<Cursor<'_>>
+    ensures { option_map left result ≡ behind (is_mark mark) (left at.entry) }
+{
+    let (first, rest) = at.next()?;
+    match first.kind {
+        Seen::Mark(other) => {
+            if other == mark {
+                return Some(rest);
+            }
+        }
+        Seen::Other(TokenKind::Mark(other)) => {
+            if *other == mark {
+                return Some(rest);
+            }
+        }
+        Seen::Other(_) => {}
+    }
+    None
+}
+
+/// The place behind the keyword.
+pub fn behind_word(at: Cursor<'_>, word: Word) -> Option<Cursor<'_>>
+    ensures { option_map left result ≡ behind (is_word word) (left at.entry) }
+{
+    let (first, rest) = at.next()?;
+    if let Seen::Other(TokenKind::Word(other)) = first.kind {
+        if *other == word {
+            return Some(rest);
+        }
+    }
+    None
+}
+
+/// The place behind a lifetime.
+pub fn behind_lifetime(at: Cursor<'_>) -> Option<Cursor<'_>>
+    ensures { option_map left result ≡ behind is_lifetime (left at.entry) }
+{
+    let (first, rest) = at.next()?;
+    match first.kind {
+        Seen::Other(TokenKind::Lifetime) => Some(rest),
+        _ => None,
+    }
+}
+
+/// The text of the name behind the place, and the place behind it.
+pub fn name_at(at: Cursor<'_>) -> Option<(&String, Cursor<'_>)>
+    ensures { option_map (λ p. (string_bytes p.0.now, left p.1)) result ≡ token_at name_of (left at.entry) }
+{
+    let (first, rest) = at.next()?;
+    match first.kind {
+        Seen::Other(TokenKind::Name { text, .. }) => Some((text, rest)),
+        _ => None,
+    }
+}
+
+/// Whether the keyword comes next, and the place behind it or else this one.
+pub fn skip_word(at: Cursor<'_>, word: Word) -> (bool, Cursor<'_>)
+    ensures { (result.0, left result.1) ≡ flag_at (is_word word) (left at.entry) }
+{
+    match behind_word(at, word) {
+        Some(rest) => (true, rest),
+        None => (false, at),
+    }
+}
+
+/// The place behind the mark, if it comes next, and else this one.
+pub fn skip_mark(at: Cursor<'_>, mark: Mark) -> Cursor<'_>
+    ensures { left result ≡ (flag_at (is_mark mark) (left at.entry)).1 }
+{
+    match behind(at, mark) {
+        Some(rest) => rest,
+        None => at,
+    }
+}
+
+/// The place behind a lifetime, if one comes next, and else this one.
+pub fn skip_lifetime(at: Cursor<'_>) -> Cursor<'_>
+    ensures { left result ≡ (flag_at is_lifetime (left at.entry)).1 }
+{
+    match behind_lifetime(at) {
+        Some(rest) => rest,
+        None => at,
+    }
+}
+
+/// An integer with its suffix as written, and the place behind it.
+pub fn integer_at(at: Cursor<'_>) -> Option<(Option<u128>, &String, Cursor<'_>)>
+    ensures { option_map (λ p. ((p.0, string_bytes p.1.now), left p.2)) result
+        ≡ token_at integer_of (left at.entry) }
+{
+    let (first, rest) = at.next()?;
+    match first.kind {
+        Seen::Other(TokenKind::Int { value, suffix, .. }) => Some((*value, suffix, rest)),
+        _ => None,
+    }
+}

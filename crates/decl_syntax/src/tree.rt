@@ -1,0 +1,92 @@
+//! The trees of patterns as they are written.
+
+/// A path as it is written. It is plain where each part is a name; `crate`, `self`, `super` and `Self` are none.
+#[derive(Debug, Drop)]
+pub struct Path {
+    pub names: Vec<String>,
+    pub plain: bool,
+}
+
+/// A literal or the end of a range.
+#[derive(Debug, Drop)]
+pub enum Lit {
+    Flag(bool),
+    Char(char),
+    Byte(u8),
+    /// An integer as it is written: `size` is `None` from 2^128 on, `suffix` may be empty.
+    Int {
+        negative: bool,
+        size: Option<u128>,
+        suffix: String,
+    },
+    Str(String),
+    /// A float, a byte string, a C string, or a path as the end of a range.
+    Other,
+}
+
+/// An attribute at byte `from`, with the first name in its brackets, or an empty word.
+#[derive(Debug, Drop)]
+pub struct Attr {
+    pub from: u64,
+    pub word: String,
+}
+
+/// A pattern, and the byte offset of its first token; a leading `|` does not count.
+#[cycle(pattern)]
+#[derive(Debug, Drop)]
+pub struct Pat {
+    pub from: u64,
+    pub kind: PatKind,
+}
+
+/// A field of a brace pattern; a shorthand has a binding as its pattern.
+#[cycle(pattern)]
+#[derive(Debug, Drop)]
+pub struct FieldPat {
+    pub name: String,
+    pub attrs: Vec<Attr>,
+    pub pat: Pat,
+}
+
+/// The forms of a pattern.
+#[cycle(pattern)]
+#[derive(Debug, Drop)]
+pub enum PatKind {
+    Wild,
+    /// `..` as an item of a list, or behind `@` in a slice.
+    Rest,
+    Lit(Lit),
+    /// A name alone, which may be a path or a binding.
+    Name(String),
+    /// A binding by `ref`, `mut` or `@`, or a field's shorthand.
+    Bind {
+        name: String,
+        by_ref: bool,
+        mutable: bool,
+        sub: Option<Box<Pat>>,
+    },
+    Path(Path),
+    TupleForm {
+        path: Path,
+        items: Vec<Pat>,
+    },
+    Brace {
+        path: Path,
+        fields: Vec<FieldPat>,
+        rest: bool,
+    },
+    Tuple(Vec<Pat>),
+    Group(Box<Pat>),
+    Slice(Vec<Pat>),
+    Point {
+        mutable: bool,
+        inner: Box<Pat>,
+    },
+    Range {
+        low: Option<Lit>,
+        high: Option<Lit>,
+        closed: bool,
+    },
+    /// Two alternatives or more.
+    Or(Vec<Pat>),
+}
