@@ -1,0 +1,12 @@
+pub mod ArmLaws
+pub mod CountLaws
+pub mod FieldLaws
+pub mod FileLaws
+pub mod FunctionLaws
+pub mod ItemLaws
+pub mod NameLaws
+pub mod ParamLaws
+pub mod PartLemmas
+pub mod RunLaws
+pub mod VariantLaws
+pub mod WidthLemmas

@@ -1,0 +1,15 @@
+pub mod ArmGrammar
+pub mod ArmReading
+pub mod Counts
+pub mod DeclarationGrammar
+pub mod DeclarationReading
+pub mod FileGrammar
+pub mod FileReading
+pub mod FunctionGrammar
+pub mod FunctionReading
+pub mod ItemGrammar
+pub mod ItemReading
+pub mod ItemWidths
+pub mod Items
+pub mod RunGrammar
+pub mod RunReading

@@ -1,0 +1,41 @@
+//! Reads the items of a source from its tokens.
+//!
+//! The grammar stands in `docs/grammar.md` and, as relations with a case for each form, in
+//! `specs/DeclarationGrammar.antt`, `specs/RunGrammar.antt`, `specs/ArmGrammar.antt`,
+//! `specs/FunctionGrammar.antt`, `specs/ItemGrammar.antt` and `specs/FileGrammar.antt`. Each says what tokens
+//! begin with and what stands behind it; types, patterns and attributes are those of `decl_syntax`, which
+//! also says how tokens are counted. Beside each stands a reading from left to right (`specs/*Reading.antt`),
+//! which the code follows and laws join to the grammar.
+//!
+//! [`parse`] gives the file that tokens spell, or the first fault: the number of the item and the byte at which
+//! nothing of the grammar stands, or an item with a list of more than 256 parts. Items come from the front, and
+//! the first fault counts. The laws of `laws.rt` say that any tokens spell one file or have one fault.
+#![tactic(auto)]
+
+mod arms;
+mod declarations;
+mod fields;
+mod file;
+#[cfg(test)]
+mod file_tests;
+#[cfg(test)]
+mod function_tests;
+mod functions;
+mod items;
+mod laws;
+mod names;
+mod params;
+mod parts;
+mod runs;
+#[cfg(test)]
+mod source_tests;
+mod tree;
+mod widths;
+
+pub use file::{ParseFault, parse};
+pub use functions::{Body, one_function, read_function};
+pub use laws::{file_or_fault, one_fault, one_file, some_answer};
+pub use runs::{Until, one_run, skip_run};
+pub use tree::{
+    Arm, EnumItem, Field, File, FnItem, Form, Item, ItemKind, StructItem, UseItem, Variant,
+};

@@ -1,0 +1,89 @@
+//! The trees of items as they are written.
+use decl_syntax::{Attr, Pat, Ty};
+
+/// A file: its items in order, without the attributes `#![..]` at its start.
+#[derive(Debug, Drop)]
+pub struct File {
+    pub items: Vec<Item>,
+}
+
+/// An item that begins at byte `from`, with the attributes before it.
+#[derive(Debug, Drop)]
+pub struct Item {
+    pub from: u64,
+    pub attrs: Vec<Attr>,
+    pub kind: ItemKind,
+}
+
+/// The kinds of items.
+///
+/// Source: the Rust Reference, "Items"; which of them are our own choice.
+#[derive(Debug, Drop)]
+pub enum ItemKind {
+    Enum(EnumItem),
+    Struct(StructItem),
+    Import(UseItem),
+    Function(FnItem),
+}
+
+/// An enum, with its variants in order.
+#[derive(Debug, Drop)]
+pub struct EnumItem {
+    pub name: String,
+    pub variants: Vec<Variant>,
+}
+
+/// A variant; what stands behind its `=` leaves no trace.
+#[derive(Debug, Drop)]
+pub struct Variant {
+    pub name: String,
+    pub attrs: Vec<Attr>,
+    pub form: Form,
+}
+
+/// A struct.
+#[derive(Debug, Drop)]
+pub struct StructItem {
+    pub name: String,
+    pub form: Form,
+}
+
+/// The fields of a struct or variant: none, `(..)` or `{..}`.
+#[derive(Debug, Drop)]
+pub enum Form {
+    Unit,
+    Tuple(Vec<Field>),
+    Brace(Vec<Field>),
+}
+
+/// A field. It has a name exactly in a brace form.
+#[derive(Debug, Drop)]
+pub struct Field {
+    pub name: Option<String>,
+    pub attrs: Vec<Attr>,
+    pub ty: Ty,
+}
+
+/// `use OWNER::{..};` with the names in order, or `use OWNER::*;` with none.
+#[derive(Debug, Drop)]
+pub struct UseItem {
+    pub owner: String,
+    pub names: Option<Vec<String>>,
+}
+
+/// A function whose body is one match on its parameter. `deref` is the byte offset of the `*` in `match *x`.
+#[derive(Debug, Drop)]
+pub struct FnItem {
+    pub name: String,
+    pub param: Ty,
+    pub deref: Option<u64>,
+    pub arms: Vec<Arm>,
+}
+
+/// An arm. What its guard and its body are leaves no trace.
+#[derive(Debug, Drop)]
+pub struct Arm {
+    pub attrs: Vec<Attr>,
+    pub pat: Pat,
+    pub guarded: bool,
+}
