@@ -2,10 +2,10 @@ pub mod Answered
 pub mod Fronts
 pub mod Going
 pub mod Judged
-pub mod Scans
 pub mod SmallCasesLemmas
 pub mod SmallFiles
 pub mod SmallItemLaws
+pub mod SmallKnown
 pub mod SmallLaws
 pub mod SmallLists
 pub mod SmallNames

@@ -8,10 +8,10 @@ use Rattle.std.proofs.lemmas.Slice.Eq.{bytes_eq-Decides}
 use Rattle.decl_lexer.specs.Lexing.{Placed}
 use Rattle.match_top.specs.SmallSource.{SmallFunction, SmallEnum, SmallItem, AnEnum, AFunction, SpellsItem, SpellsFile, no_item, next_item}
 use Rattle.match_top.specs.SmallConditions.{enums_of, functions_of, enum_names, function_names, is_among, all_differ, AreDifferent, KeepsConditions, IsSmallSource, IsNotSmall}
-use Rattle.match_top.specs.SmallStream.{stream}
+use Rattle.match_top.specs.SmallStream.{stream, is_end}
 use Rattle.match_top.specs.SmallReading.{or_else, item_at}
 use Rattle.match_top.specs.SmallTypes.{EnumMap}
-use Rattle.match_top.specs.SmallSurvey.{variants_in, variants_named, enum_fits, HasOneMore, ReadsItems, none_read, one_read, SurveyedTo, is_end}
+use Rattle.match_top.specs.SmallSurvey.{variants_in, variants_named, enum_fits, HasOneMore, ReadsItems, none_read, one_read, SurveyedTo}
 use Rattle.match_top.proofs.SmallStreams.{lexes_stream}
 use Rattle.match_top.proofs.SmallLists.{given, first_is, second_is}
 use Rattle.match_top.proofs.SmallNames.{both_true, differ_push, differ_next}
@@ -59,7 +59,7 @@ whole ts rest items all r e s =
 
 -- what a small source spells, as a reader comes to it
 pub spelled_stream : (source : List ℕ) (all : List SmallItem) → IsSmallSource source all → SpellsFile (stream source 0) all
-spelled_stream source all h = subst (λ (ts : List Placed). SpellsFile ts all) (sym (lexes_stream source h.tokens h.lexed)) h.spelled
+spelled_stream source all h = subst (λ (ts : List Placed). SpellsFile ts all) (sym (lexes_stream source h.tokens h.lexed h.digits)) h.spelled
 
 -- ---- names
 

@@ -1,5 +1,5 @@
 -- Arms, lists and items that are read are spelled so, and what is spelled so is read.
-use Rattle.std.proofs.Common.{◌≡◌, ℕ, zero, suc, false, List, [], ◌∷◌, length, Some, None, refl, sym, ap, subst, ◌∙◌, inl, inr}
+use Rattle.std.proofs.Common.{◌≡◌, ℕ, zero, suc, List, [], ◌∷◌, length, Some, None, refl, sym, ap, subst, ◌∙◌, inl, inr}
 use Rattle.decl_lexer.specs.declared.words.Word.TheVariants as words
 use Rattle.decl_lexer.specs.declared.marks.Mark.TheVariants as marks
 use Rattle.decl_lexer.specs.Lexing.{Placed}
@@ -8,15 +8,15 @@ use Rattle.match_top.specs.declared.small.symbols.Sign.TheVariants as signs
 use Rattle.match_top.specs.SmallSymbols.{Sym, ASign, AName, SomeDigits, OtherSym, symbol_of}
 use Rattle.match_top.specs.SmallStream.{behind}
 use Rattle.match_top.specs.SmallSource.{SmallPattern, SmallArm, SmallFunction, SmallEnum, SmallItem, AnEnum, AFunction, IsName, IsWord, IsMark, SpellsName, a_name, CommaList, closed, last, next, SpellsPattern, wildcard, is_true, is_false, path, SpellsArm, an_arm, SpellsEnum, an_enum, SpellsFunction, a_function, SpellsItem, enum_item, function_item}
-use Rattle.match_top.specs.SmallReading.{Read, name_at, digits_at, pattern_of, arm_at, comma_list, list_at, enum_behind, signature_behind, scrutinee_behind, function_behind, item_of, item_at}
-use Rattle.match_top.proofs.SmallLists.{some_is, bind_some, or_some, map_some, Shrinks, list_is, name_shrinks, arm_shrinks, first_is, second_is}
+use Rattle.match_top.specs.SmallReading.{Read, name_at, digits_at, pattern_of, arm_of, arm_at, comma_list, list_at, enum_behind, signature_behind, scrutinee_behind, function_behind, item_of, item_at}
+use Rattle.match_top.proofs.SmallLists.{some_is, bind_some, or_some, map_some, Shrinks, list_is, name_shrinks, arm_shrinks, first_is, second_is, head_bind}
 use Rattle.match_top.proofs.SmallLaws.{lexeme_is, behind_some, behind_it, behind_other, name_some, name_it, digits_some, digits_it, cons, pattern_sound, pattern_complete}
 
 pub arm_sound : (ts us : List Placed) (x : SmallArm) → arm_at ts ≡ Some (x, us) → SpellsArm ts x us
-unfolding arm_at
+unfolding arm_of
 arm_sound [] us x e = absurd cc
 arm_sound (t ∷ ts) us x e =
-    let p = bind_some (pattern_of (symbol_of t.lexeme) ts) _ (x, us) e in
+    let p = bind_some (pattern_of (symbol_of t.lexeme) ts) _ (x, us) (sym (head_bind arm_of (symbol_of t.lexeme) t.from ts refl) ∙ e) in
     let a = bind_some (behind signs.FatArrow p.0.1) _ (x, us) p.2 in
     let d = bind_some (digits_at a.0) _ (x, us) a.2 in
     let arrow = behind_some signs.FatArrow p.0.1 a.0 a.1 in
@@ -28,9 +28,10 @@ arm_sound (t ∷ ts) us x e =
     (an_arm t arrow.first digits.first ts d.0 p.0.0 pattern arrow.is digits.is))
 
 pub arm_complete : (ts us : List Placed) (x : SmallArm) → SpellsArm ts x us → arm_at ts ≡ Some (x, us)
-unfolding arm_at
+unfolding arm_of
 arm_complete _ _ _ (an_arm first arrow digits ts rest p spelled f d) =
-    rw (pattern_complete first ts (arrow ∷ digits ∷ rest) p spelled, behind_it signs.FatArrow arrow (digits ∷ rest) f, digits_it digits rest d) refl
+    head_bind arm_of (symbol_of first.lexeme) first.from ts refl
+    ∙ rw (pattern_complete first ts (arrow ∷ digits ∷ rest) p spelled, behind_it signs.FatArrow arrow (digits ∷ rest) f, digits_it digits rest d) refl
 
 pub name_sound : (ts us : List Placed) (n : List ℕ) → name_at ts ≡ Some (n, us) → SpellsName ts n us
 name_sound ts us n e =
@@ -275,7 +276,7 @@ item_sym_sound t ts us i OtherSym s e = absurd cc
 pub item_sound : (ts us : List Placed) (i : SmallItem) → item_at ts ≡ Some (i, us) → SpellsItem ts i us
 unfolding item_at
 item_sound [] us i e = absurd cc
-item_sound (t ∷ ts) us i e = item_sym_sound t ts us i (symbol_of t.lexeme) refl e
+item_sound (t ∷ ts) us i e = item_sym_sound t ts us i (symbol_of t.lexeme) refl (sym (head_bind (λ s. item_of s.0 s.2) (symbol_of t.lexeme) t.from ts refl) ∙ e)
 
 enum_read : (ts us : List Placed) (x : SmallEnum) → SpellsEnum ts x us → item_at ts ≡ Some (AnEnum x, us)
 unfolding item_at

@@ -14,7 +14,7 @@ use Rattle.match_top.specs.SmallSymbols.{Sym, ASign, AName, SomeDigits, OtherSym
 use Rattle.match_top.specs.SmallStream.{behind, behind_sym}
 use Rattle.match_top.specs.SmallSource.{SmallPattern, Wildcard, Literal, Path, IsName, IsDigits, SpellsPattern, wildcard, is_true, is_false, path}
 use Rattle.match_top.specs.SmallReading.{name_of, name_at, digits_of, digits_at, path_behind, pattern_of}
-use Rattle.match_top.proofs.SmallLists.{some_is, bind_some, first_is, second_is}
+use Rattle.match_top.proofs.SmallLists.{some_is, bind_some, first_is, second_is, head_bind}
 
 -- the token that a sign is
 abbrev pub sign_lexeme : Sign → Lexeme
@@ -203,7 +203,7 @@ pub record HeadsName (n : List ℕ) (ts rest : List Placed) : Type 0 where
 pub name_some : (ts us : List Placed) (n : List ℕ) → name_at ts ≡ Some (n, us) → HeadsName n ts us
 name_some [] us n e = absurd cc
 name_some (t ∷ ts) us n e =
-    let s = named_behind (symbol_of t.lexeme) ts us n e in
+    let s = named_behind (symbol_of t.lexeme) ts us n (sym (head_bind (λ s. name_of s.0 s.2) (symbol_of t.lexeme) t.from ts refl) ∙ e) in
     record { first = t; is = name_lexeme t.lexeme n s.0; whole = ap (λ (vs : List Placed). t ∷ vs) s.1 }
 
 pub name_it : (t : Placed) (rest : List Placed) (n : List ℕ) → IsName n t → name_at (t ∷ rest) ≡ Some (n, rest)
@@ -224,7 +224,7 @@ counted_behind OtherSym ts us e = absurd cc
 pub digits_some : (ts us : List Placed) → digits_at ts ≡ Some us → HeadsDigits ts us
 digits_some [] us e = absurd cc
 digits_some (t ∷ ts) us e =
-    let s = counted_behind (symbol_of t.lexeme) ts us e in
+    let s = counted_behind (symbol_of t.lexeme) ts us (sym (head_bind (λ s. digits_of s.0 s.2) (symbol_of t.lexeme) t.from ts refl) ∙ e) in
     record { first = t; is = digits_lexeme t.lexeme s.0; whole = ap (λ (vs : List Placed). t ∷ vs) s.1 }
 
 pub digits_it : (t : Placed) (rest : List Placed) → IsDigits t → digits_at (t ∷ rest) ≡ Some rest

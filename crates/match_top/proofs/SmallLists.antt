@@ -1,14 +1,14 @@
 -- Lists with commas, read item by item.
-use Rattle.std.proofs.Common.{◌≡◌, ℕ, zero, suc, ◌<◌, ◌≤◌, Bool, true, false, cond, List, [], ◌∷◌, ◌++◌, length, Option, Some, None, refl, sym, ap, ◌∙◌, ◌⊎◌, inl, inr, append_assoc, arith}
+use Rattle.std.proofs.Common.{◌≡◌, ℕ, zero, suc, ◌<◌, ◌≤◌, Bool, true, false, cond, List, [], ◌∷◌, ◌++◌, length, Option, Some, None, refl, sym, ap, subst, ◌∙◌, ◌⊎◌, inl, inr, append_assoc, arith}
 use Rattle.std.specs.Prelude.{option_map}
 use Rattle.std.proofs.lemmas.List.{append-nil}
 use Rattle.decl_lexer.specs.Lexing.{Placed}
 use Rattle.match_top.specs.declared.small.symbols.Sign.{Sign}
 use Rattle.match_top.specs.declared.small.symbols.Sign.TheVariants as signs
 use Rattle.match_top.specs.SmallSymbols.{Sym, ASign, AName, SomeDigits, OtherSym, symbol_of, same_sign}
-use Rattle.match_top.specs.SmallStream.{head, behind, behind_sym}
+use Rattle.match_top.specs.SmallStream.{head, head_of, behind, behind_sym, is_sign, is_end}
 use Rattle.match_top.specs.SmallSource.{SmallPattern}
-use Rattle.match_top.specs.SmallReading.{Read, ◌>>=◌, or_else, name_of, name_at, digits_of, digits_at, path_behind, pattern_of, arm_at, comma_list, list_at}
+use Rattle.match_top.specs.SmallReading.{Read, ◌>>=◌, or_else, name_of, name_at, digits_of, digits_at, path_behind, pattern_of, arm_of, arm_at, comma_list, list_at}
 
 pub some_is : {A : Type 0} (x y : A) → Some x ≡ Some y → x ≡ y
 some_is x y e = cc
@@ -40,6 +40,49 @@ sym_behind wanted OtherSym ts us e = absurd cc
 pub behind_shorter : (wanted : Sign) (ts us : List Placed) → behind wanted ts ≡ Some us → length us < length ts
 behind_shorter wanted [] us e = absurd cc
 behind_shorter wanted (t ∷ ts) us e = let same = ap length (sym_behind wanted (symbol_of t.lexeme) ts us e) in omega arith
+
+-- the first symbol, where it is one that a small source may have
+pub known_head : (s : Sym) (at : ℕ) (ts : List Placed) (x : Sym × ℕ × List Placed) → head_of s at ts ≡ Some x → (s, at, ts) ≡ x
+known_head (ASign g) at ts x e = some_is _ _ e
+known_head (AName n) at ts x e = some_is _ _ e
+known_head SomeDigits at ts x e = some_is _ _ e
+known_head OtherSym at ts x e = absurd cc
+
+-- what is read from the first symbol, where nothing is read from another
+pub head_bind : {B : Type 0} (f : Sym × ℕ × List Placed → Option B) (s : Sym) (at : ℕ) (ts : List Placed) → f (OtherSym, at, ts) ≡ None → (head_of s at ts >>= f) ≡ f (s, at, ts)
+head_bind f (ASign g) at ts e = refl
+head_bind f (AName n) at ts e = refl
+head_bind f SomeDigits at ts e = refl
+head_bind f OtherSym at ts e = sym e
+
+as_sign : (wanted : Sign) (s : Sym) (ts : List Placed) → behind_sym wanted s ts ≡ cond (is_sign wanted s) (Some ts) None
+as_sign wanted (ASign g) ts = refl
+as_sign wanted (AName n) ts = refl
+as_sign wanted SomeDigits ts = refl
+as_sign wanted OtherSym ts = refl
+
+-- whether a sign stands first
+pub behind_first : (wanted : Sign) (ts : List Placed) (s : Sym × ℕ × List Placed) → Some s ≡ head ts → behind wanted ts ≡ cond (is_sign wanted s.0) (Some s.2) None
+behind_first wanted [] s e = absurd cc
+behind_first wanted (t ∷ ts) s e =
+    subst (λ (x : Sym × ℕ × List Placed). behind_sym wanted (symbol_of t.lexeme) ts ≡ cond (is_sign wanted x.0) (Some x.2) None)
+    (known_head (symbol_of t.lexeme) t.from ts s (sym e)) (as_sign wanted (symbol_of t.lexeme) ts)
+
+other_behind : (wanted : Sign) (s : Sym) (at : ℕ) (ts : List Placed) → None ≡ head_of s at ts → None ≡ behind_sym wanted s ts
+other_behind wanted (ASign g) at ts e = absurd cc
+other_behind wanted (AName n) at ts e = absurd cc
+other_behind wanted SomeDigits at ts e = absurd cc
+other_behind wanted OtherSym at ts e = refl
+
+-- where no symbol stands first, no sign does
+pub behind_none : (wanted : Sign) (ts : List Placed) → None ≡ head ts → None ≡ behind wanted ts
+behind_none wanted [] e = refl
+behind_none wanted (t ∷ ts) e = other_behind wanted (symbol_of t.lexeme) t.from ts e
+
+-- where a symbol stands first, there are tokens
+pub head_some : (ts : List Placed) (s : Sym × ℕ × List Placed) → Some s ≡ head ts → is_end ts ≡ false
+head_some [] s e = absurd cc
+head_some (t ∷ ts) s e = refl
 
 -- fewer tokens stand behind what is read
 abbrev pub Shrinks : {A : Type 0} → (List Placed → Read A) → Type 0
@@ -109,9 +152,45 @@ module _ {A : Type 0} (read : List Placed → Read A) (shrinks : Shrinks read) (
   list_goes_on x us vs b h close comma =
       sym (rw (← b, ← h, ← close, ← comma) (regroup front x (list_at read vs))) ∙ here
 
+-- a name that is the first symbol
+abbrev pub name_from : Sym × ℕ × List Placed → Read (List ℕ)
+name_from s = name_of s.0 s.2
+
+-- the same turns where the first symbol is read before it is known whether an item begins with it
+module _ {A : Type 0} (of : Sym × ℕ × List Placed → Read A) (shrinks : Shrinks (λ ts. head ts >>= of)) (front : List A) (ts : List Placed) (total : Read (List A))
+    (so_far : with_front front (list_at (λ us. head us >>= of) ts) ≡ total) where
+  abbrev reads : List Placed → Read A
+  reads us = head us >>= of
+
+  pub first_none : None ≡ head ts → None ≡ total
+  first_none h = list_stuck reads shrinks front ts total so_far (behind_none signs.CloseCurly ts h) (rw (← h) refl)
+
+  module _ (s : Sym × ℕ × List Placed) (h : Some s ≡ head ts) where
+    read_is : of s ≡ reads ts
+    read_is = rw (← h) refl
+
+    opens : is_sign signs.CloseCurly s.0 ≡ false → None ≡ behind signs.CloseCurly ts
+    opens e = sym (behind_first signs.CloseCurly ts s h ∙ rw e refl)
+
+    pub first_closed : is_sign signs.CloseCurly s.0 ≡ true → Some (front, s.2) ≡ total
+    first_closed e = list_closed reads shrinks front ts total so_far s.2 (sym (behind_first signs.CloseCurly ts s h ∙ rw e refl))
+
+    pub first_stuck : is_sign signs.CloseCurly s.0 ≡ false → None ≡ of s → None ≡ total
+    first_stuck e r = list_stuck reads shrinks front ts total so_far (opens e) (r ∙ read_is)
+
+    pub first_last : is_sign signs.CloseCurly s.0 ≡ false → (x : A) (us rest : List Placed) → Some (x, us) ≡ of s → Some rest ≡ behind signs.CloseCurly us → Some (front ++ x ∷ [], rest) ≡ total
+    first_last e x us rest r close = list_last reads shrinks front ts total so_far x us rest (opens e) (r ∙ read_is) close
+
+    pub first_torn : is_sign signs.CloseCurly s.0 ≡ false → (x : A) (us : List Placed) → Some (x, us) ≡ of s → None ≡ behind signs.CloseCurly us → None ≡ behind signs.Comma us → None ≡ total
+    first_torn e x us r close comma = list_torn reads shrinks front ts total so_far x us (opens e) (r ∙ read_is) close comma
+
+    pub first_goes_on : is_sign signs.CloseCurly s.0 ≡ false → (x : A) (us vs : List Placed) → Some (x, us) ≡ of s → None ≡ behind signs.CloseCurly us → Some vs ≡ behind signs.Comma us
+        → with_front (front ++ x ∷ []) (list_at reads vs) ≡ total
+    first_goes_on e x us vs r close comma = list_goes_on reads shrinks front ts total so_far x us vs (opens e) (r ∙ read_is) close comma
+
 head_shorter : (ts : List Placed) (s : Sym × ℕ × List Placed) → head ts ≡ Some s → length s.2 < length ts
 head_shorter [] s e = absurd cc
-head_shorter (t ∷ ts) s e = let same : ts ≡ s.2 = ap (λ (x : Sym × ℕ × List Placed). x.2) (some_is _ _ e) in let n = ap length same in omega arith
+head_shorter (t ∷ ts) s e = let same : ts ≡ s.2 = ap (λ (x : Sym × ℕ × List Placed). x.2) (known_head (symbol_of t.lexeme) t.from ts s e) in let n = ap length same in omega arith
 
 abbrev pub given : {A : Type 0} → A → List Placed → Read A
 given x ts = Some (x, ts)
@@ -166,7 +245,7 @@ pattern_within SomeDigits ts us p e = absurd cc
 pattern_within OtherSym ts us p e = absurd cc
 
 pub arm_shrinks : Shrinks arm_at
-unfolding arm_at
+unfolding arm_of
 arm_shrinks ts us x e =
     let h = bind_some (head ts) _ (x, us) e in
     let p = bind_some (pattern_of h.0.0 h.0.2) _ (x, us) h.2 in

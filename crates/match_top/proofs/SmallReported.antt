@@ -15,11 +15,11 @@ use Rattle.match_top.specs.declared.small.judging.CaseArm.{CaseArm}
 use Rattle.match_top.specs.declared.small.reporting.Progress.{Progress}
 use Rattle.match_top.specs.SmallSource.{SmallPattern, Wildcard, Literal, Path, SmallArm, SmallFunction, SmallEnum, SmallItem, AnEnum, AFunction}
 use Rattle.match_top.specs.SmallConditions.{SmallType, FlagType, EnumType, enums_of, functions_of, is_among, enum_named, type_named, may_stand, IsTyped, IsNotSmall}
-use Rattle.match_top.specs.SmallStream.{stream}
+use Rattle.match_top.specs.SmallStream.{stream, is_end}
 use Rattle.match_top.specs.SmallReading.{item_at}
 use Rattle.match_top.specs.SmallTypes.{NameSet, EnumMap, enum_of, enum_in, type_in}
 use Rattle.match_top.specs.SmallCases.{case_of, cases_of, flag_number}
-use Rattle.match_top.specs.SmallSurvey.{names_in, variants_in, variants_named, one_read, Surveyed, is_end}
+use Rattle.match_top.specs.SmallSurvey.{names_in, variants_in, variants_named, one_read, Surveyed}
 use Rattle.match_top.specs.SmallReporting.{IsUntyped, IsUntypedItem, IsReportOf, AddsReport, AddsItem, HasReportsOn, ReportedTo}
 use Rattle.match_top.proofs.SmallLists.{some_is, bind_some}
 use Rattle.match_top.proofs.SmallNames.{both_true}

@@ -51,8 +51,9 @@ reports_on items enums [] (r ∷ rs) is all = absurd all
 reports_on items enums (f ∷ fs) [] is all = absurd all
 reports_on items enums (f ∷ fs) (r ∷ rs) is all = (report_on items enums f r is all.0, reports_on items enums fs rs is all.1)
 
-pub reported : (source : List ℕ) (enums : EnumMap) (r : Reported) → HasDigits source → Surveyed source enums → HasAllReports source enums r → IsReported source r.text.items r.exhaustive
-reported source enums r d s h =
+pub reported : (source : List ℕ) (enums : EnumMap) (r : Reported) → Surveyed source enums → HasAllReports source enums r → IsReported source r.text.items r.exhaustive
+reported source enums r s h =
+    let d : HasDigits source = s.lexed in
     let file : SpellsFile (stream source 0) h.items = subst (SpellsFile (stream source 0)) (append-nil h.items) (spelled (stream source 0) [] h.items [] h.read no_item) in
     let same : h.items ≡ s.items = whole (stream source 0) [] s.items h.items s.read refl file in
     let is : (n : List ℕ) → variants_in enums n ≡ variants_named (enums_of h.items) n = λ n. s.map_is n ∙ ap (λ (xs : List SmallItem). variants_named (enums_of xs) n) (sym same) in
@@ -63,7 +64,7 @@ reported source enums r d s h =
         tokens = d.tokens;
         lexed = d.lexed;
         digits = d.digits;
-        spelled = subst (λ (ts : List Placed). SpellsFile ts h.items) (lexes_stream source d.tokens d.lexed) file;
+        spelled = subst (λ (ts : List Placed). SpellsFile ts h.items) (lexes_stream source d.tokens d.lexed d.digits) file;
         conditions = record {
           enums = names.enums;
           functions = names.functions;
@@ -78,7 +79,7 @@ reported source enums r d s h =
       exhaustive_is = h.exhaustive_is;
     }
 
-pub answered : (source : List ℕ) (enums : EnumMap) (r : Result (Option Reported) NoMemory) → HasDigits source → Surveyed source enums → IfOk r (λ o. MatchOption o (IsNotSmall source) (HasAllReports source enums)) → IfOk r (λ o. MatchOption o (IsNotSmall source) (λ r. IsReported source r.text.items r.exhaustive))
-answered source enums (Ok None) d s h = h
-answered source enums (Ok (Some r)) d s h = reported source enums r d s h
-answered source enums (Err e) d s h = tt
+pub answered : (source : List ℕ) (enums : EnumMap) (r : Result (Option Reported) NoMemory) → Surveyed source enums → IfOk r (λ o. MatchOption o (IsNotSmall source) (HasAllReports source enums)) → IfOk r (λ o. MatchOption o (IsNotSmall source) (λ r. IsReported source r.text.items r.exhaustive))
+answered source enums (Ok None) s h = h
+answered source enums (Ok (Some r)) s h = reported source enums r s h
+answered source enums (Err e) s h = tt

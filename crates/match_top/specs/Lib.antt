@@ -1,6 +1,5 @@
 pub mod Answers
 pub mod Reading
-pub mod Scanning
 pub mod SmallCases
 pub mod SmallConditions
 pub mod SmallDigits

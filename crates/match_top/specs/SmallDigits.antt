@@ -1,5 +1,5 @@
 -- Integers that are written with decimal digits alone (our own choice): no underscore, no base, no suffix.
-use Rattle.std.specs.Prelude.{◌≡◌, ℕ, ◌-◌, Bool, true, false, not, ◌||◌, List, [], ◌∷◌, take, drop}
+use Rattle.std.specs.Prelude.{◌≡◌, ℕ, ◌-◌, Bool, true, false, not, ◌||◌, List, take, drop}
 use Rattle.std.specs.List.{list_all}
 use Rattle.std.specs.Char.{is_ascii_digit}
 use Rattle.decl_lexer.specs.Begins.{Lexeme, Integer}
@@ -30,9 +30,3 @@ pub record HasDigits (source : List ℕ) : Type 0 where
   pub tokens : List Placed
   pub lexed : HasTokens source tokens
   pub digits : AreDigits source tokens
-
--- the source has tokens, and this says whether each integer among them is written with decimal digits alone
-pub record IsLexed (source : List ℕ) (digits : Bool) : Type 0 where
-  pub tokens : List Placed
-  pub lexed : HasTokens source tokens
-  pub digits_are : digits ≡ list_all (is_plain source) tokens

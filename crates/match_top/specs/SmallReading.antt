@@ -1,6 +1,7 @@
 -- Reading small sources from left to right: what the private functions of `small` give. What it means that tokens spell
 -- an item stands in SmallSource.
-use Rattle.std.specs.Prelude.{ℕ, zero, suc, ◌+◌, ◌<◌, true, false, List, [], ◌∷◌, length, vec_len, map, Option, Some, None, option_map, option_and_then, string_bytes}
+use Rattle.std.specs.Prelude.{◌≡◌, ℕ, zero, suc, ◌+◌, ◌<◌, true, false, List, [], ◌∷◌, length, vec_len, map, Option, Some, None, option_map, option_and_then, string_bytes}
+use Rattle.std.specs.Str.{IsCharBoundary}
 use Rattle.decl_lexer.specs.Lexing.{Placed}
 use Rattle.match_top.specs.declared.small.symbols.Sign.TheVariants as signs
 use Rattle.match_top.specs.declared.small.reading.PatternItem.{PatternItem}
@@ -10,8 +11,10 @@ use Rattle.match_top.specs.declared.small.reading.EnumItem.{EnumItem}
 use Rattle.match_top.specs.declared.small.reading.FunctionItem.{FunctionItem}
 use Rattle.match_top.specs.declared.small.reading.Item.{Item}
 use Rattle.match_top.specs.declared.small.reading.Item.TheVariants as items
+use Rattle.match_top.specs.declared.small.reading.NextItem.{NextItem}
+use Rattle.match_top.specs.declared.small.reading.NextItem.TheVariants as next_items
 use Rattle.match_top.specs.SmallSymbols.{Sym, ASign, AName, SomeDigits}
-use Rattle.match_top.specs.SmallStream.{head, behind}
+use Rattle.match_top.specs.SmallStream.{stream, head, behind, is_end}
 use Rattle.match_top.specs.SmallSource.{SmallPattern, Wildcard, Literal, Path, SmallArm, SmallFunction, SmallEnum, SmallItem, AnEnum, AFunction}
 
 infixl 10 ◌>>=◌
@@ -51,9 +54,13 @@ pattern_of (ASign signs.False) ts = Some (Literal false, ts)
 pattern_of (AName owner) ts = path_behind owner ts
 pattern_of _ ts = None
 
-unfoldable pub arm_at : List Placed → Read SmallArm
-arm_at ts =
-    head ts >>= λ s. pattern_of s.0 s.2 >>= λ p. behind signs.FatArrow p.1 >>= λ us. digits_at us >>= λ rest. Some (record { pattern = p.0; at = s.1 }, rest)
+-- an arm behind its first symbol
+unfoldable pub arm_of : Sym × ℕ × List Placed → Read SmallArm
+arm_of s = pattern_of s.0 s.2 >>= λ p. behind signs.FatArrow p.1 >>= λ us. digits_at us >>= λ rest. Some (record { pattern = p.0; at = s.1 }, rest)
+
+-- an arm from its first symbol on
+abbrev pub arm_at : List Placed → Read SmallArm
+arm_at ts = head ts >>= arm_of
 
 -- at most so many items up to the closing bracket
 unfoldable pub comma_list : {A : Type 0} → (List Placed → Read A) → ℕ → List Placed → Read (List A)
@@ -127,3 +134,9 @@ item_view (items.Function f) = AFunction (function_view f)
 abbrev pub HasFew : ℕ → ℕ → Item → Type 0
 HasFew at to (items.Enum e) = at + vec_len e.variants < to
 HasFew at to (items.Function f) = at + vec_len f.arms < to
+
+-- what stands next in a source: an item and what is behind it, no token, or what is no item
+abbrev pub IsNextItem : List ℕ → ℕ → NextItem → Type 0
+IsNextItem source at (next_items.Found i to) = (Some (item_view i, stream source to) ≡ item_at (stream source at)) × IsCharBoundary source to × HasFew at to i
+IsNextItem source at next_items.End = stream source at ≡ []
+IsNextItem source at next_items.Other = (None ≡ item_at (stream source at)) × (is_end (stream source at) ≡ false)

@@ -64,6 +64,10 @@ pub record ReportedTo (source : List ℕ) (at : ℕ) (enums : EnumMap) (p : Prog
   pub read : ReadsItems (stream source 0) items (stream source at)
   pub reported : HasReportsOn enums (functions_of items) p
 
+-- the text has the reports that were made so far
+abbrev pub IsFinished : Progress → Reported → Type 0
+IsFinished p r = ((reports : List FnReport) → HasReports reports p.text → r.text.items ≡ report_text reports) × (r.exhaustive ≡ p.exhaustive)
+
 -- the text has the reports on all functions of the source
 pub record HasAllReports (source : List ℕ) (enums : EnumMap) (r : Reported) : Type 0 where
   pub items : List SmallItem

@@ -1,11 +1,12 @@
 -- What a first reading of a source finds out: what the private functions of `small` give.
-use Rattle.std.specs.Prelude.{◌≡◌, ℕ, Bool, true, false, not, ◌&&◌, List, [], ◌∷◌, ◌++◌, map, codes, string_bytes, Option, Some, None, is_none, option_map, if◌then◌else◌}
+use Rattle.std.specs.Prelude.{◌≡◌, ℕ, Bool, false, not, ◌&&◌, List, [], ◌∷◌, ◌++◌, map, codes, string_bytes, Option, Some, None, is_none, option_map, if◌then◌else◌}
 use Rattle.std.specs.List.{AllByRecursion}
 use Rattle.std.specs.Str.{bytes_eq}
 use Rattle.indexmap.specs.IndexMap.{get_by_text}
 use Rattle.decl_lexer.specs.Lexing.{Placed}
 use Rattle.match_top.specs.SmallSource.{SmallEnum, SmallItem}
 use Rattle.match_top.specs.SmallConditions.{enums_of, enum_names, function_names, is_among, all_differ, AreDifferent}
+use Rattle.match_top.specs.SmallDigits.{HasDigits}
 use Rattle.match_top.specs.SmallStream.{stream}
 use Rattle.match_top.specs.SmallReading.{item_at}
 use Rattle.match_top.specs.SmallTypes.{NameSet, EnumMap}
@@ -55,13 +56,10 @@ pub record SurveyedTo (source : List ℕ) (at : ℕ) (enums : EnumMap) (function
   pub map_is : (name : List ℕ) → variants_in enums name ≡ variants_named (enums_of items) name
   pub functions_are : functions ≡ function_names items
 
--- the source is of items whose names fit, and the map has the enums
+-- the source has tokens, is of items whose names fit, and the map has the enums
 pub record Surveyed (source : List ℕ) (enums : EnumMap) : Type 0 where
+  pub lexed : HasDigits source
   pub items : List SmallItem
   pub read : ReadsItems (stream source 0) items []
   pub names : NamesFit items
   pub map_is : (name : List ℕ) → variants_in enums name ≡ variants_named (enums_of items) name
-
-abbrev pub is_end : List Placed → Bool
-is_end [] = true
-is_end (t ∷ ts) = false

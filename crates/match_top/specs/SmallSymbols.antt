@@ -1,5 +1,5 @@
 -- The symbols of small sources: what their readers tell apart.
-use Rattle.std.specs.Prelude.{ℕ, Bool, true, false, nat_eq, List, [], Option, Some, None, string_bytes}
+use Rattle.std.specs.Prelude.{ℕ, Bool, true, nat_eq, List, [], Option, Some, None, string_bytes}
 use Rattle.decl_lexer.specs.declared.words.Word.{Word}
 use Rattle.decl_lexer.specs.declared.words.Word.TheVariants as words
 use Rattle.decl_lexer.specs.declared.marks.Mark.{Mark}

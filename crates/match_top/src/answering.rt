@@ -1,14 +1,16 @@
 // The text that is written for the bytes of a file, with its status.
-ghost use Rattle.std.specs.Prelude.{◌≡◌, ◌≤◌, ◌⊎◌, List, ℕ, length, nat_lt, IfOk};
-ghost use Rattle.match_top.specs.Answers.{Answers, IsJudged, IsRefusedAt, IsRefusedBy, IsRefusedFault, IsReportedAs, IsRefusedSource, taken, longest_source, status_of};
-ghost use Rattle.match_top.specs.SmallDigits.{IsLexed};
+ghost use Rattle.std.specs.Prelude.{◌≡◌, ◌≤◌, List, ℕ, length, nat_lt, IfOk};
+ghost use Rattle.decl_lexer.specs.Tokens.{tokens_view};
+ghost use Rattle.match_top.specs.Answers.{Answers, IsJudged, IsRefusedIn, IsRefusedAt, IsRefusedBy, IsRefusedTokens, taken, longest_source, status_of};
+ghost use Rattle.match_top.specs.SmallConditions.{IsNotSmall};
 ghost use Rattle.match_top.specs.Statuses.{IsVerdict};
 ghost use Rattle.verdict_json.specs.Rules.{IsRule};
 
 use crate::Status;
 use crate::reading::LONGEST_SOURCE;
-use crate::scanning::{Scanned, scan};
 use crate::small::{Reported, report};
+use decl_lexer::{LexFault, Token, lex};
+use decl_parser::{ParseFault, parse};
 use match_model::NoMemory;
 use std::alloc::Global;
 use verdict_json::{Refusal, refusal_bytes};
@@ -40,15 +42,20 @@ fn is_too_long(source: &[u8]) -> bool
     source.len() > LONGEST_SOURCE
 }
 
-// The refusal of the whole source by a rule, with its place, if any.
-fn refused_at(alloc: Global, rule: u32, at: Option<u64>) -> Result<Answer, NoMemory>
+// The refusal of the whole source by a rule, with its item and its place, if any.
+fn refused_in(
+    alloc: Global,
+    rule: u32,
+    item: Option<u64>,
+    at: Option<u64>,
+) -> Result<Answer, NoMemory>
     requires { IsRule rule }
-    ensures answers { IfOk result (λ a. IsRefusedAt rule at a.text.items a.status) }
+    ensures answers { IfOk result (λ a. IsRefusedIn rule item at a.text.items a.status) }
     ensures verdict { IfOk result (λ a. IsVerdict a.status) }
 {
     let refusal = Refusal {
         rule,
-        item: None,
+        item,
         arm: None,
         at,
     };
@@ -56,6 +63,15 @@ fn refused_at(alloc: Global, rule: u32, at: Option<u64>) -> Result<Answer, NoMem
         text: refusal_bytes(alloc, &refusal)?,
         status: Status::Refused,
     })
+}
+
+// The refusal of the whole source by a rule that names no item, with its place, if any.
+fn refused_at(alloc: Global, rule: u32, at: Option<u64>) -> Result<Answer, NoMemory>
+    requires { IsRule rule }
+    ensures answers { IfOk result (λ a. IsRefusedAt rule at a.text.items a.status) }
+    ensures verdict { IfOk result (λ a. IsVerdict a.status) }
+{
+    refused_in(alloc, rule, None, at)
 }
 
 fn status_of(exhaustive: bool) -> Status
@@ -69,36 +85,47 @@ fn status_of(exhaustive: bool) -> Status
     }
 }
 
-// The answer to a source that has tokens, by whether each integer among them is of decimal digits alone.
-#[tactic(auto, unfolding(crate::specs::Answers::longest_source))]
-fn reported(alloc: Global, source: &str, digits: bool) -> Result<Answer, NoMemory>
-    requires short { length source.now ≤ longest_source }
-    requires lexed { IsLexed source.now digits }
-    ensures answers { IfOk result (λ a. IsReportedAs source.now a.text.items a.status
-        ⊎ IsRefusedSource source.now a.text.items a.status) }
+// The answer to the tokens of a source that is no small one: rule 90 where they spell a file, or else their fault.
+fn refused_tokens(alloc: Global, tokens: &[Token]) -> Result<Answer, NoMemory>
+    ensures answers { IfOk result (λ a. IsRefusedTokens (tokens_view tokens.now) a.text.items a.status) }
     ensures verdict { IfOk result (λ a. IsVerdict a.status) }
 {
-    if !digits {
-        return refused_at(alloc, 90, None);
-    }
-    match report(alloc, source)? {
-        Some(Reported { text, exhaustive }) => Ok(Answer {
-            text,
-            status: status_of(exhaustive),
-        }),
-        None => refused_at(alloc, 90, None),
+    let fault = match parse(alloc, tokens) {
+        Ok(_) => return refused_at(alloc, 90, None),
+        Err(fault) => fault,
+    };
+    match fault {
+        ParseFault::Syntax { item, at } => refused_in(alloc, 6, Some(item), Some(at)),
+        ParseFault::Wide { item, at } => refused_in(alloc, 9, Some(item), Some(at)),
+        ParseFault::NoMemory => Err(NoMemory),
     }
 }
 
-// The answer to a text that is not too long.
+// The answer to a text that is no small source: its first fault, or else by its tokens.
+fn refused_text(alloc: Global, source: &str) -> Result<Answer, NoMemory>
+    ensures answers { IfOk result (λ a. IsNotSmall source.now → IsJudged source.now a.text.items a.status) }
+    ensures verdict { IfOk result (λ a. IsVerdict a.status) }
+{
+    match lex(alloc, source.as_bytes()) {
+        Ok(tokens) => refused_tokens(alloc, &tokens),
+        Err(LexFault::Rule { rule, at }) => refused_at(alloc, rule, Some(at)),
+        Err(LexFault::NoMemory) => Err(NoMemory),
+    }
+}
+
+// The answer to a text that is not too long: it is read as a small source first.
+#[tactic(auto, unfolding(crate::specs::Answers::longest_source))]
 fn judged_text(alloc: Global, source: &str) -> Result<Answer, NoMemory>
     requires { length source.now ≤ longest_source }
     ensures answers { IfOk result (λ a. IsJudged source.now a.text.items a.status) }
     ensures verdict { IfOk result (λ a. IsVerdict a.status) }
 {
-    match scan(alloc, source)? {
-        Scanned::Fault { rule, at } => refused_at(alloc, rule, Some(at)),
-        Scanned::Tokens { digits } => reported(alloc, source, digits),
+    match report(alloc, source)? {
+        Some(Reported { text, exhaustive }) => Ok(Answer {
+            text,
+            status: status_of(exhaustive),
+        }),
+        None => refused_text(alloc, source),
     }
 }
 

@@ -122,12 +122,18 @@ const MISSING_ALL: &str =
     "{\"functions\":[{\"exhaustive\":false,\"name\":\"f\",\"overlaps\":[],\"unreachable\":[],\
     \"witnesses\":[{\"text\":\"_\",\"tree\":[\"any\"]}]}]}\n";
 
+const NO_FIRST_ITEM: &str =
+    "{\"refused\":{\"arm\":null,\"at\":0,\"item\":0,\"name\":\"syntax\",\"rule\":6}}\n";
+
+const NO_SECOND_ITEM: &str =
+    "{\"refused\":{\"arm\":null,\"at\":10,\"item\":1,\"name\":\"syntax\",\"rule\":6}}\n";
+
 const TWO_OF_THREE: &str = "enum E{A,B,C} fn f(x:E){match x{E::A=>1,E::B=>2}}";
 
 // A source, the room of the sink, the numbers of the writes that fail, the number of the status, what is written.
 type SourceRow = (&'static str, usize, &'static [u64], u8, &'static str);
 
-const SOURCES: [SourceRow; 6] = [
+const SOURCES: [SourceRow; 9] = [
     (TWO_OF_THREE, 4096, &[], 1, MISSING_C),
     (TWO_OF_THREE, 4096, &[2], 5, "{\"functions\":[{\""),
     (TWO_OF_THREE, 5, &[], 5, "{\"fun"),
@@ -140,6 +146,23 @@ const SOURCES: [SourceRow; 6] = [
         LAST_UNREACHABLE,
     ),
     ("enum E{A} fn f(x:E){match x{}}", 4096, &[], 1, MISSING_ALL),
+    // `..=` is one token, so that no `=>` follows `1..`.
+    (
+        "fn f(x:i128){match x{..0=>1,1..=>2}}",
+        4096,
+        &[],
+        3,
+        NO_FIRST_ITEM,
+    ),
+    ("enum E{A} impl E{}", 4096, &[], 3, NO_SECOND_ITEM),
+    // A comma has to follow the first arm's body.
+    (
+        "fn f(x:bool){match x{true=>if a {1} else {2} _=>3}}",
+        4096,
+        &[],
+        3,
+        NO_FIRST_ITEM,
+    ),
 ];
 
 #[test]

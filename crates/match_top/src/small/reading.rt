@@ -1,11 +1,14 @@
 // Reads the items of small sources from left to right, each from the byte where it begins.
-ghost use Rattle.std.specs.Prelude.{◌≡◌, ◌<◌, ◌≤◌, ◌+◌, length, option_map, IfOk, IfSome, vec_len, string_bytes, map};
+ghost use Rattle.std.specs.Prelude.{◌≡◌, ◌<◌, ◌≤◌, ◌+◌, List, length, option_map, IfOk, IfSome, vec_len, string_bytes, map};
 ghost use Rattle.std.specs.Str.{IsCharBoundary};
+ghost use Rattle.decl_lexer.specs.Lexing.{Placed};
 ghost use Rattle.match_top.specs.SmallSymbols.{symbol_view};
-ghost use Rattle.match_top.specs.SmallStream.{stream};
-ghost use Rattle.match_top.specs.SmallReading.{name_at, digits_at, name_of, path_behind, pattern_of, arm_at, list_at, enum_behind, signature_behind, scrutinee_behind, function_behind, item_of, item_at, pattern_view, arm_view, enum_view, function_view, item_view, HasFew};
+ghost use Rattle.match_top.specs.SmallStream.{stream, spot_view};
+ghost use Rattle.match_top.specs.SmallReading.{name_at, digits_at, name_of, path_behind, pattern_of, arm_of, arm_at, list_at, enum_behind, signature_behind, scrutinee_behind, function_behind, item_of, item_at, pattern_view, arm_view, enum_view, function_view, item_view, HasFew, IsNextItem};
 
-use crate::small::symbols::{Sign, Spot, Symbol, behind, next};
+use crate::small::symbols::{
+    NextSymbol, Separator, Sign, Spot, Symbol, behind, is_sign, next, next_at, separator_at,
+};
 use match_model::NoMemory;
 use std::alloc::Global;
 
@@ -48,6 +51,24 @@ pub enum Item {
     Function(FunctionItem),
 }
 
+/// What stands next outside of items: an item with the byte offset behind it, no token, or what is no item.
+#[derive(Debug, Drop)]
+pub enum NextItem {
+    Found(Item, u64),
+    End,
+    Other,
+}
+
+// The name that a symbol is.
+fn named(symbol: Symbol) -> Option<String>
+    ensures { (ts : List Placed) → option_map (λ n. (string_bytes n, ts)) result ≡ name_of (symbol_view symbol) ts }
+{
+    match symbol {
+        Symbol::Name(text) => Some(text),
+        _ => None,
+    }
+}
+
 fn name(alloc: Global, source: &str, at: u64) -> Result<Option<(String, u64)>, NoMemory>
     requires { IsCharBoundary source.now at }
     ensures exact { IfOk result (λ o. option_map (λ x. (string_bytes x.0, stream source.now x.1)) o
@@ -59,9 +80,9 @@ fn name(alloc: Global, source: &str, at: u64) -> Result<Option<(String, u64)>, N
         return Ok(None);
     };
     let Spot { symbol, to, .. } = spot;
-    match symbol {
-        Symbol::Name(text) => Ok(Some((text, to))),
-        _ => Ok(None),
+    match named(symbol) {
+        Some(text) => Ok(Some((text, to))),
+        None => Ok(None),
     }
 }
 
@@ -124,17 +145,15 @@ fn pattern(
     }
 }
 
-#[tactic(auto, unfolding(crate::specs::SmallReading::arm_at))]
-fn arm(alloc: Global, source: &str, at: u64) -> Result<Option<(ArmItem, u64)>, NoMemory>
-    requires { IsCharBoundary source.now at }
+// An arm, whose first symbol is already past.
+#[tactic(auto, unfolding(crate::specs::SmallReading::arm_of))]
+fn arm(alloc: Global, source: &str, first: Spot) -> Result<Option<(ArmItem, u64)>, NoMemory>
+    requires { IsCharBoundary source.now first.to }
     ensures exact { IfOk result (λ o. option_map (λ x. (arm_view x.0, stream source.now x.1)) o
-        ≡ arm_at (stream source.now at)) }
+        ≡ arm_of (spot_view source.now first)) }
     ensures within { IfOk result (λ o. IfSome o (λ x. IsCharBoundary source.now x.1)) }
-    ensures further { IfOk result (λ o. IfSome o (λ x. at < x.1)) }
+    ensures further { IfOk result (λ o. IfSome o (λ x. first.to < x.1)) }
 {
-    let Some(first) = next(alloc, source, at)? else {
-        return Ok(None);
-    };
     let Spot { symbol, from, to } = first;
     let Some((pattern, rest)) = pattern(alloc, source, symbol, to)? else {
         return Ok(None);
@@ -159,20 +178,22 @@ fn names(alloc: Global, source: &str, at: u64) -> Result<Option<(Vec<String>, u6
     let mut found = Vec::new(alloc);
     let mut rest = at;
     'items: loop {
-        if let Some(end) = behind(alloc, source, rest, Sign::CloseCurly)? {
-            return Ok(Some((found, end)));
+        let Some(first) = next(alloc, source, rest)? else {
+            return Ok(None);
+        };
+        let Spot { symbol, to, .. } = first;
+        if is_sign(&symbol, Sign::CloseCurly) {
+            return Ok(Some((found, to)));
         }
-        let Some((item, after)) = name(alloc, source, rest)? else {
+        let Some(item) = named(symbol) else {
             return Ok(None);
         };
         found.push(item)?;
-        if let Some(end) = behind(alloc, source, after, Sign::CloseCurly)? {
-            return Ok(Some((found, end)));
+        match separator_at(alloc, source, to)? {
+            Separator::Close(end) => return Ok(Some((found, end))),
+            Separator::Comma(more) => rest = more,
+            Separator::Neither => return Ok(None),
         }
-        let Some(more) = behind(alloc, source, after, Sign::Comma)? else {
-            return Ok(None);
-        };
-        rest = more;
     }
 }
 
@@ -187,20 +208,21 @@ fn arms(alloc: Global, source: &str, at: u64) -> Result<Option<(Vec<ArmItem>, u6
     let mut found = Vec::new(alloc);
     let mut rest = at;
     'items: loop {
-        if let Some(end) = behind(alloc, source, rest, Sign::CloseCurly)? {
-            return Ok(Some((found, end)));
+        let Some(first) = next(alloc, source, rest)? else {
+            return Ok(None);
+        };
+        if is_sign(&first.symbol, Sign::CloseCurly) {
+            return Ok(Some((found, first.to)));
         }
-        let Some((item, after)) = arm(alloc, source, rest)? else {
+        let Some((item, after)) = arm(alloc, source, first)? else {
             return Ok(None);
         };
         found.push(item)?;
-        if let Some(end) = behind(alloc, source, after, Sign::CloseCurly)? {
-            return Ok(Some((found, end)));
+        match separator_at(alloc, source, after)? {
+            Separator::Close(end) => return Ok(Some((found, end))),
+            Separator::Comma(more) => rest = more,
+            Separator::Neither => return Ok(None),
         }
-        let Some(more) = behind(alloc, source, after, Sign::Comma)? else {
-            return Ok(None);
-        };
-        rest = more;
     }
 }
 
@@ -353,18 +375,18 @@ fn item_behind(
     }
 }
 
-/// The item that begins at or behind a byte of the source, and the byte behind it.
+/// What stands at or behind a byte of the source, outside of items.
 #[tactic(auto, unfolding(crate::specs::SmallReading::item_at))]
-pub fn item_at(alloc: Global, source: &str, at: u64) -> Result<Option<(Item, u64)>, NoMemory>
+pub fn item_at(alloc: Global, source: &str, at: u64) -> Result<NextItem, NoMemory>
     requires { IsCharBoundary source.now at }
-    ensures exact { IfOk result (λ o. option_map (λ x. (item_view x.0, stream source.now x.1)) o
-        ≡ item_at (stream source.now at)) }
-    ensures within { IfOk result (λ o. IfSome o (λ x. IsCharBoundary source.now x.1)) }
-    ensures few { IfOk result (λ o. IfSome o (λ x. HasFew at x.1 x.0)) }
+    ensures { IfOk result (IsNextItem source.now at) }
 {
-    let Some(first) = next(alloc, source, at)? else {
-        return Ok(None);
-    };
-    let Spot { symbol, to, .. } = first;
-    item_behind(alloc, source, symbol, to)
+    match next_at(alloc, source, at)? {
+        NextSymbol::End => Ok(NextItem::End),
+        NextSymbol::Other => Ok(NextItem::Other),
+        NextSymbol::Spot(Spot { symbol, to, .. }) => match item_behind(alloc, source, symbol, to)? {
+            Some((item, to)) => Ok(NextItem::Found(item, to)),
+            None => Ok(NextItem::Other),
+        },
+    }
 }

@@ -1,18 +1,16 @@
 // The second reading of a source: a report on each function, written as soon as it is judged.
 ghost use Rattle.std.specs.Prelude.{◌≡◌, ◌≤◌, ◌<◌, ◌^◌, ◌&&◌, ◌∷◌, ◌++◌, [], List, length, true, IfOk, MatchOption};
-ghost use Rattle.std.specs.Str.{IsCharBoundary};
 ghost use Rattle.verdict_json.specs.declared.report.FnReport.{FnReport};
 ghost use Rattle.match_top.specs.SmallConditions.{IsNotSmall};
-ghost use Rattle.match_top.specs.SmallDigits.{HasDigits};
 ghost use Rattle.match_top.specs.SmallReading.{function_view, item_view};
 ghost use Rattle.match_top.specs.SmallTypes.{type_in};
 ghost use Rattle.match_top.specs.SmallSurvey.{Surveyed};
-ghost use Rattle.match_top.specs.SmallReporting.{IsUntyped, IsUntypedItem, AddsReport, AddsItem, HasFewArms, HasAllReports};
+ghost use Rattle.match_top.specs.SmallReporting.{IsUntyped, IsUntypedItem, AddsReport, AddsItem, HasFewArms, IsFinished, HasAllReports};
 ghost use Rattle.match_top.specs.SmallReports.{IsReported};
 
 use crate::small::cases::{cases_of, report_of, type_named};
-use crate::small::reading::{FunctionItem, Item, item_at};
-use crate::small::survey::{is_end, survey};
+use crate::small::reading::{FunctionItem, Item, NextItem, item_at};
+use crate::small::survey::survey;
 use indexmap::{IndexMap, IndexSet};
 use match_model::NoMemory;
 use std::alloc::Global;
@@ -82,6 +80,15 @@ fn add_item(
     }
 }
 
+// The report on a source, from those on its functions.
+fn finished(progress: Progress) -> Result<Reported, NoMemory>
+    ensures { IfOk result (IsFinished progress) }
+{
+    let Progress { text, exhaustive } = progress;
+    let text = text.finish()?;
+    Ok(Reported { text, exhaustive })
+}
+
 // The reports on the functions of a source whose enums are known.
 fn report_all(
     alloc: Global,
@@ -97,26 +104,24 @@ fn report_all(
         exhaustive: true,
     };
     let mut at = 0;
-    'items: while !is_end(alloc, source, at)? {
-        let Some((item, to)) = item_at(alloc, source, at)? else {
-            return Ok(None);
-        };
-        let Some(more) = add_item(alloc, enums, so_far, &item)? else {
-            return Ok(None);
-        };
-        so_far = more;
-        at = to;
+    'items: loop {
+        match item_at(alloc, source, at)? {
+            NextItem::End => return Ok(Some(finished(so_far)?)),
+            NextItem::Other => return Ok(None),
+            NextItem::Found(item, to) => {
+                let Some(more) = add_item(alloc, enums, so_far, &item)? else {
+                    return Ok(None);
+                };
+                so_far = more;
+                at = to;
+            }
+        }
     }
-    let Progress { text, exhaustive } = so_far;
-    let text = text.finish()?;
-    Ok(Some(Reported { text, exhaustive }))
 }
 
-/// The report on a small source, or `None` where the source is none. It has tokens, and its integers are decimal digits
-/// alone.
+/// The report on a small source, or `None` where the source is none.
 pub fn report(alloc: Global, source: &str) -> Result<Option<Reported>, NoMemory>
-    requires short { length source.now < 2 ^ 32 }
-    requires digits { HasDigits source.now }
+    requires { length source.now < 2 ^ 32 }
     ensures { IfOk result (λ o. MatchOption o (IsNotSmall source.now)
         (λ r. IsReported source.now r.text.items r.exhaustive)) }
 {

@@ -1,27 +1,13 @@
 // A first reading of a source: its items, and the names of its enums and variants.
 ghost use Rattle.std.specs.Prelude.{◌≡◌, ◌≤◌, ◌++◌, ◌∷◌, [], ℕ, Ok, true, false, not, length, map, string_bytes, IfOk, IfSome, MatchOption, if◌then◌else◌};
-ghost use Rattle.std.specs.Str.{IsCharBoundary};
 ghost use Rattle.match_top.specs.SmallConditions.{is_among, all_differ, IsNotSmall};
-ghost use Rattle.match_top.specs.SmallStream.{stream};
 ghost use Rattle.match_top.specs.SmallReading.{enum_view};
-ghost use Rattle.match_top.specs.SmallSurvey.{names_in, IsSetOf, variants_in, enum_fits, HasOneMore, Surveyed, is_end};
+ghost use Rattle.match_top.specs.SmallSurvey.{names_in, IsSetOf, variants_in, enum_fits, HasOneMore, Surveyed};
 
-use crate::small::reading::{EnumItem, Item, item_at};
-use crate::small::symbols::next;
+use crate::small::reading::{EnumItem, Item, NextItem, item_at};
 use indexmap::{IndexMap, IndexSet};
 use match_model::NoMemory;
 use std::alloc::Global;
-
-/// Whether no token stands at or behind a byte of the source.
-pub fn is_end(alloc: Global, source: &str, at: u64) -> Result<bool, NoMemory>
-    requires { IsCharBoundary source.now at }
-    ensures { IfOk result (λ b. b ≡ is_end (stream source.now at)) }
-{
-    match next(alloc, source, at)? {
-        Some(_) => Ok(false),
-        None => Ok(true),
-    }
-}
 
 // Adds a name, and says whether it was new.
 fn insert_name(names: &mut IndexSet<String>, name: String) -> Result<bool, NoMemory>
@@ -79,25 +65,23 @@ pub fn survey(
     let mut functions = IndexSet::new(alloc);
     let mut at = 0;
     'items: loop {
-        if is_end(alloc, source, at)? {
-            return Ok(Some(enums));
-        }
-        let Some((item, to)) = item_at(alloc, source, at)? else {
-            return Ok(None);
-        };
-        match item {
-            Item::Enum(e) => {
-                if !add_enum(alloc, &mut enums, e)? {
-                    return Ok(None);
+        match item_at(alloc, source, at)? {
+            NextItem::End => return Ok(Some(enums)),
+            NextItem::Other => return Ok(None),
+            NextItem::Found(item, to) => match item {
+                Item::Enum(e) => {
+                    if !add_enum(alloc, &mut enums, e)? {
+                        return Ok(None);
+                    }
+                    at = to;
                 }
-                at = to;
-            }
-            Item::Function(f) => {
-                if !insert_name(&mut functions, f.name)? {
-                    return Ok(None);
+                Item::Function(f) => {
+                    if !insert_name(&mut functions, f.name)? {
+                        return Ok(None);
+                    }
+                    at = to;
                 }
-                at = to;
-            }
+            },
         }
     }
 }

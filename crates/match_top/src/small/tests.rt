@@ -109,31 +109,19 @@ fn lists_witnesses(rt: HostRuntime) -> Result<(), Fail> {
 
 #[test]
 fn refuses_other_sources(rt: HostRuntime) -> Result<(), Fail> {
-    let rows: [&str; 31] = [
+    let rows: [&str; 19] = [
         "struct S;",
         "enum E{A} fn f(x:E){match x{E::B=>1}}",
         "enum E{A} fn f(x:E){match x{F::A=>1}}",
         "enum E{A} fn f(x:E){match x{true=>1}}",
-        "fn f(x:bool){match x{bool::true=>1}}",
         "enum E{A} fn f(x:bool){match x{E::A=>1}}",
         "enum E{A} enum E{B}",
         "enum E{A,A}",
         "enum bool{A}",
         "fn f(x:bool){match x{}} fn f(x:bool){match x{}}",
-        "fn f(x:bool){match y{}}",
         "fn f(x:F){match x{}}",
-        "fn fn(x:bool){match x{}}",
-        "fn f(match:bool){match match{}}",
-        "enum _{A}",
-        "enum E{A,,}",
-        "enum E{,}",
-        "enum E{A B}",
-        "fn f(x:bool){match x{_=>1 _=>2}}",
         "fn f(x:bool){match x{_=>1a}}",
-        "fn f(x:bool){match x{_= >1}}",
-        "fn f(x:bool){match x{_=>}}",
         "fn f(x:bool){match x{x=>1}}",
-        "fn f(x:bool){match x{_=>1}};",
         "fn f(x:bool){match x{_=>1_0}}",
         "fn f(x:bool){match x{_=>1u8}}",
         "fn f(x:bool){match x{_=>0x1}}",
@@ -170,27 +158,66 @@ fn reads_comments_and_names(rt: HostRuntime) -> Result<(), Fail> {
     )
 }
 
-// Bytes that do not lex, the rule's name and number, and the place.
-const FAULTS: [(&[u8], &str, u32, u64); 7] = [
-    (b"/* a", "open-comment", 3, 0),
-    (b"enum E{}\xff/*", "not-utf8", 1, 8),
-    (b"\"abc", "open-text", 4, 0),
-    (b"'ab'", "bad-token", 2, 0),
-    (b"\"\\q\"", "bad-escape", 5, 1),
-    (b"struct ; match /*", "open-comment", 3, 15),
-    (b"\xef\xbb\xbf enum bool{} \xc2\xa7 /*", "bad-token", 2, 16),
+// Bytes that spell no file: the rule's name and number, the item as it is written, and the place.
+const FAULTS: [(&[u8], &str, u32, &str, u64); 20] = [
+    (b"/* a", "open-comment", 3, "null", 0),
+    (b"enum E{}\xff/*", "not-utf8", 1, "null", 8),
+    (b"\"abc", "open-text", 4, "null", 0),
+    (b"'ab'", "bad-token", 2, "null", 0),
+    (b"\"\\q\"", "bad-escape", 5, "null", 1),
+    (b"struct ; match /*", "open-comment", 3, "null", 15),
+    (
+        b"\xef\xbb\xbf enum bool{} \xc2\xa7 /*",
+        "bad-token",
+        2,
+        "null",
+        16,
+    ),
+    (b"\xef\xbb\xbf enum E{} static", "syntax", 6, "1", 13),
+    (b"fn f(x:bool){match x{_=>1}};", "syntax", 6, "1", 27),
+    (b"fn f(x:bool){match x{bool::true=>1}}", "syntax", 6, "0", 0),
+    (b"fn f(x:bool){match y{}}", "syntax", 6, "0", 0),
+    (b"fn fn(x:bool){match x{}}", "syntax", 6, "0", 0),
+    (b"fn f(match:bool){match match{}}", "syntax", 6, "0", 0),
+    (b"enum _{A}", "syntax", 6, "0", 0),
+    (b"enum E{A,,}", "syntax", 6, "0", 0),
+    (b"enum E{,}", "syntax", 6, "0", 0),
+    (b"enum E{A B}", "syntax", 6, "0", 0),
+    (b"fn f(x:bool){match x{_=>1 _=>2}}", "syntax", 6, "0", 0),
+    (b"fn f(x:bool){match x{_= >1}}", "syntax", 6, "0", 0),
+    (b"fn f(x:bool){match x{_=>}}", "syntax", 6, "0", 0),
 ];
 
 #[test]
 fn tells_the_first_fault(rt: HostRuntime) -> Result<(), Fail> {
-    for (source, name, rule, at) in FAULTS {
+    for (source, name, rule, item, at) in FAULTS {
         let found = answer_to(rt.alloc(), source)?;
         let wanted = format!(in rt.alloc();
-            "{{\"refused\":{{\"arm\":null,\"at\":{at},\"item\":null,\"name\":\"{name}\",\"rule\":{rule}}}}}\n"
+            "{{\"refused\":{{\"arm\":null,\"at\":{at},\"item\":{item},\"name\":\"{name}\",\"rule\":{rule}}}}}\n"
         )?;
         let text = str::from_utf8(&found.text).map_err(|_| "no text")?;
         assert_eq!(rt; text, wanted.as_str());
         assert_eq!(rt; found.status, Status::Refused, "{name}");
+    }
+    Ok(())
+}
+
+const TOO_WIDE: &str =
+    "{\"refused\":{\"arm\":null,\"at\":10,\"item\":1,\"name\":\"too-wide\",\"rule\":9}}\n";
+
+#[test]
+fn refuses_more_than_256_fields(rt: HostRuntime) -> Result<(), Fail> {
+    let alloc = rt.alloc();
+    for (count, wanted) in [(256, NOT_BUILT), (257, TOO_WIDE)] {
+        let mut source = String::from_str(alloc, "enum E{A} struct S(")?;
+        for _ in 0..count {
+            source.push_str("u8,")?;
+        }
+        source.push_str(");")?;
+        let found = answer_to(alloc, source.as_bytes())?;
+        let text = str::from_utf8(&found.text).map_err(|_| "no text")?;
+        assert_eq!(rt; text, wanted, "{count} fields");
+        assert_eq!(rt; found.status, Status::Refused, "{count} fields");
     }
     Ok(())
 }

@@ -1,4 +1,4 @@
-use Rattle.std.proofs.Common.{[], sym, ◌∙◌, refl, arith}
+use Rattle.std.proofs.Common.{[], sym, refl}
 use Rattle.std.proofs.lemmas.Str.{IsCharBoundary-start}
 use Rattle.match_top.specs.SmallReading.{item_view}
 use Rattle.match_top.specs.SmallStream.{stream}
@@ -16,26 +16,29 @@ items-init c = record {
   };
 }
 
+pub returns-in-Other : goal.returns-in-Other
+returns-in-Other c =
+    let stands = rw c.in-Other.is at c.in_ok-item_at.ensures in
+    not_read c.args.source.now c.items.at c.args.enums.now c.items.so_far c.items.invariant.reported (sym stands.0) stands.1
+
 pub returns-in_default : goal.returns-in_default
 returns-in_default c =
-    not_read c.args.source.now c.items.at c.args.enums.now c.items.so_far c.items.invariant.reported
-    (sym (rw c.in_default.is at c.in_ok-item.ensures.exact)) (sym c.in_ok-is_end.ensures ∙ c.if-not-branch.true)
+    let found = rw c.in-Found.is at c.in_ok-item_at.ensures in
+    not_typed c.args.source.now c.items.at c.args.enums.now c.items.so_far (item_view c.in-Found.item) (stream c.args.source.now c.in-Found.to) c.requires.surveyed c.items.invariant.reported
+    (sym found.0) (rw c.in_default.is at c.in_ok-more-in-Found.ensures)
 
-pub returns-in_default-2 : goal.returns-in_default-2
-returns-in_default-2 c =
-    not_typed c.args.source.now c.items.at c.args.enums.now c.items.so_far (item_view c.in-Some.item) (stream c.args.source.now c.in-Some.to) c.requires.surveyed c.items.invariant.reported
-    (sym (rw c.in-Some.is at c.in_ok-item.ensures.exact)) (rw c.in_default-2.is at c.in_ok-more.ensures)
-
-pub items-preserved-in-Some-2 : goal.items-preserved-in-Some-2
-items-preserved-in-Some-2 c = record {
-  within = rw c.in-Some.is at c.in_ok-item.ensures.within;
-  reported = report_more c.args.source.now c.items.at c.in-Some.to c.args.enums.now (item_view c.in-Some.item) c.items.so_far c.in-Some-2.more c.items.invariant.reported
-      (sym (rw c.in-Some.is at c.in_ok-item.ensures.exact)) (rw c.in-Some-2.is at c.in_ok-more.ensures);
-}
+pub items-preserved-in-Some : goal.items-preserved-in-Some
+items-preserved-in-Some c =
+    let found = rw c.in-Found.is at c.in_ok-item_at.ensures in record {
+      within = found.1;
+      reported = report_more c.args.source.now c.items.at c.in-Found.to c.args.enums.now (item_view c.in-Found.item) c.items.so_far c.in-Some.more c.items.invariant.reported
+          (sym found.0) (rw c.in-Some.is at c.in_ok-more-in-Found.ensures);
+    }
 
 pub items-preserved : goal.items-preserved
-items-preserved c = record {
-  within = rw c.in-Some.is at c.in_ok-item.ensures.within;
-  reported = report_more c.args.source.now c.items.at c.in-Some.to c.args.enums.now (item_view c.in-Some.item) c.items.so_far c.in-Some-2.more c.items.invariant.reported
-      (sym (rw c.in-Some.is at c.in_ok-item.ensures.exact)) (rw c.in-Some-2.is at c.in_ok-more.ensures);
-}
+items-preserved c =
+    let found = rw c.in-Found.is at c.in_ok-item_at.ensures in record {
+      within = found.1;
+      reported = report_more c.args.source.now c.items.at c.in-Found.to c.args.enums.now (item_view c.in-Found.item) c.items.so_far c.in-Some.more c.items.invariant.reported
+          (sym found.0) (rw c.in-Some.is at c.in_ok-more-in-Found.ensures);
+    }

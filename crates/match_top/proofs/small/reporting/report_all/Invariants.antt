@@ -1,4 +1,4 @@
-use Rattle.std.proofs.Common.{◌≤◌, ◌-◌, length}
+use Rattle.std.proofs.Common.{◌-◌, length}
 use Rattle.std.specs.Str.{IsCharBoundary}
 use Rattle.match_top.specs.SmallReporting.{ReportedTo}
 use Rattle.match_top.proofs.small.reporting.report_all.Given as goal

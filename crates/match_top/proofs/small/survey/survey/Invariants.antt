@@ -1,4 +1,4 @@
-use Rattle.std.proofs.Common.{◌≤◌, ◌-◌, length}
+use Rattle.std.proofs.Common.{◌-◌, length}
 use Rattle.std.specs.Str.{IsCharBoundary}
 use Rattle.match_top.specs.SmallSurvey.{names_in, SurveyedTo}
 use Rattle.match_top.proofs.small.survey.survey.Given as goal

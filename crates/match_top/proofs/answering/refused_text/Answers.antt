@@ -1,0 +1,16 @@
+use Rattle.std.proofs.Common.{◌≡◌, rules}
+use Rattle.decl_lexer.specs.Lexing.{HasTokens, HasFault}
+use Rattle.decl_lexer.specs.Tokens.{tokens_view}
+use Rattle.match_top.proofs.Judged.{fault_text, other_text}
+use Rattle.match_top.proofs.answering.refused_text.Goals as goal
+
+pub returns-in-Ok-clause-answers : goal.returns-in-Ok-clause-answers
+returns-in-Ok-clause-answers c =
+    let same : c.deref.result.now ≡ c.in-Ok.tokens.items = search rules in
+    let lexed : HasTokens c.args.source.now (tokens_view c.in-Ok.tokens.items) = search rules in
+    other_text c.args.source.now (tokens_view c.deref.result.now) _ (rw same lexed) c.refused_tokens.ensures.answers
+
+pub returns-in-Err-Rule-clause-answers : goal.returns-in-Err-Rule-clause-answers
+returns-in-Err-Rule-clause-answers c =
+    let fault : HasFault c.args.source.now c.in-Err-Rule.rule c.in-Err-Rule.at = search rules in
+    fault_text c.args.source.now _ _ _ fault c.refused_at.ensures.answers
