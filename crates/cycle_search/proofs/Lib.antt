@@ -1,0 +1,3 @@
+pub mod Ways
+mod Falls
+mod Searches

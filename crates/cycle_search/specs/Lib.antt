@@ -1,0 +1,5 @@
+pub mod Graphs
+pub mod Numbers
+pub mod Searched
+pub mod Components
+pub mod Laws

@@ -1,0 +1,3 @@
+pub mod Models
+mod Waits
+pub mod Growing
