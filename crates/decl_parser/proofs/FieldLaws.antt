@@ -24,7 +24,8 @@ use Rattle.decl_parser.specs.Items as trees
 use Rattle.decl_parser.specs.Items.{FieldItem, FormTree}
 use Rattle.decl_parser.specs.DeclarationGrammar.{is_scope, begins_scope, restricts, SpellsVisibility, private, public, public_in_scope, public_in_path, FieldLabel, no_label, label, SpellsField, field, closing, SpellsForm, unit_form, tuple_form, brace_form, SpellsNumber, no_number, number}
 use Rattle.decl_parser.specs.DeclarationReading.{scope_at, restriction_at, visibility_at, label_at, field_at, fields_at, form_at, number_at}
-use Rattle.decl_parser.proofs.NameLaws.{Within, attributes_read, attributes_spelled, attributes_within}
+use Rattle.decl_parser.proofs.NameLaws.{Within, attributes_within}
+use Rattle.decl_parser.proofs.PartLemmas.{attributes_read}
 use Rattle.decl_parser.proofs.RunLaws.{run_complete, run_sound, run_shrinks}
 
 -- ---- visibilities
@@ -142,12 +143,12 @@ field_sound braced ts y e =
     let n = bind_some (label_at braced v.0.1) _ y v.2 in
     let t = bind_some (type_at 64 n.0.1) _ y n.2 in
     given (SpellsField braced) ts _ y t.2
-    (field ts a.0.1 v.0.1 n.0.1 t.0.1 a.0.0 v.0.0 n.0.0 t.0.0 (attributes_spelled ts a.0 a.1) (visibility_sound a.0.1 v.0 v.1) (label_sound braced v.0.1 n.0 n.1) ((known_types 64).joined.sound n.0.1 t.0 t.1))
+    (field ts a.0.1 v.0.1 n.0.1 t.0.1 a.0.0 v.0.0 n.0.0 t.0.0 (attributes_read.sound ts a.0 a.1) (visibility_sound a.0.1 v.0 v.1) (label_sound braced v.0.1 n.0 n.1) ((known_types 64).joined.sound n.0.1 t.0 t.1))
 
 field_complete : (braced : Bool) (ts rest : List Placed) (x : FieldItem) → SpellsField braced ts x rest → field_at braced ts ≡ Some (x, rest)
 unfolding field_at
 field_complete braced _ _ _ (field ts us vs ws rest attrs given_ name type a v n t) =
-    rw (attributes_read ts us attrs a, visibility_complete us vs given_ v, label_complete braced vs ws name n, (known_types 64).joined.complete ws rest type t) refl
+    rw (attributes_read.complete ts us attrs a, visibility_complete us vs given_ v, label_complete braced vs ws name n, (known_types 64).joined.complete ws rest type t) refl
 
 field_shrinks : (braced : Bool) (ts rest : List Placed) (x : FieldItem) → SpellsField braced ts x rest → length rest < length ts
 field_shrinks braced _ _ _ (field ts us vs ws rest attrs given_ name type a v n t) =

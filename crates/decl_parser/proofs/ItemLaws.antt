@@ -17,7 +17,8 @@ use Rattle.decl_parser.specs.DeclarationReading.{visibility_at, variants_at, str
 use Rattle.decl_parser.specs.FunctionReading.{function_at}
 use Rattle.decl_parser.specs.ItemGrammar.{SpellsKind, an_enum, a_struct, an_import, a_function, SpellsItem, item}
 use Rattle.decl_parser.specs.ItemReading.{enum_at, struct_at, import_at, named_function_at, kind_at, item_at}
-use Rattle.decl_parser.proofs.NameLaws.{word_it, attributes_read, attributes_spelled, attributes_within, listed}
+use Rattle.decl_parser.proofs.NameLaws.{word_it, attributes_within, listed}
+use Rattle.decl_parser.proofs.PartLemmas.{attributes_read}
 use Rattle.decl_parser.proofs.FieldLaws.{visibilities}
 use Rattle.decl_parser.proofs.VariantLaws.{variants, structs, heads}
 use Rattle.decl_parser.proofs.FunctionLaws.{functions}
@@ -119,12 +120,12 @@ item_sound ts y e =
     let a = bind_some (attributes_at ts) _ y e in
     let v = bind_some (visibility_at a.0.1) _ y a.2 in
     let k = bind_some (kind_at v.0.1) _ y v.2 in
-    given SpellsItem ts _ y k.2 (item ts a.0.1 v.0.1 k.0.1 a.0.0 v.0.0 k.0.0 (attributes_spelled ts a.0 a.1) (visibilities.sound a.0.1 v.0 v.1) (kind_sound v.0.1 k.0 k.1))
+    given SpellsItem ts _ y k.2 (item ts a.0.1 v.0.1 k.0.1 a.0.0 v.0.0 k.0.0 (attributes_read.sound ts a.0 a.1) (visibilities.sound a.0.1 v.0 v.1) (kind_sound v.0.1 k.0 k.1))
 
 item_complete : (ts rest : List Placed) (x : ItemTree) → SpellsItem ts x rest → item_at ts ≡ Some (x, rest)
 unfolding item_at
 item_complete _ _ _ (item ts us vs rest attrs given_ kind a v k) =
-    rw (attributes_read ts us attrs a, visibilities.complete us vs given_ v, kind_complete vs rest kind k) refl
+    rw (attributes_read.complete ts us attrs a, visibilities.complete us vs given_ v, kind_complete vs rest kind k) refl
 
 item_shrinks : (ts rest : List Placed) (x : ItemTree) → SpellsItem ts x rest → length rest < length ts
 item_shrinks _ _ _ (item ts us vs rest attrs given_ kind a v k) = omega (arith, attributes_within ts us attrs a, visibilities.within us vs given_ v, kind_shrinks vs rest kind k)

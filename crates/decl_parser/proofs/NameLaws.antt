@@ -11,23 +11,15 @@ use Rattle.decl_syntax.specs.Units.{behind, is_mark, is_word, token_at, name_of}
 use Rattle.decl_syntax.specs.Grammar.{Spelling, IsMark, CommaList}
 use Rattle.decl_syntax.specs.Runs.{SpellsAttribute, SpellsAttributes}
 use Rattle.decl_syntax.specs.Reading.{Read}
-use Rattle.decl_syntax.specs.RunReading.{attribute_at, attributes_at}
+use Rattle.decl_syntax.specs.RunReading.{attribute_at}
 use Rattle.decl_syntax.proofs.ListLemmas.{Shrinks}
-use Rattle.decl_syntax.proofs.Joined.{bind_some, either_some, given, behind_some, Joined, read_shrinks, lists, many_sound, many_complete, many_shrinks}
+use Rattle.decl_syntax.proofs.Joined.{bind_some, either_some, given, behind_some, Joined, read_shrinks, lists, many_shrinks}
 use Rattle.decl_syntax.proofs.RunLaws.{attributes}
 use Rattle.decl_syntax.proofs.TypeLaws.{name_some}
 use Rattle.decl_parser.specs.DeclarationGrammar.{SpellsName, a_name, SpellsNames, all_names, some_names}
 use Rattle.decl_parser.specs.DeclarationReading.{name_list_at, names_at}
 
 -- ---- attributes
-
-pub attributes_read : (ts rest : List Placed) (xs : List AttrTree) → SpellsAttributes ts xs rest → attributes_at ts ≡ Some (xs, rest)
-unfolding attributes_at
-attributes_read ts rest xs s = many_complete marks.Hash SpellsAttribute attribute_at attributes ts rest xs s
-
-pub attributes_spelled : (ts : List Placed) (y : List AttrTree × List Placed) → attributes_at ts ≡ Some y → SpellsAttributes ts y.0 y.1
-unfolding attributes_at
-attributes_spelled ts y e = many_sound marks.Hash SpellsAttribute attribute_at attributes ts y e
 
 pub attributes_within : (ts rest : List Placed) (xs : List AttrTree) → SpellsAttributes ts xs rest → length rest ≤ length ts
 attributes_within ts rest xs s = many_shrinks marks.Hash SpellsAttribute attribute_at attributes ts rest xs s

@@ -16,7 +16,8 @@ use Rattle.decl_syntax.proofs.TypeLaws.{name_some}
 use Rattle.decl_parser.specs.Items.{FormTree, VariantTree}
 use Rattle.decl_parser.specs.DeclarationGrammar.{SpellsForm, SpellsNumber, SpellsVariant, variant, ends_in_semicolon, SpellsStructForm, ended, braced, SpellsParams, SpellsHead, head}
 use Rattle.decl_parser.specs.DeclarationReading.{form_at, number_at, variant_at, variants_at, struct_form_at, params_at, head_at}
-use Rattle.decl_parser.proofs.NameLaws.{Within, word_it, attributes_read, attributes_spelled, attributes_within}
+use Rattle.decl_parser.proofs.NameLaws.{Within, word_it, attributes_within}
+use Rattle.decl_parser.proofs.PartLemmas.{attributes_read}
 use Rattle.decl_parser.proofs.ParamLaws.{all_params}
 use Rattle.decl_parser.proofs.FieldLaws.{attributes_pass, forms, numbers}
 
@@ -35,12 +36,12 @@ variant_sound ts y e =
     let f = bind_some (form_at n.0.1) _ y n.2 in
     let d = bind_some (number_at f.0.1) _ y f.2 in
     given SpellsVariant ts _ y d.2
-    (variant_by ts a.0.1 n.0.1 f.0.1 d.0.1 w.first a.0.0 n.0.0 w.raw f.0.0 d.0.0 (attributes_spelled ts a.0 a.1) w.whole w.is (forms.sound n.0.1 f.0 f.1) (numbers.sound f.0.1 d.0 d.1))
+    (variant_by ts a.0.1 n.0.1 f.0.1 d.0.1 w.first a.0.0 n.0.0 w.raw f.0.0 d.0.0 (attributes_read.sound ts a.0 a.1) w.whole w.is (forms.sound n.0.1 f.0 f.1) (numbers.sound f.0.1 d.0 d.1))
 
 variant_complete : (ts rest : List Placed) (x : VariantTree) → SpellsVariant ts x rest → variant_at ts ≡ Some (x, rest)
 unfolding variant_at
 variant_complete _ _ _ (variant ts us vs rest word attrs name raw form numbered a e f n) =
-    rw (attributes_read ts (word ∷ us) attrs a, e, forms.complete us vs form f, numbers.complete vs rest numbered n) refl
+    rw (attributes_read.complete ts (word ∷ us) attrs a, e, forms.complete us vs form f, numbers.complete vs rest numbered n) refl
 
 variant_shrinks : (ts rest : List Placed) (x : VariantTree) → SpellsVariant ts x rest → length rest < length ts
 variant_shrinks _ _ _ (variant ts us vs rest word attrs name raw form numbered a e f n) =

@@ -1,4 +1,4 @@
--- What the arms of a match are spelled by: docs/grammar.md.
+-- What the arms of a match are spelled by: docs/grammar.md (Rust Reference, Match expressions).
 use Rattle.std.specs.Prelude.{◌≡◌, Bool, true, false, List, [], ◌∷◌, ◌++◌}
 use Rattle.decl_lexer.specs.declared.marks.Mark.TheVariants as marks
 use Rattle.decl_lexer.specs.declared.words.Word.TheVariants as words

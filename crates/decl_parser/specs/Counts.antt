@@ -1,4 +1,4 @@
--- How many things of each kind a file has.
+-- How many things of each kind a file has (our own choice).
 use Rattle.std.specs.Prelude.{ℕ, suc, ◌+◌, ◌≤◌, List, length, sum_by}
 use Rattle.decl_syntax.specs.Patterns as p
 use Rattle.decl_syntax.specs.Patterns.{PatternTree, Shape, PatternTrees, FieldTrees}

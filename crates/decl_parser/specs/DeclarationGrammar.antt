@@ -1,4 +1,5 @@
--- What declarations are spelled by, a case for each form of docs/grammar.md.
+-- What declarations are spelled by, a case for each form of docs/grammar.md (Rust Reference, Items, and Visibility and
+-- privacy).
 use Rattle.std.specs.Prelude.{◌≡◌, ℕ, Bool, true, false, List, ◌∷◌, Option, Some, None}
 use Rattle.decl_lexer.specs.declared.marks.Mark.{Mark}
 use Rattle.decl_lexer.specs.declared.marks.Mark.TheVariants as marks

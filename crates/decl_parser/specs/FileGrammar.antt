@@ -1,4 +1,4 @@
--- What a file is spelled by, and the first fault of tokens that spell none.
+-- What a file is spelled by, and the first fault of tokens that spell none (our own choice).
 use Rattle.std.specs.Prelude.{◌≡◌, ℕ, true, false, List, [], ◌∷◌, length, ◌⊎◌}
 use Rattle.decl_lexer.specs.declared.marks.Mark.TheVariants as marks
 use Rattle.decl_lexer.specs.Lexing.{Placed}

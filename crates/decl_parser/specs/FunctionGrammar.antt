@@ -1,4 +1,5 @@
--- What a function is spelled by, from the "(" behind its name on: docs/grammar.md.
+-- What a function is spelled by, from the "(" behind its name on: docs/grammar.md (Rust Reference, Functions; the
+-- form of the body is our own choice).
 use Rattle.std.specs.Prelude.{◌≡◌, ℕ, Bool, List, ◌∷◌, Option, Some, None, map}
 use Rattle.decl_lexer.specs.declared.marks.Mark.TheVariants as marks
 use Rattle.decl_lexer.specs.declared.words.Word.TheVariants as words

@@ -1,4 +1,4 @@
--- What items are spelled by, a case for each kind of docs/grammar.md.
+-- What items are spelled by, a case for each kind of docs/grammar.md (Rust Reference, Items).
 use Rattle.std.specs.Prelude.{◌≡◌, ℕ, Bool, List, [], ◌∷◌, Option}
 use Rattle.decl_lexer.specs.declared.marks.Mark.TheVariants as marks
 use Rattle.decl_lexer.specs.declared.words.Word.TheVariants as words

@@ -1,4 +1,4 @@
--- Written items, without where they lie in memory.
+-- Written items, without where they lie in memory (Rust Reference, Items).
 use Rattle.std.specs.Prelude.{ℕ, Bool, List, Option, string_bytes, map, option_map}
 use Rattle.decl_syntax.specs.Types.{TypeTree, type_view}
 use Rattle.decl_syntax.specs.Patterns.{AttrTree, attr_view, PatternTree, pattern_view}

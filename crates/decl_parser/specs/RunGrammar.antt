@@ -1,4 +1,5 @@
--- Runs: tokens that are skipped, whose brackets pair up, up to a token that ends them.
+-- Runs: tokens that are skipped, whose brackets pair up, up to a token that ends them (Rust Reference,
+-- Macros, whose token trees these are; where they end is our own choice).
 use Rattle.std.specs.Prelude.{◌≡◌, Bool, true, false, ◌||◌, List, [], ◌∷◌, ◌++◌}
 use Rattle.decl_lexer.specs.declared.marks.Mark.{Mark}
 use Rattle.decl_lexer.specs.declared.marks.Mark.TheVariants as marks

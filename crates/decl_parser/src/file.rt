@@ -47,8 +47,8 @@ impl<T: Drop> From<AllocFailed<T>> for ParseFault {
 }
 
 /// Reads a file: as many attributes `#![..]` as are complete at its start leave no trace, and items follow up to
-/// the end. Else it gives the first fault. Want of memory is the one free answer. A file has at most twice as many
-/// items as there are tokens, and the same holds of its variants, its arms and the nodes of its patterns.
+/// the end. Else it gives the first fault. Want of memory is the one free answer. Of items,
+/// of variants, of arms and of the nodes of patterns there are at most twice as many as tokens.
 ///
 /// Source: the Rust Reference, "Items"; which of them, and the limits, are our own choice.
 pub fn parse(alloc: Global, tokens: &[Token]) -> Result<File, ParseFault>

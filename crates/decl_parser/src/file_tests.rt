@@ -353,7 +353,11 @@ fn widths_are_counted(rt: HostRuntime) -> Result<(), Fail> {
             alloc,
             with_parts(alloc, front, part, most.saturating_add(1), back)?.as_str(),
         )?;
-        assert_eq!(rt; fits.starts_with("Wide"), false, "{most} in {front:?}");
+        let faulty = fits.starts_with("Wide") || fits.starts_with("Syntax");
+        let has_other_fault = back.ends_with("x")
+            || front.starts_with("x")
+            || front.contains("&&&");
+        assert_eq!(rt; faulty, has_other_fault, "{most} in {front:?}");
         assert_eq!(rt;
             passes.as_str(),
             *expected,

@@ -7,9 +7,10 @@
 //! also says how tokens are counted. Beside each stands a reading from left to right (`specs/*Reading.antt`),
 //! which the code follows and laws join to the grammar.
 //!
-//! [`parse`] gives the file that tokens spell, or the first fault: the number of the item and the byte at which
-//! nothing of the grammar stands, or an item with a list of more than 256 parts. Items come from the front, and
-//! the first fault counts. The laws of `laws.rt` say that any tokens spell one file or have one fault.
+//! [`parse`] gives the file that tokens spell, or the first fault: how many items stand before it, and the byte at
+//! which what stands there begins, which is no item, or one with more than 256 fields in a form, parts in a tuple type,
+//! or items or fields in one list of a pattern. The laws of `laws.rt` say that any tokens spell one file or have one
+//! fault.
 #![tactic(auto)]
 
 mod arms;

@@ -7,7 +7,7 @@ pub struct File {
     pub items: Vec<Item>,
 }
 
-/// An item that begins at byte `from`, with the attributes before it.
+/// An item, with the byte offset of its first token, which may be that of an attribute or of `pub`.
 #[derive(Debug, Drop)]
 pub struct Item {
     pub from: u64,
@@ -71,7 +71,8 @@ pub struct UseItem {
     pub names: Option<Vec<String>>,
 }
 
-/// A function whose body is one match on its parameter. `deref` is the byte offset of the `*` in `match *x`.
+/// A function whose body is one match on its one parameter, of type `param`. `deref` is the byte offset of the `*` in
+/// `match *x`. What the function returns leaves no trace.
 #[derive(Debug, Drop)]
 pub struct FnItem {
     pub name: String,

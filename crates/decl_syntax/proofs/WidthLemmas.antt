@@ -5,10 +5,12 @@ use Rattle.decl_syntax.specs.Types.{TypeTree, types_from}
 use Rattle.decl_syntax.specs.Patterns.{PatternTree, patterns_from, FieldTree, fields_from}
 use Rattle.decl_syntax.specs.Widths.{type_count, types_are_wide, some_type_is_wide, pattern_count, field_count, list_is_wide, fields_are_wide, some_pattern_is_wide, some_field_is_wide}
 
-above : (n : ℕ) (b : Bool) → 256 < n → true ≡ (nat_lt 256 n || b)
+-- more than 256 are many
+pub above : (n : ℕ) (b : Bool) → 256 < n → true ≡ (nat_lt 256 n || b)
 above n b l = let e : nat_lt 256 n ≡ true = grind (arith, nat_tests) in rw e refl
 
-within : (n : ℕ) (a b : Bool) → n ≤ 256 → a ≡ b → a ≡ (nat_lt 256 n || b)
+-- at most 256 are not
+pub within : (n : ℕ) (a b : Bool) → n ≤ 256 → a ≡ b → a ≡ (nat_lt 256 n || b)
 within n a b l e = let f : nat_lt 256 n ≡ false = grind (arith, nat_tests) in rw f e
 
 count_types : (xs : List TypeTree) → type_count (types_from xs) ≡ length xs

@@ -1,4 +1,5 @@
--- What literals, paths and ranges are spelled by, a case for each form of docs/grammar.md.
+-- What literals, paths and ranges are spelled by, a case for each form of docs/grammar.md
+-- (Rust Reference, Patterns and Paths).
 use Rattle.std.specs.Prelude.{ℕ, Bool, true, false, ◌&&◌, List, [], ◌∷◌, Option, Some, None, map}
 use lib.Chars.{codes}
 use Rattle.decl_lexer.specs.declared.marks.Mark.TheVariants as marks

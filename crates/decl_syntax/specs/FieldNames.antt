@@ -1,4 +1,4 @@
--- The names of fields in brace patterns.
+-- The names of fields in brace patterns (Rust Reference, Patterns, struct patterns).
 use Rattle.std.specs.Prelude.{◌≡◌, ℕ, ◌-◌, ◌==◌, Bool, ◌&&◌, List, ◌∷◌, length, Option, Some, None, if◌then◌else◌}
 use Rattle.std.specs.Fmt.{decimal}
 use Rattle.decl_lexer.specs.declared.marks.Mark.TheVariants as marks

@@ -1,4 +1,5 @@
--- What the grammar of types and that of patterns share. Each relation says what tokens begin with and what stands behind it.
+-- What the grammar of types and that of patterns share. Each relation says what tokens begin with and
+-- what stands behind it. The forms of the relations are our own choice.
 use Rattle.std.specs.Prelude.{◌≡◌, Bool, true, false, List, [], ◌∷◌}
 use Rattle.decl_lexer.specs.declared.marks.Mark.{Mark}
 use Rattle.decl_lexer.specs.declared.marks.Mark.TheVariants as marks

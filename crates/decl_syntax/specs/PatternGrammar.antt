@@ -1,4 +1,5 @@
--- What patterns are spelled by, a case for each form of docs/grammar.md.
+-- What patterns are spelled by, a case for each form of docs/grammar.md (Rust Reference, Patterns; the levels are our
+-- own choice).
 use Rattle.std.specs.Prelude.{◌≡◌, ℕ, zero, suc, Bool, true, false, ◌||◌, List, [], ◌∷◌}
 use Rattle.decl_lexer.specs.declared.marks.Mark.TheVariants as marks
 use Rattle.decl_lexer.specs.declared.words.Word.TheVariants as words

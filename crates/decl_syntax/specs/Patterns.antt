@@ -1,4 +1,4 @@
--- Written patterns, without where they lie in memory.
+-- Written patterns, without where they lie in memory (Rust Reference, Patterns).
 use Rattle.std.specs.Prelude.{ℕ, zero, suc, Bool, true, false, ◌&&◌, List, [], ◌∷◌, Option, Some, None, string_bytes, map, option_map}
 use Rattle.decl_syntax.specs.declared.tree.Path as declared_path
 use Rattle.decl_syntax.specs.declared.tree.Lit.{Lit}

@@ -1,4 +1,4 @@
--- Tokens whose brackets pair up, and attributes.
+-- Tokens whose brackets pair up, and attributes (Rust Reference, Attributes, and Macros for the runs).
 use Rattle.std.specs.Prelude.{◌≡◌, ℕ, Bool, true, false, List, [], ◌∷◌, ◌++◌, Option, Some, None, Result, Ok, Err, if◌then◌else◌}
 use Rattle.decl_lexer.specs.declared.marks.Mark.{Mark}
 use Rattle.decl_lexer.specs.declared.marks.Mark.TheVariants as marks

@@ -1,4 +1,5 @@
--- What types are spelled by, a case for each form of docs/grammar.md.
+-- What types are spelled by, a case for each form of docs/grammar.md (Rust Reference, Types; the levels are our own
+-- choice).
 use Rattle.std.specs.Prelude.{◌≡◌, ℕ, zero, suc, Bool, List, [], ◌∷◌, Option, Some, None}
 use Rattle.decl_lexer.specs.declared.marks.Mark.TheVariants as marks
 use Rattle.decl_lexer.specs.declared.words.Word.TheVariants as words

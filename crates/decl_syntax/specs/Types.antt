@@ -1,4 +1,4 @@
--- Written types, without where they lie in memory.
+-- Written types, without where they lie in memory (Rust Reference, Types).
 use Rattle.std.specs.Prelude.{ℕ, Bool, List, [], ◌∷◌, Option, string_bytes}
 use Rattle.decl_syntax.specs.declared.ty.Ty.{Ty}
 use Rattle.decl_syntax.specs.declared.ty.Ty.TheOpen as open_ty

@@ -1,4 +1,5 @@
--- The tokens as the grammar of types and patterns counts them: each `&&` is two `&`, and each `>>` two `>`.
+-- The tokens as the grammar of types and patterns counts them: each `&&` is two `&`, and each `>>` two `>`
+-- (Rust Reference, Tokens, and Types and Patterns for where they are split).
 use Rattle.std.specs.Prelude.{ℕ, ◌-◌, Bool, true, false, List, [], ◌∷◌, ◌++◌, Option, Some, None, option_map, if◌then◌else◌}
 use denote.Enum.Bare.{sameb}
 use Rattle.decl_lexer.specs.declared.marks.Mark.{Mark}

@@ -14,9 +14,9 @@ use crate::tree::Attr;
 use decl_lexer::{Mark, TokenKind};
 use std::alloc::Global;
 
-/// Reads the attributes behind a place, one after the other, and gives the place behind them. Where
-/// tokens begin with a `#` and with no attribute it answers `Syntax`; want of memory is the one free
-/// answer.
+/// Reads the attributes behind a place, one after the other, and gives the place behind them. Where one of
+/// them is followed by a `#` that begins none, or the first token is such a `#`, it answers `Syntax`; want of
+/// memory is the one free answer.
 ///
 /// Source: the Rust Reference, "Attributes"; what stands in the brackets is any run of tokens whose
 /// brackets pair up.

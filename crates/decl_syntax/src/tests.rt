@@ -402,56 +402,87 @@ fn nested(
     Ok(text)
 }
 
-/// Each form that stands 63 times around a node of one level makes 64 levels, and one more is too many.
+/// Forms of types: what stands before and behind an inner type, an innermost one, and how many of them make 64 levels.
+const TYPE_LEVELS: [(&str, &str, &str, usize); 10] = [
+    ("(", "!", ")", 63),
+    ("(", "!", ",)", 63),
+    ("&", "!", "", 63),
+    ("&mut ", "!", "", 63),
+    ("&'a mut ", "!", "", 63),
+    ("&&", "&!", "", 31),
+    ("[", "!", "]", 63),
+    ("[", "!", ";1]", 63),
+    ("A<", "!", ">", 63),
+    ("A<'a,", "()", ",>", 63),
+];
+
+/// The same of patterns.
+const PATTERN_LEVELS: [(&str, &str, &str, usize); 22] = [
+    ("(", "_", ")", 63),
+    ("(", "1..2", ")", 63),
+    ("(", "..", ")", 63),
+    ("(", "A", ")", 63),
+    ("(", "A{..}", ")", 63),
+    ("(", "A{x}", ")", 62),
+    ("(", "_", ",)", 63),
+    ("(_,", "_", ")", 63),
+    ("[", "_", "]", 63),
+    ("[", "..", "]", 63),
+    ("[", "x @ ..", "]", 62),
+    ("&", "_", "", 63),
+    ("&mut ", "_", "", 63),
+    ("&&", "&_", "", 31),
+    ("x@", "_", "", 63),
+    ("ref x@", "_", "", 63),
+    ("mut x@", "true", "", 63),
+    ("A(", "_", ")", 63),
+    ("A{a:", "_", "}", 63),
+    ("A{a:", "b @ _", "}", 62),
+    ("_|(", "_|_", ")", 31),
+    ("|(", "|_", ")", 63),
+];
+
+/// Whether a whole source was read as one tree.
+fn is_tree(outcome: &str) -> bool {
+    outcome != "none" && outcome != "more" && outcome != "memory"
+}
+
+/// Types of up to 64 levels are read, and none of more.
 #[test]
-fn levels_are_counted(rt: HostRuntime) -> Result<(), Fail> {
+fn levels_of_types_are_counted(rt: HostRuntime) -> Result<(), Fail> {
     let alloc = rt.alloc();
-    for (front, middle, back, most) in [
-        ("(", "!", ")", 63),
-        ("&", "!", "", 63),
-        ("&&", "&!", "", 31),
-        ("[", "!", "]", 63),
-        ("[", "!", ";1]", 63),
-        ("(", "!", ",)", 63),
-        ("A<", "!", ">", 63),
-    ] {
-        let fits = type_outcome(alloc, nested(alloc, most, front, middle, back)?.as_str())?;
-        let passes = type_outcome(
-            alloc,
-            nested(alloc, most.saturating_add(1), front, middle, back)?.as_str(),
-        )?;
-        assert_eq!(rt; fits.as_str() == "none", false, "{front} {most} times");
+    for (front, middle, back, most) in &TYPE_LEVELS {
+        for depth in [most.saturating_sub(1), *most] {
+            let found = type_outcome(alloc, nested(alloc, depth, front, middle, back)?.as_str())?;
+            assert_eq!(rt; is_tree(found.as_str()), true, "{front} {depth} times");
+        }
+        let deep = nested(alloc, most.saturating_add(1), front, middle, back)?;
+        let found = type_outcome(alloc, deep.as_str())?;
         assert_eq!(rt;
-            passes.as_str(),
+            found.as_str(),
             "none",
             "{front} once more than {most} times"
         );
     }
-    for (front, middle, back, most) in [
-        ("(", "_", ")", 63),
-        ("(", "1..2", ")", 63),
-        ("(", "..", ")", 63),
-        ("(", "_", ",)", 63),
-        ("(", "A", ")", 63),
-        ("[", "_", "]", 63),
-        ("[", "x @ ..", "]", 62),
-        ("&", "_", "", 63),
-        ("&&", "&_", "", 31),
-        ("x@", "_", "", 63),
-        ("A(", "_", ")", 63),
-        ("A{a:", "_", "}", 63),
-        ("A{a:", "b @ _", "}", 62),
-        ("_|(", "_|_", ")", 31),
-        ("|(", "|_", ")", 63),
-    ] {
-        let fits = pattern_outcome(alloc, nested(alloc, most, front, middle, back)?.as_str())?;
-        let passes = pattern_outcome(
-            alloc,
-            nested(alloc, most.saturating_add(1), front, middle, back)?.as_str(),
-        )?;
-        assert_eq!(rt; fits.as_str() == "none", false, "{front} {most} times");
+    Ok(())
+}
+
+/// Patterns of up to 64 levels are read, and none of more.
+#[test]
+fn levels_of_patterns_are_counted(rt: HostRuntime) -> Result<(), Fail> {
+    let alloc = rt.alloc();
+    for (front, middle, back, most) in &PATTERN_LEVELS {
+        for depth in [most.saturating_sub(1), *most] {
+            let found = pattern_outcome(
+                alloc,
+                nested(alloc, depth, front, middle, back)?.as_str(),
+            )?;
+            assert_eq!(rt; is_tree(found.as_str()), true, "{front} {depth} times");
+        }
+        let deep = nested(alloc, most.saturating_add(1), front, middle, back)?;
+        let found = pattern_outcome(alloc, deep.as_str())?;
         assert_eq!(rt;
-            passes.as_str(),
+            found.as_str(),
             "none",
             "{front} once more than {most} times"
         );

@@ -16,7 +16,7 @@ use crate::stop::Stop;
 use decl_lexer::{Mark, Word};
 use std::alloc::Global;
 
-/// A type as it is written.
+/// A type as it is written. Brackets around a type and lifetimes leave no trace.
 #[derive(Debug, Drop)]
 pub enum Ty {
     Never,
@@ -26,11 +26,13 @@ pub enum Ty {
         inner: Box<Ty>,
     },
     Slice(Box<Ty>),
+    /// `len` is `None` from 2^128 on, `suffix` is the one that is written at the length, or empty.
     Array {
         item: Box<Ty>,
         len: Option<u128>,
         suffix: String,
     },
+    /// A name with its type arguments.
     Named {
         name: String,
         args: Vec<Ty>,
