@@ -2,7 +2,7 @@
 """Compares decl_lexer with a plain lexer in Rust on three sources of 16 MB.
 
 Writes the sources, a copy of the crates with a small program over decl_lexer, and the plain lexer's
-program into bench/out/lexer, builds both, runs them in turn, and prints the least times, the
+program into a folder for temporary files, builds both, runs them in turn, and prints the least times, the
 tokens a second, the ratio and the memory a byte of source.
 """
 import pathlib
@@ -10,10 +10,11 @@ import random
 import re
 import shutil
 import subprocess
+import tempfile
 
 HERE = pathlib.Path(__file__).resolve().parent
 ROOT = HERE.parent.parent
-OUT = ROOT / "bench" / "out" / "lexer"
+OUT = pathlib.Path(tempfile.gettempdir()) / "matchcheck-bench" / "lexer"
 SIZE = 16 * 1024 * 1024
 RUNS = 12
 

@@ -2,21 +2,24 @@
 """Times decl_parser on sources of 16 MB: ordinary text, and files that are extreme in one way each.
 
 Writes the sources, whole and half as long, and a copy of the crates with a small program over
-decl_lexer and decl_parser into bench/out/parser, builds it, and prints for each source the tokens, the
+decl_lexer and decl_parser into a folder for temporary files, builds it, and prints for each source the tokens, the
 time that parsing takes, the tokens a second, how much longer the whole takes than the half, and the
-memory of the whole run.
+memory of the whole run. The last line says how many sources met the goal; the exit status is 1 where one missed it.
 """
 import pathlib
 import random
 import re
 import shutil
 import subprocess
+import tempfile
 
 HERE = pathlib.Path(__file__).resolve().parent
 ROOT = HERE.parent.parent
-OUT = ROOT / "bench" / "out" / "parser"
+OUT = pathlib.Path(tempfile.gettempdir()) / "matchcheck-bench" / "parser"
 SIZE = 16 * 1024 * 1024
 RUNS = 3
+# How much longer a source may take than half of it.
+GROWTH = 2.2
 CRATES = ("match_model", "decl_lexer", "decl_syntax", "decl_parser")
 
 MAIN = """//! Parses each file, and prints how many tokens it has, what came out and how long that took.
@@ -35,6 +38,7 @@ fn main(rt: HostRuntime) -> io::Result<()> {
             continue;
         };
         let lexed = start.elapsed(&rt)?.as_millis();
+        let begun = Instant::now(&rt)?;
         let outcome = match decl_parser::parse(rt.alloc(), tokens.as_slice()) {
             Ok(_) => "file",
             Err(ParseFault::Syntax { .. }) => "syntax",
@@ -42,7 +46,7 @@ fn main(rt: HostRuntime) -> io::Result<()> {
             Err(ParseFault::NoMemory) => "memory",
         };
         let count = tokens.len();
-        let took = start.elapsed(&rt)?.as_millis() - lexed;
+        let took = begun.elapsed(&rt)?.as_millis();
         println!(rt; "{count} tokens lexed in {lexed} ms, {outcome} in {took} ms")?;
     }
     Ok(())
@@ -55,7 +59,7 @@ def ordinary(size):
     source = random.Random(2)
     parts = []
     length = 0
-    while length < size:
+    while True:
         n = len(parts)
         k = source.randint(2, 9)
         variants = ", ".join(source.choice(["V%d", "V%d(u8, bool)", "V%d { at: usize, seen: Option<char> }"]) % i for i in range(k))
@@ -67,6 +71,8 @@ def ordinary(size):
             for _ in range(source.randint(2, 12))
         )
         part = "#[derive(Debug)]\npub enum E%d<'a> { %s }\npub fn f%d(x: &E%d<'_>) -> u8 {\n    match x {\n%s        _ if g(x) => 0,\n        _ => 1,\n    }\n}\n" % (n, variants, n, n, arms)
+        if length + len(part) > size:
+            break
         parts.append(part)
         length += len(part)
     return "".join(parts)
@@ -90,8 +96,12 @@ SOURCES = {
     "many functions": repeated("", "fn function_name(x: bool) { match x {} }\n", ""),
     "many structs": repeated("", "struct S;", ""),
     "variants": repeated("enum E { ", "A(u8), ", "}"),
+    "lists in one another": repeated("fn f(x: u8) { match x { ", "[" * 63 + "]" * 63 + " => {}\n", "} }"),
+    "fields of a pattern": repeated("fn f(x: u8) { match x { A { ", "a, ", "} => 1 } }"),
+    "slices": repeated("fn f(x: u8) { match x { ", "[_] => {}\n", "} }"),
     "arguments of a type": repeated("struct S(A<", "u8, ", ">);"),
     "a file of attributes": repeated("", "#![a]", ""),
+    "an attribute of the file that never ends": repeated("#![", "(a)", ""),
 }
 
 
@@ -112,7 +122,10 @@ def build():
 def run(program, path):
     """The tokens, the outcome, the milliseconds of parsing and the kilobytes of one run."""
     done = subprocess.run(["/usr/bin/time", "-f", "%M", str(program), str(path)], capture_output=True, text=True, check=True)
-    tokens, outcome, took = re.search(r"(\d+) tokens lexed in \d+ ms, (\w+) in (\d+) ms", done.stdout).groups()
+    found = re.search(r"(\d+) tokens lexed in \d+ ms, (\w+) in (\d+) ms", done.stdout)
+    if found is None:
+        raise SystemExit("%s has no tokens" % path)
+    tokens, outcome, took = found.groups()
     return int(tokens), outcome, int(took), int(done.stderr.split()[-1])
 
 
@@ -126,6 +139,7 @@ def main():
     program = build()
     print("| source | tokens | outcome | ms | million tokens/s | growth from half | bytes of memory a byte |")
     print("|---|---|---|---|---|---|---|")
+    missed = []
     for name, source in SOURCES.items():
         path = OUT / (name.replace(" ", "_") + ".txt")
         path.write_text(source(SIZE // 2))
@@ -137,6 +151,10 @@ def main():
         row = (name, whole[0], whole[1], whole[2], speed, growth, whole[3] * 1024 / path.stat().st_size)
         print("| %s | %d | %s | %d | %s | %s | %.1f |" % row, flush=True)
         path.unlink()
+        if half[2] > 20 and whole[2] > GROWTH * half[2]:
+            missed.append(name)
+    print("%d met, %d missed%s" % (len(SOURCES) - len(missed), len(missed), ": " + ", ".join(missed) if missed else ""))
+    raise SystemExit(1 if missed else 0)
 
 
 if __name__ == "__main__":
