@@ -129,9 +129,10 @@ def run(program, path):
     return int(tokens), outcome, int(took), int(done.stderr.split()[-1])
 
 
-def least(program, path):
-    """The run of several that took least."""
-    return min((run(program, path) for _ in range(RUNS)), key=lambda result: result[2])
+def least(program, paths):
+    """For each file the run of several that took least; the files are taken in turn."""
+    runs = [[run(program, path) for path in paths] for _ in range(RUNS)]
+    return [min(of_one, key=lambda result: result[2]) for of_one in zip(*runs)]
 
 
 def main():
@@ -141,16 +142,14 @@ def main():
     print("|---|---|---|---|---|---|---|")
     missed = []
     for name, source in SOURCES.items():
-        path = OUT / (name.replace(" ", "_") + ".txt")
-        path.write_text(source(SIZE // 2))
-        half = least(program, path)
-        path.write_text(source(SIZE))
-        whole = least(program, path)
+        paths = [OUT / "half.txt", OUT / "whole.txt"]
+        for path, size in zip(paths, (SIZE // 2, SIZE)):
+            path.write_text(source(size))
+        half, whole = least(program, paths)
         speed = "%.1f" % (whole[0] / 1000 / whole[2]) if whole[2] else ""
         growth = "%.2f" % (whole[2] / half[2]) if half[2] > 20 else "under 20 ms"
-        row = (name, whole[0], whole[1], whole[2], speed, growth, whole[3] * 1024 / path.stat().st_size)
+        row = (name, whole[0], whole[1], whole[2], speed, growth, whole[3] * 1024 / paths[1].stat().st_size)
         print("| %s | %d | %s | %d | %s | %s | %.1f |" % row, flush=True)
-        path.unlink()
         if half[2] > 20 and whole[2] > GROWTH * half[2]:
             missed.append(name)
     print("%d met, %d missed%s" % (len(SOURCES) - len(missed), len(missed), ": " + ", ".join(missed) if missed else ""))
