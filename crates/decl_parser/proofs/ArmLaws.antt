@@ -20,7 +20,7 @@ use Rattle.decl_syntax.proofs.Joined.{some_is, bind_some, either_some, given, wo
 use Rattle.decl_syntax.proofs.PatternLaws.{patterns}
 use Rattle.decl_syntax.proofs.RunLaws.{attributes}
 use Rattle.decl_parser.specs.declared.runs.Until.TheVariants as until
-use Rattle.decl_parser.specs.Items.{ArmTree}
+use Rattle.decl_syntax.specs.Items.{ArmTree}
 use Rattle.decl_parser.specs.RunReading.{skip_from, skip_at, run_at}
 use Rattle.decl_parser.specs.ArmGrammar.{SpellsGuard, no_guard, a_guard, SpellsBody, block, before_comma, at_the_end, SpellsArm, spelled, SpellsArms, no_more, one_more}
 use Rattle.decl_parser.specs.ArmReading.{guard_at, block_at, value_at, body_at, arm_at, arms_step, arms_within, arms_at}

@@ -15,7 +15,7 @@ use Rattle.decl_syntax.specs.PatternGrammar.{shape_by_names, AltForm, a_range, a
 use Rattle.decl_syntax.proofs.Joined.{maybe_shrinks}
 use Rattle.decl_syntax.proofs.EndLaws.{ranges, paths}
 use Rattle.decl_syntax.proofs.PatternLaws.{bindings}
-use Rattle.decl_parser.specs.Items.{KindTree, ItemTree}
+use Rattle.decl_syntax.specs.Items.{KindTree, ItemTree}
 use Rattle.decl_parser.specs.DeclarationGrammar.{SpellsVariant}
 use Rattle.decl_parser.specs.ItemGrammar as grammar
 use Rattle.decl_parser.specs.ItemGrammar.{SpellsKind, an_enum, a_struct, an_import, a_function, SpellsItem, item, SpellsItems}

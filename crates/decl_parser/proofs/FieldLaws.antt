@@ -20,8 +20,8 @@ use Rattle.decl_syntax.proofs.TypeLaws.{known_types, name_some}
 use Rattle.decl_parser.specs.declared.runs.Until.TheVariants as until
 use Rattle.decl_parser.specs.RunGrammar.{SpellsRun}
 use Rattle.decl_parser.specs.RunReading.{run_at}
-use Rattle.decl_parser.specs.Items as trees
-use Rattle.decl_parser.specs.Items.{FieldItem, FormTree}
+use Rattle.decl_syntax.specs.Items as trees
+use Rattle.decl_syntax.specs.Items.{FieldItem, FormTree}
 use Rattle.decl_parser.specs.DeclarationGrammar.{is_scope, begins_scope, restricts, SpellsVisibility, private, public, public_in_scope, public_in_path, FieldLabel, no_label, label, SpellsField, field, closing, SpellsForm, unit_form, tuple_form, brace_form, SpellsNumber, no_number, number}
 use Rattle.decl_parser.specs.DeclarationReading.{scope_at, restriction_at, visibility_at, label_at, field_at, fields_at, form_at, number_at}
 use Rattle.decl_parser.proofs.NameLaws.{Within, attributes_within}

@@ -11,7 +11,7 @@ use Rattle.decl_parser.specs.declared.file.ParseFault.{ParseFault}
 use Rattle.decl_parser.specs.declared.file.ParseFault.TheVariants as faults
 use Rattle.decl_parser.specs.RunGrammar.{SpellsRun}
 use Rattle.decl_parser.specs.RunReading.{run_at}
-use Rattle.decl_parser.specs.Items.{ItemTree}
+use Rattle.decl_syntax.specs.Items.{ItemTree}
 use Rattle.decl_parser.specs.ItemGrammar.{SpellsItem, SpellsItems, nothing}
 use Rattle.decl_parser.specs.ItemGrammar as grammar
 use Rattle.decl_parser.specs.ItemReading.{item_at}

@@ -15,7 +15,7 @@ use Rattle.decl_syntax.specs.Grammar.{IsMark, IsWord, Maybe}
 use Rattle.decl_syntax.proofs.Joined.{some_is, bind_some, either_some, given, word_only, behind_first, behind_some, none_behind, next_is_not, flag_sound, flag_complete, maybe_shrinks, Joined}
 use Rattle.decl_syntax.proofs.TypeLaws.{known_types, name_some}
 use Rattle.decl_parser.specs.declared.runs.Until.TheVariants as until
-use Rattle.decl_parser.specs.Items.{ArmTree}
+use Rattle.decl_syntax.specs.Items.{ArmTree}
 use Rattle.decl_parser.specs.ArmGrammar.{SpellsArms}
 use Rattle.decl_parser.specs.ArmReading.{arms_at}
 use Rattle.decl_parser.specs.FunctionGrammar.{Parameter, SpellsParameter, parameter, SpellsReturned, nothing, returned, Scrutinee, SpellsScrutinee, plain, dereferenced, BodyTree, SpellsFunction, spelled}

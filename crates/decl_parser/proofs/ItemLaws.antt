@@ -10,8 +10,8 @@ use Rattle.decl_syntax.specs.Grammar.{IsMark, IsWord, CommaList}
 use Rattle.decl_syntax.specs.RunReading.{attributes_at}
 use Rattle.decl_syntax.proofs.Joined.{bind_some, either_some, given, behind_first, behind_some, word_only, Joined}
 use Rattle.decl_syntax.proofs.TypeLaws.{name_some}
-use Rattle.decl_parser.specs.Items as trees
-use Rattle.decl_parser.specs.Items.{VariantTree, KindTree, ItemTree}
+use Rattle.decl_syntax.specs.Items as trees
+use Rattle.decl_syntax.specs.Items.{VariantTree, KindTree, ItemTree}
 use Rattle.decl_parser.specs.DeclarationGrammar.{SpellsVariant, SpellsHead, head, SpellsNames}
 use Rattle.decl_parser.specs.DeclarationReading.{visibility_at, variants_at, struct_form_at, head_at, names_at}
 use Rattle.decl_parser.specs.FunctionReading.{function_at}

@@ -13,7 +13,7 @@ use Rattle.decl_syntax.specs.RunReading.{attributes_at}
 use Rattle.decl_syntax.proofs.ListLemmas.{Shrinks}
 use Rattle.decl_syntax.proofs.Joined.{bind_some, given, behind_first, behind_some, word_only, Joined, read_shrinks, lists}
 use Rattle.decl_syntax.proofs.TypeLaws.{name_some}
-use Rattle.decl_parser.specs.Items.{FormTree, VariantTree}
+use Rattle.decl_syntax.specs.Items.{FormTree, VariantTree}
 use Rattle.decl_parser.specs.DeclarationGrammar.{SpellsForm, SpellsNumber, SpellsVariant, variant, ends_in_semicolon, SpellsStructForm, ended, braced, SpellsParams, SpellsHead, head}
 use Rattle.decl_parser.specs.DeclarationReading.{form_at, number_at, variant_at, variants_at, struct_form_at, params_at, head_at}
 use Rattle.decl_parser.proofs.NameLaws.{Within, word_it, attributes_within}

@@ -1,7 +1,7 @@
 -- Fields that are too many, by their number.
 use Rattle.std.proofs.Common.{◌≡◌, ◌<◌, ◌≤◌, Bool, true, List, length}
 use Rattle.decl_syntax.proofs.WidthLemmas.{above, within}
-use Rattle.decl_parser.specs.Items.{FieldItem}
+use Rattle.decl_syntax.specs.Items.{FieldItem}
 use Rattle.decl_parser.specs.ItemWidths.{fields_are_wide, some_field_is_wide}
 
 pub many_fields : (xs : List FieldItem) → 256 < length xs → true ≡ fields_are_wide xs

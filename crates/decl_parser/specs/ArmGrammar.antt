@@ -9,7 +9,7 @@ use Rattle.decl_syntax.specs.PatternGrammar.{SpellsPattern}
 use Rattle.decl_syntax.specs.Grammar.{IsMark, IsWord, NextIsNot, Maybe}
 use Rattle.decl_syntax.specs.Runs.{pairs_up, SpellsAttributes}
 use Rattle.decl_parser.specs.declared.runs.Until.TheVariants as until
-use Rattle.decl_parser.specs.Items.{ArmTree}
+use Rattle.decl_syntax.specs.Items.{ArmTree}
 use Rattle.decl_parser.specs.RunGrammar.{SpellsRun}
 
 -- ["if" run], and whether it is there

@@ -8,7 +8,7 @@ use Rattle.decl_syntax.specs.Reading.{◌>>=◌, either, Read}
 use Rattle.decl_syntax.specs.PatternReading.{pattern_at}
 use Rattle.decl_syntax.specs.RunReading.{attributes_at}
 use Rattle.decl_parser.specs.declared.runs.Until.TheVariants as until
-use Rattle.decl_parser.specs.Items.{ArmTree}
+use Rattle.decl_syntax.specs.Items.{ArmTree}
 use Rattle.decl_parser.specs.RunReading.{skip_at, run_at}
 
 -- a guard, or none

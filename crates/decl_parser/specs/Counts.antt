@@ -2,8 +2,8 @@
 use Rattle.std.specs.Prelude.{ℕ, suc, ◌+◌, ◌≤◌, List, length, sum_by}
 use Rattle.decl_syntax.specs.Patterns as p
 use Rattle.decl_syntax.specs.Patterns.{PatternTree, Shape, PatternTrees, FieldTrees}
-use Rattle.decl_parser.specs.Items as trees
-use Rattle.decl_parser.specs.Items.{ArmTree, KindTree, ItemTree}
+use Rattle.decl_syntax.specs.Items as trees
+use Rattle.decl_syntax.specs.Items.{ArmTree, KindTree, ItemTree}
 
 -- how many nodes a pattern has, itself among them
 abbrev mutual

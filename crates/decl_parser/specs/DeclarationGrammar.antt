@@ -16,8 +16,8 @@ use Rattle.decl_syntax.specs.Runs.{SpellsAttributes}
 use Rattle.decl_syntax.specs.TypeGrammar.{SpellsType}
 use Rattle.decl_parser.specs.declared.runs.Until.TheVariants as until
 use Rattle.decl_parser.specs.RunGrammar.{SpellsRun}
-use Rattle.decl_parser.specs.Items as trees
-use Rattle.decl_parser.specs.Items.{FieldItem, FormTree, Tuple, Brace, VariantTree}
+use Rattle.decl_syntax.specs.Items as trees
+use Rattle.decl_syntax.specs.Items.{FieldItem, FormTree, Tuple, Brace, VariantTree}
 
 -- a lifetime, which leaves nothing
 pub data SpellsLifetime : List Placed → Unit {0} → List Placed → Type 0 where

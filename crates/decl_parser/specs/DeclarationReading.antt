@@ -11,8 +11,8 @@ use Rattle.decl_syntax.specs.TypeReading.{type_at}
 use Rattle.decl_parser.specs.declared.runs.Until.TheVariants as until
 use Rattle.decl_parser.specs.RunReading.{run_at}
 use Rattle.decl_parser.specs.DeclarationGrammar.{is_scope, restricts, closing, ends_in_semicolon}
-use Rattle.decl_parser.specs.Items as trees
-use Rattle.decl_parser.specs.Items.{FieldItem, FormTree, Tuple, Brace, VariantTree}
+use Rattle.decl_syntax.specs.Items as trees
+use Rattle.decl_syntax.specs.Items.{FieldItem, FormTree, Tuple, Brace, VariantTree}
 
 -- a lifetime
 abbrev pub lifetime_at : List Placed → Read (Unit {0})

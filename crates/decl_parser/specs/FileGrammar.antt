@@ -7,7 +7,7 @@ use Rattle.decl_parser.specs.declared.runs.Until.TheVariants as until
 use Rattle.decl_parser.specs.declared.file.ParseFault.{ParseFault}
 use Rattle.decl_parser.specs.declared.file.ParseFault.TheVariants as faults
 use Rattle.decl_parser.specs.RunGrammar.{SpellsRun}
-use Rattle.decl_parser.specs.Items.{ItemTree}
+use Rattle.decl_syntax.specs.Items.{ItemTree}
 use Rattle.decl_parser.specs.ItemGrammar.{SpellsItem, SpellsItems}
 use Rattle.decl_parser.specs.ItemWidths.{item_is_wide}
 

@@ -11,7 +11,7 @@ use Rattle.decl_syntax.specs.TypeGrammar.{SpellsType}
 use Rattle.decl_syntax.specs.Grammar.{IsMark, IsWord, NextIsNot, Maybe}
 use Rattle.decl_parser.specs.declared.runs.Until.TheVariants as until
 use Rattle.decl_parser.specs.declared.functions.Body as declared
-use Rattle.decl_parser.specs.Items.{ArmTree, arm_view}
+use Rattle.decl_syntax.specs.Items.{ArmTree, arm_view}
 use Rattle.decl_parser.specs.RunGrammar.{SpellsRun}
 use Rattle.decl_parser.specs.ArmGrammar.{SpellsArms}
 

@@ -8,8 +8,8 @@ use Rattle.decl_syntax.specs.Units.{from_of}
 use Rattle.decl_syntax.specs.Patterns.{AttrTree}
 use Rattle.decl_syntax.specs.Grammar.{IsMark, IsWord, CommaList}
 use Rattle.decl_syntax.specs.Runs.{SpellsAttributes}
-use Rattle.decl_parser.specs.Items as trees
-use Rattle.decl_parser.specs.Items.{FormTree, VariantTree, KindTree, ItemTree}
+use Rattle.decl_syntax.specs.Items as trees
+use Rattle.decl_syntax.specs.Items.{FormTree, VariantTree, KindTree, ItemTree}
 use Rattle.decl_parser.specs.DeclarationGrammar.{SpellsVisibility, SpellsVariant, SpellsStructForm, SpellsHead, SpellsNames}
 use Rattle.decl_parser.specs.FunctionGrammar.{BodyTree, SpellsFunction}
 

@@ -6,8 +6,8 @@ use Rattle.decl_lexer.specs.Lexing.{Placed}
 use Rattle.decl_syntax.specs.Units.{behind, is_mark, is_word, token_at, name_of, from_of}
 use Rattle.decl_syntax.specs.Reading.{◌>>=◌, either, Read}
 use Rattle.decl_syntax.specs.RunReading.{attributes_at}
-use Rattle.decl_parser.specs.Items as trees
-use Rattle.decl_parser.specs.Items.{KindTree, ItemTree}
+use Rattle.decl_syntax.specs.Items as trees
+use Rattle.decl_syntax.specs.Items.{KindTree, ItemTree}
 use Rattle.decl_parser.specs.DeclarationReading.{visibility_at, variants_at, struct_form_at, head_at, names_at}
 use Rattle.decl_parser.specs.FunctionReading.{function_at}
 

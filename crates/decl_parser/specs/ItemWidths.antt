@@ -1,8 +1,8 @@
 -- How many parts the lists of an item have: at most 256 are allowed (our own choice).
 use Rattle.std.specs.Prelude.{Bool, false, ◌||◌, List, [], ◌∷◌, length}
 use Rattle.decl_syntax.specs.Widths.{are_many, type_is_wide, pattern_is_wide}
-use Rattle.decl_parser.specs.Items as trees
-use Rattle.decl_parser.specs.Items.{FieldItem, FormTree, VariantTree, ArmTree, KindTree, ItemTree}
+use Rattle.decl_syntax.specs.Items as trees
+use Rattle.decl_syntax.specs.Items.{FieldItem, FormTree, VariantTree, ArmTree, KindTree, ItemTree}
 
 -- whether some tuple in the type of some field has more than 256 parts
 abbrev pub some_field_is_wide : List FieldItem → Bool

@@ -10,6 +10,5 @@ pub mod FunctionReading
 pub mod ItemGrammar
 pub mod ItemReading
 pub mod ItemWidths
-pub mod Items
 pub mod RunGrammar
 pub mod RunReading

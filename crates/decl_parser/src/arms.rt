@@ -2,14 +2,13 @@
 ghost use Rattle.std.specs.Prelude.{map};
 ghost use Rattle.decl_syntax.specs.Units.{left};
 ghost use Rattle.decl_syntax.specs.Reading.{Gives};
-ghost use Rattle.decl_parser.specs.Items.{arm_view};
+ghost use Rattle.decl_syntax.specs.Items.{arm_view};
 ghost use Rattle.decl_parser.specs.ArmReading.{guard_at, block_at, value_at, body_at, arm_at, arms_at};
 
 use crate::parts::{attributes_at, pattern_at};
 use crate::runs::{Until, run_at, skip_tokens};
-use crate::tree::Arm;
 use decl_lexer::{Mark, Word};
-use decl_syntax::{Cursor, Stop, behind, behind_word, skip_mark};
+use decl_syntax::{Arm, Cursor, Stop, behind, behind_word, skip_mark};
 use std::alloc::Global;
 
 /// Whether a guard stands here, and the place behind it.

@@ -2,7 +2,7 @@
 ghost use Rattle.std.specs.Prelude.{◌≡◌, map, option_map, string_bytes};
 ghost use Rattle.decl_syntax.specs.Units.{left};
 ghost use Rattle.decl_syntax.specs.Reading.{Gives};
-ghost use Rattle.decl_parser.specs.Items.{form_view, variant_view};
+ghost use Rattle.decl_syntax.specs.Items.{form_view, variant_view};
 ghost use Rattle.decl_parser.specs.DeclarationGrammar.{ends_in_semicolon};
 ghost use Rattle.decl_parser.specs.DeclarationReading.{number_at, variant_at, variants_at, struct_form_at, head_at};
 
@@ -11,9 +11,8 @@ use crate::names::owned_name_at;
 use crate::params::skip_params;
 use crate::parts::attributes_at;
 use crate::runs::{Until, run_at};
-use crate::tree::{Form, Variant};
 use decl_lexer::{Mark, Word};
-use decl_syntax::{Cursor, Stop, behind, behind_word};
+use decl_syntax::{Cursor, Form, Stop, Variant, behind, behind_word};
 use std::alloc::Global;
 
 /// The place behind the number of a variant, if it is written, and else this one.

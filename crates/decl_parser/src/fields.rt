@@ -2,16 +2,15 @@
 ghost use Rattle.std.specs.Prelude.{◌≡◌, map, option_map, string_bytes, true};
 ghost use Rattle.decl_syntax.specs.Units.{left, behind, first_passes};
 ghost use Rattle.decl_syntax.specs.Reading.{Gives};
-ghost use Rattle.decl_parser.specs.Items.{field_view, form_view};
+ghost use Rattle.decl_syntax.specs.Items.{field_view, form_view};
 ghost use Rattle.decl_parser.specs.DeclarationGrammar.{begins_scope, is_scope, closing};
 ghost use Rattle.decl_parser.specs.DeclarationReading.{scope_at, restriction_at, visibility_at, label_at, field_at, fields_at, form_at};
 
 use crate::names::owned_name_at;
 use crate::parts::{attributes_at, type_at};
 use crate::runs::{Until, run_at};
-use crate::tree::{Field, Form};
 use decl_lexer::{Mark, TokenKind, Word};
-use decl_syntax::{Cursor, Seen, Stop, behind, behind_word};
+use decl_syntax::{Cursor, Field, Form, Seen, Stop, behind, behind_word};
 use std::alloc::Global;
 
 /// Whether a word comes next that begins what stands between the brackets of a visibility.

@@ -4,17 +4,16 @@ ghost use Rattle.decl_lexer.specs.Tokens.{tokens_view};
 ghost use Rattle.decl_syntax.specs.Units.{units, left};
 ghost use Rattle.decl_syntax.specs.Reading.{Gives};
 ghost use Rattle.decl_parser.specs.declared.file.ParseFault.TheVariants.{NoMemory};
-ghost use Rattle.decl_parser.specs.Items.{file_view, item_view};
+ghost use Rattle.decl_syntax.specs.Items.{file_view, item_view};
 ghost use Rattle.decl_parser.specs.Counts.{HasAtMost};
 ghost use Rattle.decl_parser.specs.FileGrammar.{SkipsAttributes, IsFile, IsFaultOf};
 ghost use Rattle.decl_parser.specs.FileReading.{file_attribute_at, ReadsItem};
 
 use crate::items::item_at;
 use crate::runs::{Until, run_at};
-use crate::tree::{File, Item};
 use crate::widths::item_is_wide;
 use decl_lexer::{Mark, Token};
-use decl_syntax::{Cursor, Stop, behind};
+use decl_syntax::{Cursor, File, Item, Stop, behind};
 use std::alloc::{AllocError, AllocFailed, Global};
 
 /// Why tokens spell no file. `item` counts the items before the fault, and `at` is the byte offset of the first

@@ -1,7 +1,7 @@
 //! Short sources with the items that the grammar gives them, or with their first fault.
-use crate::{Field, File, Form, Item, ItemKind, ParseFault, UseItem, Variant, parse};
+use crate::{ParseFault, parse};
 use decl_lexer::{LexFault, Token, lex};
-use decl_syntax::{Attr, Ty};
+use decl_syntax::{Attr, Field, File, Form, Item, ItemKind, Ty, UseItem, Variant};
 use std::alloc::{AllocError, Global};
 use std::test::Fail;
 

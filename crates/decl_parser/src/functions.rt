@@ -10,9 +10,8 @@ ghost use Rattle.decl_parser.specs.FunctionReading.{parameter_at, returned_at, s
 use crate::arms::arms_at;
 use crate::parts::type_at;
 use crate::runs::{Until, run_at};
-use crate::tree::Arm;
 use decl_lexer::{Mark, Word};
-use decl_syntax::{Cursor, Stop, Ty, behind, behind_word, name_at, skip_mark, skip_word};
+use decl_syntax::{Arm, Cursor, Stop, Ty, behind, behind_word, name_at, skip_mark, skip_word};
 use std::alloc::Global;
 
 /// What is known of a function but its name: the type of its parameter, the byte offset of the `*` in

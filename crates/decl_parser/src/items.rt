@@ -1,7 +1,7 @@
 //! Items.
 ghost use Rattle.decl_syntax.specs.Units.{left};
 ghost use Rattle.decl_syntax.specs.Reading.{Gives};
-ghost use Rattle.decl_parser.specs.Items.{kind_view, item_view};
+ghost use Rattle.decl_syntax.specs.Items.{kind_view, item_view};
 ghost use Rattle.decl_parser.specs.ItemReading.{enum_at, struct_at, import_at, named_function_at, kind_at, item_at};
 
 use crate::declarations::{head_at, struct_form_at, variants_at};
@@ -9,9 +9,10 @@ use crate::fields::skip_visibility;
 use crate::functions::function_at;
 use crate::names::{names_at, owned_name_at};
 use crate::parts::attributes_at;
-use crate::tree::{EnumItem, FnItem, Item, ItemKind, StructItem, UseItem};
 use decl_lexer::{Mark, Word};
-use decl_syntax::{Cursor, Stop, behind, behind_word};
+use decl_syntax::{
+    Cursor, EnumItem, FnItem, Item, ItemKind, Stop, StructItem, UseItem, behind, behind_word,
+};
 use std::alloc::Global;
 
 /// An item, and the place behind it. Where the tokens begin with none it answers `Syntax`; want of memory is

@@ -30,13 +30,9 @@ mod parts;
 mod runs;
 #[cfg(test)]
 mod source_tests;
-mod tree;
 mod widths;
 
 pub use file::{ParseFault, parse};
 pub use functions::{Body, one_function, read_function};
 pub use laws::{file_or_fault, one_fault, one_file, some_answer};
 pub use runs::{Until, one_run, skip_run};
-pub use tree::{
-    Arm, EnumItem, Field, File, FnItem, Form, Item, ItemKind, StructItem, UseItem, Variant,
-};

@@ -1,7 +1,7 @@
 //! A source as people write them, and its tree's shape.
-use crate::{FnItem, Form, Item, ItemKind, ParseFault, Variant, parse};
+use crate::{ParseFault, parse};
 use decl_lexer::{LexFault, Token, lex};
-use decl_syntax::{PatKind, Ty};
+use decl_syntax::{FnItem, Form, Item, ItemKind, PatKind, Ty, Variant};
 use std::alloc::{AllocError, Global};
 use std::process::Abort;
 use std::test::Fail;

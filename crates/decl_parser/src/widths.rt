@@ -1,11 +1,12 @@
 //! How many parts the lists of an item have.
 ghost use Rattle.std.specs.Prelude.{◌≡◌, map};
-ghost use Rattle.decl_parser.specs.Items.{field_view, form_view, variant_view, arm_view, kind_view, item_view};
+ghost use Rattle.decl_syntax.specs.Items.{field_view, form_view, variant_view, arm_view, kind_view, item_view};
 ghost use Rattle.decl_parser.specs.ItemWidths.{some_field_is_wide, fields_are_wide, form_is_wide, some_variant_is_wide};
 ghost use Rattle.decl_parser.specs.ItemWidths.{some_arm_is_wide, kind_is_wide, item_is_wide};
 
-use crate::tree::{Arm, Field, Form, Item, ItemKind, Variant};
-use decl_syntax::{MOST_PARTS, pattern_is_wide, type_is_wide};
+use decl_syntax::{
+    Arm, Field, Form, Item, ItemKind, MOST_PARTS, Variant, pattern_is_wide, type_is_wide,
+};
 
 /// Whether an item has more than 256 fields in a form, parts in a tuple type, or items or fields in one list of a
 /// pattern.

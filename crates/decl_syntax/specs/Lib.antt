@@ -2,6 +2,7 @@ pub mod EndGrammar
 pub mod EndReading
 pub mod FieldNames
 pub mod Grammar
+pub mod Items
 pub mod PatternGrammar
 pub mod PatternReading
 pub mod Patterns

@@ -9,11 +9,15 @@
 //! [`read_type`] and [`read_pattern`] give the tree that stands at a place and the place behind it, and
 //! answer [`Stop::Syntax`] exactly where the grammar has none. The laws of `laws.rt` say that there is
 //! never a second one. [`read_attributes`] gives the attributes that stand at a place.
+//!
+//! The trees of whole items stand here too: a [`File`] and its parts, which `decl_parser` reads and the table of types
+//! takes.
 #![tactic(auto)]
 
 mod attributes;
 mod cursor;
 mod ends;
+mod items;
 mod laws;
 mod levels;
 mod pattern;
@@ -27,6 +31,9 @@ mod widths;
 pub use attributes::{mark_of, read_attributes, track};
 pub use cursor::{
     Cursor, Seen, Unit, behind, behind_lifetime, behind_word, name_at, skip_mark, skip_word,
+};
+pub use items::{
+    Arm, EnumItem, Field, File, FnItem, Form, Item, ItemKind, StructItem, UseItem, Variant,
 };
 pub use laws::{levels_suffice, one_attribute_list, one_pattern, one_type};
 pub use pattern::read_pattern;

@@ -2,7 +2,7 @@
 use Rattle.std.proofs.Common.{◌≡◌, ℕ, inl, inr, List, Some, None, Result, Ok, Err, IfOk}
 use Rattle.decl_lexer.specs.Lexing.{Placed, HasTokens, HasFault}
 use Rattle.decl_syntax.specs.Units.{units}
-use Rattle.decl_parser.specs.Items.{ItemTree}
+use Rattle.decl_syntax.specs.Items.{ItemTree}
 use Rattle.decl_parser.specs.FileGrammar.{IsFile, IsSyntaxFault, IsWideFault}
 use Rattle.match_top.specs.Answers.{IsRefusedIn, IsRefusedTokens, IsJudged, IsRefusedAt, status_of}
 use Rattle.match_top.specs.SmallConditions.{IsNotSmall}

@@ -3,7 +3,7 @@ use Rattle.std.specs.Prelude.{Option, Some, ◌≡◌, ◌⊎◌, ℕ, ◌+◌, 
 use Rattle.verdict_json.specs.Refused.{refusal_text}
 use Rattle.decl_lexer.specs.Lexing.{Placed, HasTokens, HasFault}
 use Rattle.decl_syntax.specs.Units.{units}
-use Rattle.decl_parser.specs.Items.{ItemTree}
+use Rattle.decl_syntax.specs.Items.{ItemTree}
 use Rattle.decl_parser.specs.FileGrammar.{IsFile, IsSyntaxFault, IsWideFault}
 use Rattle.match_top.specs.declared.statuses.Status.{Status}
 use Rattle.match_top.specs.declared.statuses.Status.TheVariants.{Clean, Found, Refused}

@@ -3,7 +3,7 @@ use Rattle.std.proofs.lemmas.Result.{err_from_is_err_and}
 use Rattle.std.proofs.lemmas.List.{map_push}
 use Rattle.decl_syntax.specs.Units.{left}
 use Rattle.decl_syntax.proofs.ListLemmas.{no_front}
-use Rattle.decl_parser.specs.Items.{arm_view}
+use Rattle.decl_syntax.specs.Items.{arm_view}
 use Rattle.decl_parser.specs.ArmReading.{arms_at}
 use Rattle.decl_parser.proofs.ArmLaws.{arm_reading_shrinks, arms_end, arms_stuck, arms_go_on}
 use Rattle.decl_parser.proofs.arms.arms_at.Goals as goal

@@ -1,7 +1,7 @@
 use Rattle.std.proofs.Common.{◌≡◌, map, length}
 use Rattle.decl_syntax.specs.Units.{left}
 use Rattle.decl_syntax.proofs.ListLemmas.{with_front}
-use Rattle.decl_parser.specs.Items.{arm_view}
+use Rattle.decl_syntax.specs.Items.{arm_view}
 use Rattle.decl_parser.specs.ArmReading.{arms_at}
 use Rattle.decl_parser.proofs.arms.arms_at.Given as goal
 

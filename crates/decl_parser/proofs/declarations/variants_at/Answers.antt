@@ -4,7 +4,7 @@ use Rattle.std.proofs.lemmas.List.{map_push}
 use Rattle.decl_lexer.specs.declared.marks.Mark.TheVariants as marks
 use Rattle.decl_syntax.specs.Units.{left}
 use Rattle.decl_syntax.proofs.ListLemmas.{no_front, list_closed, list_stuck, list_last, list_torn, list_goes_on, list_smaller}
-use Rattle.decl_parser.specs.Items.{variant_view}
+use Rattle.decl_syntax.specs.Items.{variant_view}
 use Rattle.decl_parser.specs.DeclarationReading.{variant_at, variants_at}
 use Rattle.decl_parser.proofs.VariantLaws.{variants_shrink}
 use Rattle.decl_parser.proofs.declarations.variants_at.Goals as goal

@@ -3,7 +3,7 @@ use Rattle.decl_lexer.specs.declared.marks.Mark.TheVariants as marks
 use Rattle.decl_syntax.specs.Units.{left}
 use Rattle.decl_syntax.specs.Reading.{list_at}
 use Rattle.decl_syntax.proofs.ListLemmas.{with_front}
-use Rattle.decl_parser.specs.Items.{variant_view}
+use Rattle.decl_syntax.specs.Items.{variant_view}
 use Rattle.decl_parser.specs.DeclarationReading.{variant_at, variants_at}
 use Rattle.decl_parser.proofs.declarations.variants_at.Given as goal
 

@@ -3,7 +3,7 @@ use Rattle.std.proofs.lemmas.Result.{err_from_is_err_and}
 use Rattle.std.proofs.lemmas.List.{map_push}
 use Rattle.decl_syntax.specs.Units.{left}
 use Rattle.decl_syntax.proofs.ListLemmas.{no_front, list_closed, list_stuck, list_last, list_torn, list_goes_on, list_smaller}
-use Rattle.decl_parser.specs.Items.{field_view}
+use Rattle.decl_syntax.specs.Items.{field_view}
 use Rattle.decl_parser.specs.DeclarationReading.{field_at, fields_at}
 use Rattle.decl_parser.proofs.FieldLaws.{fields_shrink}
 use Rattle.decl_parser.proofs.fields.fields_at.Goals as goal

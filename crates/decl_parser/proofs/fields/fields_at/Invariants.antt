@@ -2,7 +2,7 @@ use Rattle.std.proofs.Common.{◌≡◌, map, length}
 use Rattle.decl_syntax.specs.Units.{left}
 use Rattle.decl_syntax.specs.Reading.{list_at}
 use Rattle.decl_syntax.proofs.ListLemmas.{with_front}
-use Rattle.decl_parser.specs.Items.{field_view}
+use Rattle.decl_syntax.specs.Items.{field_view}
 use Rattle.decl_parser.specs.DeclarationReading.{field_at, fields_at}
 use Rattle.decl_parser.proofs.fields.fields_at.Given as goal
 

@@ -3,7 +3,7 @@ use Rattle.std.proofs.lemmas.Result.{err_from_is_err_and}
 use Rattle.std.proofs.lemmas.List.{map_push, length-map}
 use Rattle.decl_lexer.specs.Tokens.{token_view, tokens_view}
 use Rattle.decl_syntax.specs.Units.{units, left, unit_view}
-use Rattle.decl_parser.specs.Items.{item_view}
+use Rattle.decl_syntax.specs.Items.{item_view}
 use Rattle.decl_parser.specs.ItemGrammar.{nothing}
 use Rattle.decl_parser.proofs.CountLaws.{file_has_at_most}
 use Rattle.decl_parser.proofs.FileLaws.{items_push, narrow_push, item_spelled, item_smaller, fault_stands}

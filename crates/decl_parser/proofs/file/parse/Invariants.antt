@@ -2,7 +2,7 @@ use Rattle.std.proofs.Common.{List, map, length}
 use Rattle.decl_lexer.specs.Lexing.{Placed}
 use Rattle.decl_lexer.specs.Tokens.{tokens_view}
 use Rattle.decl_syntax.specs.Units.{units, left}
-use Rattle.decl_parser.specs.Items.{item_view}
+use Rattle.decl_syntax.specs.Items.{item_view}
 use Rattle.decl_parser.specs.ItemGrammar.{SpellsItems}
 use Rattle.decl_parser.specs.FileGrammar.{SkipsAttributes, AreNarrow}
 use Rattle.decl_parser.proofs.file.parse.Given as goal

@@ -1,6 +1,6 @@
 use Rattle.std.proofs.Common.{map, arith}
 use Rattle.std.proofs.lemmas.List.{length-map}
-use Rattle.decl_parser.specs.Items.{field_view}
+use Rattle.decl_syntax.specs.Items.{field_view}
 use Rattle.decl_parser.proofs.WidthLemmas.{many_fields, few_fields}
 use Rattle.decl_parser.proofs.widths.fields_are_wide.Goals as goal
 

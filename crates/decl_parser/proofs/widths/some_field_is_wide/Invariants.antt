@@ -1,5 +1,5 @@
 use Rattle.std.proofs.Common.{◌≡◌, map, drop}
-use Rattle.decl_parser.specs.Items.{field_view}
+use Rattle.decl_syntax.specs.Items.{field_view}
 use Rattle.decl_parser.specs.ItemWidths.{some_field_is_wide}
 use Rattle.decl_parser.proofs.widths.some_field_is_wide.Given as goal
 

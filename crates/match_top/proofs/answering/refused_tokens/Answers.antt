@@ -1,5 +1,5 @@
 use Rattle.decl_lexer.specs.Tokens.{tokens_view}
-use Rattle.decl_parser.specs.Items.{file_view}
+use Rattle.decl_syntax.specs.Items.{file_view}
 use Rattle.match_top.proofs.Judged.{file_tokens, syntax_tokens, width_tokens}
 use Rattle.match_top.proofs.answering.refused_tokens.Goals as goal
 

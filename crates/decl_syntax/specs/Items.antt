@@ -2,15 +2,15 @@
 use Rattle.std.specs.Prelude.{ℕ, Bool, List, Option, string_bytes, map, option_map}
 use Rattle.decl_syntax.specs.Types.{TypeTree, type_view}
 use Rattle.decl_syntax.specs.Patterns.{AttrTree, attr_view, PatternTree, pattern_view}
-use Rattle.decl_parser.specs.declared.tree.File as declared_file
-use Rattle.decl_parser.specs.declared.tree.Item as declared_item
-use Rattle.decl_parser.specs.declared.tree.Variant as declared_variant
-use Rattle.decl_parser.specs.declared.tree.Field as declared_field
-use Rattle.decl_parser.specs.declared.tree.Arm as declared_arm
-use Rattle.decl_parser.specs.declared.tree.Form.{Form}
-use Rattle.decl_parser.specs.declared.tree.Form.TheVariants as forms
-use Rattle.decl_parser.specs.declared.tree.ItemKind.{ItemKind}
-use Rattle.decl_parser.specs.declared.tree.ItemKind.TheVariants as kinds
+use Rattle.decl_syntax.specs.declared.items.File as declared_file
+use Rattle.decl_syntax.specs.declared.items.Item as declared_item
+use Rattle.decl_syntax.specs.declared.items.Variant as declared_variant
+use Rattle.decl_syntax.specs.declared.items.Field as declared_field
+use Rattle.decl_syntax.specs.declared.items.Arm as declared_arm
+use Rattle.decl_syntax.specs.declared.items.Form.{Form}
+use Rattle.decl_syntax.specs.declared.items.Form.TheVariants as forms
+use Rattle.decl_syntax.specs.declared.items.ItemKind.{ItemKind}
+use Rattle.decl_syntax.specs.declared.items.ItemKind.TheVariants as kinds
 
 -- a field, with a name in a brace form
 pub record FieldItem : Type 0 where

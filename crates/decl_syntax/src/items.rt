@@ -1,5 +1,6 @@
 //! The trees of items as they are written.
-use decl_syntax::{Attr, Pat, Ty};
+use crate::tree::{Attr, Pat};
+use crate::ty::Ty;
 
 /// A file: its items in order, without the attributes `#![..]` at its start.
 #[derive(Debug, Drop)]
