@@ -1,0 +1,11 @@
+pub mod Places
+pub mod ItemTests
+pub mod WrittenLemmas
+pub mod Variants
+pub mod TakenLemmas
+pub mod FirstLemmas
+pub mod Examples
+pub mod FindingLemmas
+pub mod FormLemmas
+pub mod SameOwners
+pub mod FindingExamples

@@ -1,0 +1,10 @@
+pub mod Meanings
+pub mod Written
+pub mod TypeRules
+pub mod Imports
+pub mod NameRules
+pub mod Attributes
+pub mod Views
+pub mod Rules
+pub mod Finding
+pub mod FindingViews

@@ -1,0 +1,122 @@
+//! The enums and structs of a file by name, and the variants of each enum by name.
+ghost use Rattle.std.specs.Prelude.{◌≡◌, ℕ, map, OnOk, IfOk, option_map};
+ghost use Rattle.indexmap.specs.IndexMap.{get_by_text};
+ghost use Rattle.decl_syntax.specs.Items.{item_view, kind_view, variant_view, file_view};
+ghost use Rattle.type_names.specs.Meanings.{declared_name, declared_at};
+ghost use Rattle.type_names.specs.Imports.{kind_variants};
+ghost use Rattle.type_names.specs.Views.{meaning_view, means_in, text_of, with_place, variant_at, AreNames};
+
+use crate::meanings::{Meaning, built_in};
+use decl_syntax::{File, Item, ItemKind, Variant};
+use indexmap::IndexMap;
+use match_model::NoMemory;
+use std::alloc::Global;
+
+/// The names of a file: the number of the first enum or struct of each name, counted from 0 over all items, and
+/// for each item the number of the first variant of each name.
+#[derive(Debug, Drop)]
+pub struct Names {
+    pub(crate) declared: IndexMap<String, usize>,
+    pub(crate) variants: Vec<IndexMap<String, usize>>,
+}
+
+impl Names {
+    /// The names of this file.
+    pub fn new(alloc: Global, file: &File) -> Result<Names, NoMemory>
+        ensures { IfOk result (AreNames (file_view file.now)) }
+    {
+        let declared = declared_places(alloc, &file.items)?;
+        let variants = all_variant_places(alloc, &file.items)?;
+        Ok(Names { declared, variants })
+    }
+
+    /// What a name means as a type: the first enum or struct of the file that has it, else a built-in type.
+    pub fn meaning(&self, name: &str) -> Option<Meaning>
+        ensures { option_map meaning_view result ≡ means_in self.now name.now }
+    {
+        match self.declared.get(name) {
+            Some(i) => Some(Meaning::Item(*i)),
+            None => built_in(name),
+        }
+    }
+}
+
+// The enums and structs by name.
+fn declared_places(alloc: Global, items: &[Item]) -> Result<IndexMap<String, usize>, NoMemory>
+    ensures { IfOk result (λ places. get_by_text places ≡ declared_at (map item_view items.now)) }
+{
+    let mut places = IndexMap::new(alloc);
+    for (i, item) in items.iter().enumerate() {
+        note(&mut places, declared_name(&item.kind), i)?;
+    }
+    Ok(places)
+}
+
+// The name that an item declares as a type.
+fn declared_name(kind: &ItemKind) -> Option<&String>
+    ensures { text_of result ≡ declared_name (kind_view kind.now) }
+{
+    match kind {
+        ItemKind::Enum(e) => Some(&e.name),
+        ItemKind::Struct(s) => Some(&s.name),
+        ItemKind::Import(_) => None,
+        ItemKind::Function(_) => None,
+    }
+}
+
+// Notes that a name stands at a place, unless it stands at an earlier one.
+fn note(
+    places: &mut IndexMap<String, usize>,
+    name: Option<&String>,
+    at: usize,
+) -> Result<(), NoMemory>
+    ensures { OnOk result (get_by_text places.new
+        ≡ with_place (get_by_text places.old) (text_of name.entry) at) }
+{
+    let Some(text) = name else {
+        return Ok(());
+    };
+    if places.contains_key(text.as_str()) {
+        return Ok(());
+    }
+    let copy = text.clone()?;
+    places.insert(copy, at)?;
+    Ok(())
+}
+
+// The variants of each item by name.
+fn all_variant_places(
+    alloc: Global,
+    items: &[Item],
+) -> Result<Vec<IndexMap<String, usize>>, NoMemory>
+    ensures { IfOk result (λ all. map get_by_text all.items
+        ≡ map (λ i. variant_at (kind_variants i.kind)) (map item_view items.now)) }
+{
+    let mut all = Vec::new(alloc);
+    for item in items {
+        let places = item_variant_places(alloc, &item.kind)?;
+        all.push(places)?;
+    }
+    Ok(all)
+}
+
+// The variants of an item by name; what is no enum has none.
+fn item_variant_places(alloc: Global, kind: &ItemKind) -> Result<IndexMap<String, usize>, NoMemory>
+    ensures { IfOk result (λ places. get_by_text places ≡ variant_at (kind_variants (kind_view kind.now))) }
+{
+    match kind {
+        ItemKind::Enum(e) => variant_places(alloc, &e.variants),
+        _ => Ok(IndexMap::new(alloc)),
+    }
+}
+
+// The variants by name.
+fn variant_places(alloc: Global, variants: &[Variant]) -> Result<IndexMap<String, usize>, NoMemory>
+    ensures { IfOk result (λ places. get_by_text places ≡ variant_at (map variant_view variants.now)) }
+{
+    let mut places = IndexMap::new(alloc);
+    for (i, variant) in variants.iter().enumerate() {
+        note(&mut places, Some(&variant.name), i)?;
+    }
+    Ok(places)
+}
