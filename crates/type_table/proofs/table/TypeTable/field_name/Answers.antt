@@ -1,0 +1,33 @@
+use Rattle.std.proofs.Common.{List, sym, ap, ◌∙◌}
+use Rattle.std.specs.Prelude.{slice_get}
+use Rattle.match_model.specs.Types.{MType, NamedType, types_of}
+use Rattle.match_model.specs.Declarations.{MVariant}
+use Rattle.type_names.specs.declared.meanings.Owner.{Owner}
+use Rattle.type_names.specs.Views.{owner_view}
+use Rattle.type_table.specs.Nodes.{owner_arguments}
+use Rattle.type_table.specs.Tables.{table_type, table_program, type_parts, type_variant, field_name_of}
+use Rattle.type_table.proofs.FieldLemmas.{no_variants, option_unnamed, result_unnamed}
+use Rattle.type_table.proofs.table.TypeTable.field_name.Goals as goal
+
+pub returns-in-Some-Option : goal.returns-in-Some-Option
+returns-in-Some-Option c =
+    let table = c.args.self.now in
+    let parts = type_parts table c.args.ty in
+    let by = c.in-Some-Option.ensures.by in
+    let type = by.0 ∙ ap (λ (o : Owner). NamedType (owner_view o) (types_of parts)) c.in-Some-Option.field-0-is in
+    let count = by.1 ∙ ap (λ (o : Owner). owner_arguments (owner_view o)) c.in-Some-Option.field-0-is in
+    option_unnamed (table_program table) parts c.args.variant c.args.i count ∙ ap (λ (t : MType). field_name_of (type_variant (table_program table) t c.args.variant) c.args.i) (sym type)
+
+pub returns-in-Some-Result : goal.returns-in-Some-Result
+returns-in-Some-Result c =
+    let table = c.args.self.now in
+    let parts = type_parts table c.args.ty in
+    let by = c.in-Some-Result.ensures.by in
+    let type = by.0 ∙ ap (λ (o : Owner). NamedType (owner_view o) (types_of parts)) c.in-Some-Result.field-0-is in
+    let count = by.1 ∙ ap (λ (o : Owner). owner_arguments (owner_view o)) c.in-Some-Result.field-0-is in
+    result_unnamed (table_program table) parts c.args.variant c.args.i count ∙ ap (λ (t : MType). field_name_of (type_variant (table_program table) t c.args.variant) c.args.i) (sym type)
+
+pub returns-in-None : goal.returns-in-None
+returns-in-None c =
+    let table = c.args.self.now in
+    ap (λ (vs : List MVariant). field_name_of (slice_get vs c.args.variant) c.args.i) (no_variants (table_program table) (table_type table c.args.ty) c.in-None.ensures.owner)

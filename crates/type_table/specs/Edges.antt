@@ -1,0 +1,44 @@
+-- No meaning: a reading of which types a type has by value (`HasByValue` of specs/Faults.antt), as the edges of a graph. Of `count`
+-- items the item `i` is the node `i` of the graph, and the node `n` of the table is `count + n`. An item goes to its fields, a tuple,
+-- an array, `Option` and `Result` to their parts, and a declared type to its item.
+use Rattle.std.specs.Prelude.{ℕ, List, [], ◌∷◌, ◌++◌, nat_lt, if◌then◌else◌}
+use Rattle.type_names.specs.declared.meanings.Owner.TheVariants as owners
+use Rattle.type_table.specs.declared.nodes.Head.{Head}
+use Rattle.type_table.specs.declared.nodes.Head.TheVariants as heads
+use Rattle.type_table.specs.declared.nodes.Node.{Node}
+use Rattle.type_table.specs.declared.entries.VariantEntry as declared_variant
+use Rattle.type_table.specs.declared.entries.Entry.{Entry}
+use Rattle.type_table.specs.declared.entries.Entry.TheVariants as entries
+use Rattle.type_table.specs.Bodies.{node_atoms, variant_body}
+
+-- a declared type goes to its item
+abbrev pub item_edges : (count : ℕ) → ℕ → List ℕ
+item_edges count i = if nat_lt i count then (i ∷ []) else []
+
+-- where a node with this head and these parts goes
+abbrev pub node_edges : (count : ℕ) → Head → List ℕ → List ℕ
+node_edges count (heads.Base b) parts = []
+node_edges count (heads.Opaque o) parts = []
+node_edges count heads.Tuple parts = node_atoms count parts
+node_edges count (heads.Point mutable) parts = []
+node_edges count heads.Slice parts = []
+node_edges count (heads.Array n) parts = node_atoms count parts
+node_edges count (heads.Named (owners.Item i)) parts = item_edges count i
+node_edges count (heads.Named owners.Option) parts = node_atoms count parts
+node_edges count (heads.Named owners.Result) parts = node_atoms count parts
+
+-- where a node goes
+abbrev pub edges_of : (count : ℕ) → Node → List ℕ
+edges_of count n = node_edges count n.head n.parts.items
+
+-- the fields of all variants
+abbrev pub variants_edges : (count : ℕ) → List declared_variant.VariantEntry → List ℕ
+variants_edges count [] = []
+variants_edges count (v ∷ vs) = variant_body count v ++ variants_edges count vs
+
+-- where an item goes
+abbrev pub entry_edges : (count : ℕ) → Entry → List ℕ
+entry_edges count (entries.Struct id variant) = variant_body count variant
+entry_edges count (entries.Enum id name later variants) = variants_edges count variants.items
+entry_edges count (entries.Function param deref) = []
+entry_edges count entries.Import = []

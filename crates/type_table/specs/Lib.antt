@@ -1,0 +1,13 @@
+pub mod Nodes
+pub mod Readings
+pub mod Entries
+pub mod Bodies
+pub mod Edges
+pub mod Possible
+pub mod Known
+pub mod Tables
+pub mod Paths
+pub mod Marks
+pub mod Empty
+pub mod Readers
+pub mod Faults

@@ -1,0 +1,52 @@
+//! The types that a file names, each once, and what its items declare.
+//!
+//! A type is a node of a set (`nodes`): a head, as `Tuple` or `Slice`, and the numbers of the nodes of its parts, which
+//! stand before it. So a type is in the set once, and two numbers are equal exactly where their types are
+//! ([`TypeTable::equal_types_have_one_number`]). `written` puts a written type into the set, `entries` what the items
+//! declare, and `table` has both with the names of the file. `laws` has what follows of it.
+//!
+//! What a table says is told by plain definitions: `table_type` is the type that a number stands for, and
+//! `table_program` is what the file declares, as types of the model that the other crates share. The readers (`kinds`,
+//! `fields`, `readers`) answer by these.
+//!
+//! `values` tells of each item and each type whether it has a value, by the least model of Horn clauses. By it
+//! `emptiness` tells which types and variants are empty. `known` asks whether the types of a table are types of its
+//! program.
+//!
+//! `edges` has the types as a graph, whose edges go to what a type has by value; by its cycles `cyclic` finds the first
+//! item that contains itself, and `endless` finds the first without a finite value. `faults` finds the first item that
+//! breaks a rule, with the least rule that it breaks, from the first item that breaks each rule. `build` makes the
+//! table or gives that fault.
+//!
+//! `finding` tells what a path in a pattern finds, and the form of it.
+#![tactic(auto)]
+
+mod build;
+mod cyclic;
+mod edges;
+mod emptiness;
+mod endless;
+mod entries;
+#[cfg(test)]
+mod fault_tests;
+mod faults;
+mod fields;
+mod finding;
+mod kinds;
+mod known;
+mod laws;
+mod nodes;
+mod readers;
+#[cfg(test)]
+mod sources;
+mod table;
+#[cfg(test)]
+mod type_tests;
+mod values;
+mod written;
+
+pub use faults::DeclFault;
+pub use finding::Found;
+pub use kinds::TyKind;
+pub use table::{TyId, TypeTable};
+pub use type_names::{FormKind, Owner};
