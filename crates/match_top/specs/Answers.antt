@@ -1,14 +1,15 @@
 -- What is written for the bytes of a file, and the status that goes with it.
-use Rattle.std.specs.Prelude.{Option, Some, ◌≡◌, ◌⊎◌, ℕ, ◌+◌, Bool, true, false, List, None, take, length, nat_lt, MatchBool}
+use Rattle.std.specs.Prelude.{Option, Some, ◌≡◌, ◌⊎◌, ℕ, ◌+◌, List, None, take, length, nat_lt, MatchBool}
 use Rattle.verdict_json.specs.Refused.{refusal_text}
 use Rattle.decl_lexer.specs.Lexing.{Placed, HasTokens, HasFault}
 use Rattle.decl_syntax.specs.Units.{units}
 use Rattle.decl_syntax.specs.Items.{ItemTree}
 use Rattle.decl_parser.specs.FileGrammar.{IsFile, IsSyntaxFault, IsWideFault}
+use Rattle.match_model.specs.declared.Width.TheVariants.{Endless}
+use Rattle.type_table.specs.Faults.{IsFirstFault}
 use Rattle.match_top.specs.declared.statuses.Status.{Status}
-use Rattle.match_top.specs.declared.statuses.Status.TheVariants.{Clean, Found, Refused}
-use Rattle.match_top.specs.SmallConditions.{IsNotSmall}
-use Rattle.match_top.specs.SmallReports.{IsReported}
+use Rattle.match_top.specs.declared.statuses.Status.TheVariants.{Refused}
+use Rattle.match_top.specs.Reports.{IsReported}
 
 -- the greatest length of a source, in bytes (our own choice)
 unfoldable pub longest_source : ℕ
@@ -34,17 +35,6 @@ IsRefusedAt rule place text status = IsRefusedIn rule None place text status
 abbrev pub IsRefusedBy : ℕ → List ℕ → Status → Type 0
 IsRefusedBy rule text status = IsRefusedAt rule None text status
 
--- the status of a report, by whether every match in it is exhaustive
-abbrev pub status_of : Bool → Status
-status_of true = Clean
-status_of false = Found
-
--- the text is the report on a small source
-pub record IsReportedAs (source text : List ℕ) (status : Status) : Type 0 where
-  pub exhaustive : Bool
-  pub report : IsReported source text exhaustive
-  pub status_is : status ≡ status_of exhaustive
-
 -- the source does not lex, and is refused by the rule of its first fault at its place
 pub record IsRefusedFault (source text : List ℕ) (status : Status) : Type 0 where
   pub rule : ℕ
@@ -66,27 +56,40 @@ pub record IsRefusedWidth (tokens : List Placed) (text : List ℕ) (status : Sta
   pub fault : IsWideFault (units tokens) number place
   pub refused : IsRefusedIn 9 (Some number) (Some place) text status
 
--- the tokens spell a file, and are refused by rule 90
-pub record IsRefusedFile (tokens : List Placed) (text : List ℕ) (status : Status) : Type 0 where
+-- an item breaks a rule on declarations: the file is refused by the first such item's least rule, with the item's number
+-- and the place where it begins
+pub record IsRefusedDeclaration (items : List ItemTree) (text : List ℕ) (status : Status) : Type 0 where
+  pub rule : ℕ
+  pub number : ℕ
+  pub place : ℕ
+  pub fault : IsFirstFault items Endless rule number place
+  pub refused : IsRefusedIn rule (Some number) (Some place) text status
+
+-- the text and the status of a file of these items: it is refused by a rule on declarations, or there is a report on its
+-- functions
+unfoldable pub IsAnswerToItems : List ItemTree → List ℕ → Status → Type 0
+IsAnswerToItems items text status = IsRefusedDeclaration items text status ⊎ IsReported items text status
+
+-- the tokens spell a file, and its items are answered
+pub record IsAnswerToFile (tokens : List Placed) (text : List ℕ) (status : Status) : Type 0 where
   pub items : List ItemTree
   pub spelled : IsFile (units tokens) items
-  pub refused : IsRefusedBy 90 text status
+  pub answered : IsAnswerToItems items text status
 
--- tokens of a source that is no small one are refused by what they spell
-unfoldable pub IsRefusedTokens : List Placed → List ℕ → Status → Type 0
-IsRefusedTokens tokens text status = IsRefusedSyntax tokens text status ⊎ (IsRefusedWidth tokens text status ⊎ IsRefusedFile tokens text status)
+-- the text and the status of tokens: what they spell decides
+unfoldable pub IsAnswerToTokens : List Placed → List ℕ → Status → Type 0
+IsAnswerToTokens tokens text status = IsRefusedSyntax tokens text status ⊎ (IsRefusedWidth tokens text status ⊎ IsAnswerToFile tokens text status)
 
--- the source has tokens, but is no small one, and is refused by what its tokens spell
-pub record IsRefusedSource (source text : List ℕ) (status : Status) : Type 0 where
+-- the source has tokens, and they are answered
+pub record IsAnswerToSource (source text : List ℕ) (status : Status) : Type 0 where
   pub tokens : List Placed
   pub lexed : HasTokens source tokens
-  pub other : IsNotSmall source
-  pub refused : IsRefusedTokens tokens text status
+  pub answered : IsAnswerToTokens tokens text status
 
--- the text and the status of a source that is not too long: one that does not lex is refused with its first fault, a
--- small one is judged, any other is refused by what its tokens spell
+-- the text and the status of a source that is not too long: one that does not lex is refused with its first fault, any
+-- other is answered by its tokens
 unfoldable pub IsJudged : List ℕ → List ℕ → Status → Type 0
-IsJudged source text status = IsRefusedFault source text status ⊎ (IsReportedAs source text status ⊎ IsRefusedSource source text status)
+IsJudged source text status = IsRefusedFault source text status ⊎ IsAnswerToSource source text status
 
 -- the text and the status of a file that has these bytes: one that is longer than a source may be is refused by rule 7
 unfoldable pub Answers : List ℕ → List ℕ → Status → Type 0

@@ -1,18 +1,25 @@
 // The text that is written for the bytes of a file, with its status.
-ghost use Rattle.std.specs.Prelude.{◌≡◌, ◌≤◌, List, ℕ, length, nat_lt, IfOk};
+ghost use Rattle.std.specs.Prelude.{◌≡◌, ◌≤◌, ◌<◌, ◌^◌, List, ℕ, length, nat_lt, sum_by, IfOk, IfErr};
 ghost use Rattle.decl_lexer.specs.Tokens.{tokens_view};
-ghost use Rattle.match_top.specs.Answers.{Answers, IsJudged, IsRefusedIn, IsRefusedAt, IsRefusedBy, IsRefusedTokens, taken, longest_source, status_of};
-ghost use Rattle.match_top.specs.SmallConditions.{IsNotSmall};
+ghost use Rattle.decl_syntax.specs.Items.{file_view};
+ghost use Rattle.decl_parser.specs.Counts.{kind_arms};
+ghost use Rattle.match_model.specs.declared.Width.TheVariants.{Endless};
+ghost use Rattle.type_table.specs.Faults.{BreaksNone, IsFaultOf};
+ghost use Rattle.match_top.specs.Answers.{Answers, IsJudged, IsAnswerToItems, IsAnswerToTokens};
+ghost use Rattle.match_top.specs.Answers.{IsRefusedIn, IsRefusedAt, IsRefusedBy, taken, longest_source};
+ghost use Rattle.match_top.specs.Reports.{IsReported, status_of};
 ghost use Rattle.match_top.specs.Statuses.{IsVerdict};
 ghost use Rattle.verdict_json.specs.Rules.{IsRule};
 
 use crate::Status;
 use crate::reading::LONGEST_SOURCE;
-use crate::small::{Reported, report};
+use crate::reporting::{Reported, report_on};
 use decl_lexer::{LexFault, Token, lex};
 use decl_parser::{ParseFault, parse};
-use match_model::NoMemory;
+use decl_syntax::File;
+use match_model::{NoMemory, Width};
 use std::alloc::Global;
+use type_table::{DeclFault, TypeTable};
 use verdict_json::{Refusal, refusal_bytes};
 
 /// What is written, and the status of a run that has written it.
@@ -40,6 +47,77 @@ fn is_too_long(source: &[u8]) -> bool
     ensures { result ≡ nat_lt longest_source (length source.now) }
 {
     source.len() > LONGEST_SOURCE
+}
+
+// The answer to a source that is not too long: its first fault, or else by its tokens.
+fn judged(alloc: Global, source: &[u8]) -> Result<Answer, NoMemory>
+    requires { length source.now ≤ longest_source }
+    ensures answers { IfOk result (λ a. IsJudged source.now a.text.items a.status) }
+    ensures verdict { IfOk result (λ a. IsVerdict a.status) }
+{
+    match lex(alloc, source) {
+        Ok(tokens) => answer_to_tokens(alloc, &tokens),
+        Err(LexFault::Rule { rule, at }) => refused_at(alloc, rule, Some(at)),
+        Err(LexFault::NoMemory) => Err(NoMemory),
+    }
+}
+
+// The answer to tokens: the answer to the file that they spell, or else their fault.
+fn answer_to_tokens(alloc: Global, tokens: &[Token]) -> Result<Answer, NoMemory>
+    requires { length tokens.now ≤ longest_source }
+    ensures answers { IfOk result (λ a. IsAnswerToTokens (tokens_view tokens.now) a.text.items a.status) }
+    ensures verdict { IfOk result (λ a. IsVerdict a.status) }
+{
+    let fault = match parse(alloc, tokens) {
+        Ok(file) => return answer_to_file(alloc, &file),
+        Err(fault) => fault,
+    };
+    match fault {
+        ParseFault::Syntax { item, at } => refused_in(alloc, 6, Some(item), Some(at)),
+        ParseFault::Wide { item, at } => refused_in(alloc, 9, Some(item), Some(at)),
+        ParseFault::NoMemory => Err(NoMemory),
+    }
+}
+
+// The answer to a file: its first fault on declarations, or else the report on its functions.
+fn answer_to_file(alloc: Global, file: &File) -> Result<Answer, NoMemory>
+    requires { sum_by (λ i. kind_arms i.kind) (file_view file.now) < 2 ^ 32 }
+    ensures answers { IfOk result (λ a. IsAnswerToItems (file_view file.now) a.text.items a.status) }
+    ensures verdict { IfOk result (λ a. IsVerdict a.status) }
+{
+    match declared(alloc, file) {
+        Ok(()) => reported(alloc, file),
+        Err(DeclFault::Rule { rule, item, at }) => refused_in(alloc, rule, Some(item), Some(at)),
+        Err(DeclFault::NoMemory) => Err(NoMemory),
+    }
+}
+
+// The first fault of a file on declarations, if there is one. The table of its types is not kept.
+fn declared(alloc: Global, file: &File) -> Result<(), DeclFault>
+    ensures unbroken { IfOk result (λ _. BreaksNone (file_view file.now) Endless) }
+    ensures fault { IfErr result (IsFaultOf (file_view file.now) Endless) }
+{
+    TypeTable::build(alloc, file, Width::Endless)?;
+    Ok(())
+}
+
+// The report on a file of which no item breaks a rule on declarations.
+fn reported(alloc: Global, file: &File) -> Result<Answer, NoMemory>
+    requires unbroken { BreaksNone (file_view file.now) Endless }
+    requires few { sum_by (λ i. kind_arms i.kind) (file_view file.now) < 2 ^ 32 }
+    ensures answers { IfOk result (λ a. IsReported (file_view file.now) a.text.items a.status) }
+    ensures verdict { IfOk result (λ a. IsVerdict a.status) }
+{
+    let Reported { text, clean } = report_on(alloc, file)?;
+    let status = status_of(clean);
+    Ok(Answer { text, status })
+}
+
+fn status_of(clean: bool) -> Status
+    ensures status { result ≡ status_of clean }
+    ensures verdict { IsVerdict result }
+{
+    if clean { Status::Clean } else { Status::Found }
 }
 
 // The refusal of the whole source by a rule, with its item and its place, if any.
@@ -72,71 +150,4 @@ fn refused_at(alloc: Global, rule: u32, at: Option<u64>) -> Result<Answer, NoMem
     ensures verdict { IfOk result (λ a. IsVerdict a.status) }
 {
     refused_in(alloc, rule, None, at)
-}
-
-fn status_of(exhaustive: bool) -> Status
-    ensures status { result ≡ status_of exhaustive }
-    ensures verdict { IsVerdict result }
-{
-    if exhaustive {
-        Status::Clean
-    } else {
-        Status::Found
-    }
-}
-
-// The answer to the tokens of a source that is no small one: rule 90 where they spell a file, or else their fault.
-fn refused_tokens(alloc: Global, tokens: &[Token]) -> Result<Answer, NoMemory>
-    ensures answers { IfOk result (λ a. IsRefusedTokens (tokens_view tokens.now) a.text.items a.status) }
-    ensures verdict { IfOk result (λ a. IsVerdict a.status) }
-{
-    let fault = match parse(alloc, tokens) {
-        Ok(_) => return refused_at(alloc, 90, None),
-        Err(fault) => fault,
-    };
-    match fault {
-        ParseFault::Syntax { item, at } => refused_in(alloc, 6, Some(item), Some(at)),
-        ParseFault::Wide { item, at } => refused_in(alloc, 9, Some(item), Some(at)),
-        ParseFault::NoMemory => Err(NoMemory),
-    }
-}
-
-// The answer to a text that is no small source: its first fault, or else by its tokens.
-fn refused_text(alloc: Global, source: &str) -> Result<Answer, NoMemory>
-    ensures answers { IfOk result (λ a. IsNotSmall source.now → IsJudged source.now a.text.items a.status) }
-    ensures verdict { IfOk result (λ a. IsVerdict a.status) }
-{
-    match lex(alloc, source.as_bytes()) {
-        Ok(tokens) => refused_tokens(alloc, &tokens),
-        Err(LexFault::Rule { rule, at }) => refused_at(alloc, rule, Some(at)),
-        Err(LexFault::NoMemory) => Err(NoMemory),
-    }
-}
-
-// The answer to a text that is not too long: it is read as a small source first.
-#[tactic(auto, unfolding(crate::specs::Answers::longest_source))]
-fn judged_text(alloc: Global, source: &str) -> Result<Answer, NoMemory>
-    requires { length source.now ≤ longest_source }
-    ensures answers { IfOk result (λ a. IsJudged source.now a.text.items a.status) }
-    ensures verdict { IfOk result (λ a. IsVerdict a.status) }
-{
-    match report(alloc, source)? {
-        Some(Reported { text, exhaustive }) => Ok(Answer {
-            text,
-            status: status_of(exhaustive),
-        }),
-        None => refused_text(alloc, source),
-    }
-}
-
-// The answer to a source that is not too long.
-fn judged(alloc: Global, source: &[u8]) -> Result<Answer, NoMemory>
-    requires { length source.now ≤ longest_source }
-    ensures answers { IfOk result (λ a. IsJudged source.now a.text.items a.status) }
-    ensures verdict { IfOk result (λ a. IsVerdict a.status) }
-{
-    match str::from_utf8(source) {
-        Ok(text) => judged_text(alloc, text),
-        Err(e) => refused_at(alloc, 1, Some(e.valid_up_to() as u64)),
-    }
 }

@@ -3,13 +3,15 @@
 //! `run` reads the words, takes the file that they name from a source of files, makes the whole answer in memory and
 //! only then writes it to a sink. Its contract says when each status comes and which bytes were written, for every
 //! source and every sink: the relation `Answers` between the bytes of a file, the text and the status is all that it
-//! knows of matches. The way of a file through the modules: `reading` (the bytes), `answering` (text and status),
-//! `writing` (the sink).
+//! knows of matches. The way of a file through the modules: `reading` (the bytes), `answering` (tokens, items and their
+//! faults; text and status), `reporting` (the entries of the functions), `writing` (the sink).
 #![tactic(auto)]
 
 mod answering;
 mod reading;
-mod small;
+mod reporting;
+#[cfg(test)]
+mod source_tests;
 mod statuses;
 #[cfg(test)]
 mod tests;

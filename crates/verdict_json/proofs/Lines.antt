@@ -1,4 +1,4 @@
--- The text of a report, from the texts of its functions.
+-- The text of a report, from the texts of its entries.
 use Rattle.std.proofs.Common.{◌≡◌, ◌∙◌, sym, ap, refl, List, [], ◌∷◌, ◌++◌, ℕ, Bool, true, false, map, append_assoc, append-nil, codes, string_bytes}
 use Rattle.serde_json.specs.Data.{string}
 use Rattle.serde_json.specs.View.{items_of}
@@ -6,60 +6,60 @@ use Rattle.serde_json.specs.Written.{compact_text, items_text, comma_if}
 use Rattle.serde_json.proofs.OnLiterals.{serde_json_on_literals}
 use Rattle.verdict_json.specs.declared.report.FnReport.{FnReport}
 use Rattle.verdict_json.specs.declared.report.ReportText.{ReportText}
-use Rattle.verdict_json.specs.Report.{unreachable_data, witness_data, function_data, report_data, report_text}
-use Rattle.verdict_json.specs.Writing.{flag_word, listed, is_behind, HasReports}
+use Rattle.verdict_json.specs.Report.{ReportEntry, unreachable_data, witness_data, function_data, entry_data, report_data, report_text}
+use Rattle.verdict_json.specs.Writing.{flag_word, listed, is_behind, HasEntries}
 
 -- the bracket closes the list
-closing : (later : Bool) (fs : List FnReport) → listed later fs ++ 93 ∷ [] ≡ items_text later (items_of (map function_data fs))
+closing : (later : Bool) (fs : List ReportEntry) → listed later fs ++ 93 ∷ [] ≡ items_text later (items_of (map entry_data fs))
 closing later [] = refl
 closing later (f ∷ fs) =
-    append_assoc (comma_if later) (compact_text (function_data f) ++ listed true fs) (93 ∷ [])
-    ∙ ap (λ z. comma_if later ++ z) (append_assoc (compact_text (function_data f)) (listed true fs) (93 ∷ [])
-    ∙ ap (λ z. compact_text (function_data f) ++ z) (closing true fs))
+    append_assoc (comma_if later) (compact_text (entry_data f) ++ listed true fs) (93 ∷ [])
+    ∙ ap (λ z. comma_if later ++ z) (append_assoc (compact_text (entry_data f)) (listed true fs) (93 ∷ [])
+    ∙ ap (λ z. compact_text (entry_data f) ++ z) (closing true fs))
 
-opened : (fs : List FnReport) → compact_text (report_data fs) ++ 10 ∷ [] ≡ codes "{\"functions\":[" ++ ((items_text false (items_of (map function_data fs)) ++ 125 ∷ []) ++ 10 ∷ [])
+opened : (fs : List ReportEntry) → compact_text (report_data fs) ++ 10 ∷ [] ≡ codes "{\"functions\":[" ++ ((items_text false (items_of (map entry_data fs)) ++ 125 ∷ []) ++ 10 ∷ [])
 unfolding serde_json_on_literals
 opened fs = refl
 
 -- the bracket and the brace that close a report make its text
-pub closed : (text : List ℕ) (fs : List FnReport) → text ≡ codes "{\"functions\":[" ++ listed false fs → text ++ codes "]}\n" ≡ report_text fs
+pub closed : (text : List ℕ) (fs : List ReportEntry) → text ≡ codes "{\"functions\":[" ++ listed false fs → text ++ codes "]}\n" ≡ report_text fs
 unfolding report_text
 closed text fs e =
     let start = codes "{\"functions\":[" in
-    let items = items_text false (items_of (map function_data fs)) in
+    let items = items_text false (items_of (map entry_data fs)) in
     ap (λ z. z ++ codes "]}\n") e
     ∙ append_assoc start (listed false fs) (codes "]}\n")
     ∙ ap (λ z. start ++ z) (sym (append_assoc (listed false fs) (93 ∷ []) (125 ∷ 10 ∷ [])) ∙ ap (λ z. z ++ 125 ∷ 10 ∷ []) (closing false fs)
     ∙ sym (append_assoc items (125 ∷ []) (10 ∷ [])))
     ∙ sym (opened fs)
 
-behind_more : (fs : List FnReport) → is_behind true fs ≡ true
+behind_more : (fs : List ReportEntry) → is_behind true fs ≡ true
 behind_more [] = refl
 behind_more (f ∷ fs) = refl
 
-last_one : (later : Bool) (fs : List FnReport) (f : FnReport)
-    → listed later (fs ++ f ∷ []) ≡ listed later fs ++ (comma_if (is_behind later fs) ++ compact_text (function_data f))
-last_one later [] f = ap (λ z. comma_if later ++ z) (append-nil (compact_text (function_data f)))
+last_one : (later : Bool) (fs : List ReportEntry) (f : ReportEntry)
+    → listed later (fs ++ f ∷ []) ≡ listed later fs ++ (comma_if (is_behind later fs) ++ compact_text (entry_data f))
+last_one later [] f = ap (λ z. comma_if later ++ z) (append-nil (compact_text (entry_data f)))
 last_one later (g ∷ fs) f =
-    let text = compact_text (function_data g) in
-    let piece = comma_if true ++ compact_text (function_data f) in
-    ap (λ z. comma_if later ++ (text ++ z)) (last_one true fs f ∙ ap (λ b. listed true fs ++ (comma_if b ++ compact_text (function_data f))) (behind_more fs))
+    let text = compact_text (entry_data g) in
+    let piece = comma_if true ++ compact_text (entry_data f) in
+    ap (λ z. comma_if later ++ (text ++ z)) (last_one true fs f ∙ ap (λ b. listed true fs ++ (comma_if b ++ compact_text (entry_data f))) (behind_more fs))
     ∙ ap (λ z. comma_if later ++ z) (sym (append_assoc text (listed true fs) piece))
     ∙ sym (append_assoc (comma_if later) (text ++ listed true fs) piece)
 
-behind_last : (fs : List FnReport) (f : FnReport) → is_behind false (fs ++ f ∷ []) ≡ true
+behind_last : (fs : List ReportEntry) (f : ReportEntry) → is_behind false (fs ++ f ∷ []) ≡ true
 behind_last [] f = refl
 behind_last (g ∷ fs) f = refl
 
--- a report whose text has grown by a comma, where one is due, and a function's text has that function at its end
-pub grown : (fs : List FnReport) (f : FnReport) (t u : ReportText) → HasReports fs t → u.later ≡ true
-    → string_bytes u.text ≡ (string_bytes t.text ++ comma_if t.later) ++ compact_text (function_data f) → HasReports (fs ++ f ∷ []) u
+-- a report whose text has grown by a comma, where one is due, and an entry's text has that entry at its end
+pub grown : (fs : List ReportEntry) (f : ReportEntry) (t u : ReportText) → HasEntries fs t → u.later ≡ true
+    → string_bytes u.text ≡ (string_bytes t.text ++ comma_if t.later) ++ compact_text (entry_data f) → HasEntries (fs ++ f ∷ []) u
 grown fs f t u has later e = record {
   begun =
-      e ∙ append_assoc (string_bytes t.text) (comma_if t.later) (compact_text (function_data f))
-      ∙ ap (λ z. z ++ (comma_if t.later ++ compact_text (function_data f))) has.begun
-      ∙ append_assoc (codes "{\"functions\":[") (listed false fs) (comma_if t.later ++ compact_text (function_data f))
-      ∙ ap (λ b. codes "{\"functions\":[" ++ (listed false fs ++ (comma_if b ++ compact_text (function_data f)))) has.behind
+      e ∙ append_assoc (string_bytes t.text) (comma_if t.later) (compact_text (entry_data f))
+      ∙ ap (λ z. z ++ (comma_if t.later ++ compact_text (entry_data f))) has.begun
+      ∙ append_assoc (codes "{\"functions\":[") (listed false fs) (comma_if t.later ++ compact_text (entry_data f))
+      ∙ ap (λ b. codes "{\"functions\":[" ++ (listed false fs ++ (comma_if b ++ compact_text (entry_data f)))) has.behind
       ∙ ap (λ z. codes "{\"functions\":[" ++ z) (sym (last_one false fs f));
   behind = later ∙ sym (behind_last fs f);
 }

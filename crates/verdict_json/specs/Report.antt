@@ -8,6 +8,9 @@ use Rattle.verdict_json.specs.declared.entry.Unreachable.{Unreachable}
 use Rattle.verdict_json.specs.declared.entry.Witness.{Witness}
 use Rattle.verdict_json.specs.declared.entry.Witness.TheVariants.{Any, Flag, Unit}
 use Rattle.verdict_json.specs.declared.report.FnReport.{FnReport}
+use Rattle.verdict_json.specs.declared.refusal.Refusal.{Refusal}
+use Rattle.verdict_json.specs.Refused.{name_or_empty, refusal_data}
+use Rattle.verdict_json.specs.Rules.{name_of}
 
 -- an entry of the unreachable list
 abbrev pub unreachable_data : Unreachable → Data
@@ -52,10 +55,26 @@ function_data f =
     (member (codes "unreachable") (array (items_of (map unreachable_data f.unreachable.items)))
     (member (codes "witnesses") (array (items_of (map witness_data f.witnesses.items))) no_members)))))
 
--- the report on these functions, in their order
-abbrev pub report_data : List FnReport → Data
-report_data functions = object (member (codes "functions") (array (items_of (map function_data functions))) no_members)
+-- the refusal of the function of this name
+abbrev pub refused_data : List ℕ → Refusal → Data
+refused_data name r =
+    object (member (codes "name") (string name)
+    (member (codes "refused") (refusal_data r (name_or_empty (name_of r.rule))) no_members))
+
+-- an entry of a report: what is reported of a function, or the name of one that is refused with its refusal
+pub data ReportEntry : Type 0 where
+  JudgedFunction : FnReport → ReportEntry
+  RefusedFunction : List ℕ → Refusal → ReportEntry
+
+-- an entry as it is written
+abbrev pub entry_data : ReportEntry → Data
+entry_data (JudgedFunction f) = function_data f
+entry_data (RefusedFunction name r) = refused_data name r
+
+-- the report of these entries, in their order
+abbrev pub report_data : List ReportEntry → Data
+report_data entries = object (member (codes "functions") (array (items_of (map entry_data entries))) no_members)
 
 -- the bytes that are written for a report, the line feed included
-unfoldable pub report_text : List FnReport → List ℕ
-report_text functions = compact_text (report_data functions) ++ 10 ∷ []
+unfoldable pub report_text : List ReportEntry → List ℕ
+report_text entries = compact_text (report_data entries) ++ 10 ∷ []

@@ -1,26 +1,25 @@
 -- A report to which functions are still added.
 use Rattle.std.specs.Prelude.{◌≡◌, ℕ, List, [], ◌∷◌, ◌++◌, Bool, true, false, codes, string_bytes}
 use Rattle.serde_json.specs.Written.{comma_if, compact_text}
-use Rattle.verdict_json.specs.declared.report.FnReport.{FnReport}
 use Rattle.verdict_json.specs.declared.report.ReportText.{ReportText}
-use Rattle.verdict_json.specs.Report.{function_data}
+use Rattle.verdict_json.specs.Report.{ReportEntry, entry_data}
 
 -- a truth value as JSON writes it
 abbrev pub flag_word : Bool → List ℕ
 flag_word true = codes "true"
 flag_word false = codes "false"
 
--- the texts of the reports with commas between them, and one in front where something stands before
-abbrev pub listed : Bool → List FnReport → List ℕ
+-- the texts of the entries with commas between them, and one in front where something stands before
+abbrev pub listed : Bool → List ReportEntry → List ℕ
 listed later [] = []
-listed later (f ∷ fs) = comma_if later ++ (compact_text (function_data f) ++ listed true fs)
+listed later (e ∷ es) = comma_if later ++ (compact_text (entry_data e) ++ listed true es)
 
--- whether something stands before what comes behind these reports
-abbrev pub is_behind : Bool → List FnReport → Bool
+-- whether something stands before what comes behind these entries
+abbrev pub is_behind : Bool → List ReportEntry → Bool
 is_behind later [] = later
-is_behind later (f ∷ fs) = true
+is_behind later (e ∷ es) = true
 
--- the text has the reports on these functions, and nothing behind them
-pub record HasReports (reports : List FnReport) (t : ReportText) : Type 0 where
-  pub begun : string_bytes t.text ≡ codes "{\"functions\":[" ++ listed false reports
-  pub behind : t.later ≡ is_behind false reports
+-- the text has these entries, and nothing behind them
+pub record HasEntries (entries : List ReportEntry) (t : ReportText) : Type 0 where
+  pub begun : string_bytes t.text ≡ codes "{\"functions\":[" ++ listed false entries
+  pub behind : t.later ≡ is_behind false entries

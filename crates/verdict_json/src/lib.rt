@@ -1,8 +1,9 @@
 //! The output of the checker as JSON: compact, the keys of an object ascending, one line feed at the end.
 //!
-//! A report is written function by function into one text, so that no report but the one that is being written lies in
-//! memory as a whole. Each text is the text that `serde_json` gives for the value that `specs/Report.antt` states, byte
-//! for byte: `report_text` for the reports that were added, in their order, and `refusal_text` for a refusal.
+//! A report has an entry for each function: what is reported of it, or its refusal. It is written entry by entry into
+//! one text, so that no entry but the one that is being written lies in memory as a whole. Each text is the text that
+//! `serde_json` gives for the value that `specs/Report.antt` states, byte for byte: `report_text` for the entries that
+//! were added, in their order, and `refusal_text` for a refusal that stands alone.
 #![tactic(auto)]
 
 mod entry;

@@ -1,9 +1,10 @@
 // Refusals.
-ghost use Rattle.std.specs.Prelude.{◌≡◌, IfOk, IsSome, string_bytes};
+ghost use Rattle.std.specs.Prelude.{◌≡◌, IfOk, IsSome, Some, string_bytes};
 ghost use Rattle.serde_json.specs.View.{view};
 ghost use Rattle.serde_json.specs.Written.{has_float, compact_text};
-ghost use Rattle.verdict_json.specs.Rules.{IsRule};
+ghost use Rattle.verdict_json.specs.Rules.{IsRule, name_of};
 ghost use Rattle.verdict_json.specs.Refused.{refusal_data, alone_data, refusal_text, number_data};
+ghost use Rattle.verdict_json.specs.Report.{refused_data};
 
 use crate::rules::rule_name;
 use match_model::NoMemory;
@@ -64,6 +65,28 @@ fn refusal_line(alloc: Global, refusal: &Refusal) -> Result<String, AllocError>
     let mut text = alone_value(alloc, refusal, name)?.to_string(alloc)?;
     text.push('\n')?;
     Ok(text)
+}
+
+fn refused_value(
+    alloc: Global,
+    function: &str,
+    refusal: &Refusal,
+    name: &str,
+) -> Result<Value, AllocError>
+    requires { name_of refusal.now.rule ≡ Some name.now }
+    ensures { IfOk result (λ v. view v ≡ refused_data function.now refusal.now) }
+{
+    let refused = refusal_value(alloc, refusal, name)?;
+    json!(in alloc; {"name": function, "refused": refused})
+}
+
+// The text of the entry of a function of this name that is refused.
+pub fn refused_entry(alloc: Global, function: &str, refusal: &Refusal) -> Result<String, AllocError>
+    requires { IsRule refusal.now.rule }
+    ensures { IfOk result (λ s. string_bytes s ≡ compact_text (refused_data function.now refusal.now)) }
+{
+    let name = rule_name(refusal.rule).unwrap();
+    refused_value(alloc, function, refusal, name)?.to_string(alloc)
 }
 
 /// The whole output for a file or a value that is refused: the refusal with the rule's name, and a line feed.

@@ -3,11 +3,13 @@ ghost use Rattle.std.specs.Prelude.{◌≡◌, ◌++◌, ◌∷◌, [], List, ma
 ghost use Rattle.serde_json.specs.Data.{string};
 ghost use Rattle.serde_json.specs.Written.{compact_text, items_text, comma_if};
 ghost use Rattle.serde_json.specs.View.{items_of};
-ghost use Rattle.verdict_json.specs.Report.{report_text, function_data, unreachable_data, witness_data};
-ghost use Rattle.verdict_json.specs.Writing.{HasReports, flag_word};
-ghost use Rattle.verdict_json.specs.declared.report.FnReport.{FnReport};
+ghost use Rattle.verdict_json.specs.Report.{ReportEntry, JudgedFunction, RefusedFunction, report_text};
+ghost use Rattle.verdict_json.specs.Report.{function_data, unreachable_data, witness_data};
+ghost use Rattle.verdict_json.specs.Rules.{IsRule};
+ghost use Rattle.verdict_json.specs.Writing.{HasEntries, flag_word};
 
 use crate::entry::{Unreachable, Witness, unreachable_entry, witness_entry};
+use crate::refusal::{Refusal, refused_entry};
 use match_model::NoMemory;
 use serde_json::json;
 use std::alloc::{AllocError, Global};
@@ -25,7 +27,7 @@ pub struct FnReport<'a> {
     pub witnesses: Vec<Witness<'a>>,
 }
 
-/// The text of a report to which one function is added after the other.
+/// The text of a report to which the entry of one function is added after the other.
 #[derive(Debug, Drop)]
 pub struct ReportText {
     text: String,
@@ -37,10 +39,10 @@ pub struct ReportText {
 fn push_comma(text: &mut String, later: bool) -> Result<(), AllocError>
     ensures { OnOk result (string_bytes text.new ≡ string_bytes text.old ++ comma_if later) }
 {
-    if later {
-        text.push(',')?;
+    if !later {
+        return Ok(());
     }
-    Ok(())
+    text.push(',')
 }
 
 // Adds the name of a function as JSON.
@@ -118,7 +120,7 @@ fn push_function(alloc: Global, text: &mut String, report: &FnReport<'_>) -> Res
 impl ReportText {
     /// The report on no function.
     pub fn begin(alloc: Global) -> Result<ReportText, NoMemory>
-        ensures { IfOk result (HasReports []) }
+        ensures { IfOk result (HasEntries []) }
     {
         let text = String::from_str(alloc, "{\"functions\":[")?;
         Ok(ReportText {
@@ -128,10 +130,10 @@ impl ReportText {
         })
     }
 
-    /// The report with one more function at its end.
+    /// The report with what is reported of one more function at its end.
     pub fn add(self, report: &FnReport<'_>) -> Result<ReportText, NoMemory>
-        ensures { (reports : List FnReport) → HasReports reports self
-            → IfOk result (HasReports (reports ++ report.now ∷ [])) }
+        ensures { (entries : List ReportEntry) → HasEntries entries self
+            → IfOk result (HasEntries (entries ++ JudgedFunction report.now ∷ [])) }
     {
         let ReportText {
             mut text,
@@ -147,10 +149,32 @@ impl ReportText {
         })
     }
 
+    /// The report with the refusal of the function of this name at its end.
+    ///
+    /// The rule is one that has a name.
+    pub fn add_refused(self, name: &str, refusal: &Refusal) -> Result<ReportText, NoMemory>
+        requires { IsRule refusal.now.rule }
+        ensures { (entries : List ReportEntry) → HasEntries entries self
+            → IfOk result (HasEntries (entries ++ RefusedFunction name.now refusal.now ∷ [])) }
+    {
+        let ReportText {
+            mut text,
+            later,
+            alloc,
+        } = self;
+        push_comma(&mut text, later)?;
+        text.push_str(refused_entry(alloc, name, refusal)?.as_str())?;
+        Ok(ReportText {
+            text,
+            later: true,
+            alloc,
+        })
+    }
+
     /// The whole output: the report, and a line feed.
     pub fn finish(self) -> Result<Vec<u8>, NoMemory>
-        ensures { (reports : List FnReport) → HasReports reports self
-            → IfOk result (λ bytes. bytes.items ≡ report_text reports) }
+        ensures { (entries : List ReportEntry) → HasEntries entries self
+            → IfOk result (λ bytes. bytes.items ≡ report_text entries) }
     {
         let ReportText { mut text, .. } = self;
         text.push_str("]}\n")?;

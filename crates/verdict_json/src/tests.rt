@@ -19,6 +19,38 @@ const NOT_BUILT: &[u8] =
 const ALL_PLACES: &[u8] =
     b"{\"refused\":{\"arm\":0,\"at\":19,\"item\":1,\"name\":\"literal-out-of-range\",\"rule\":28}}\n";
 
+// A refused function stands among the judged ones.
+const WITH_REFUSED: &[u8] = b"{\"functions\":[\
+{\"name\":\"f\",\"refused\":{\"arm\":0,\"at\":28,\"item\":1,\"name\":\"unknown-name\",\"rule\":20}},\
+{\"exhaustive\":true,\"name\":\"g\",\"overlaps\":[],\"unreachable\":[],\"witnesses\":[]},\
+{\"name\":\"h\",\"refused\":{\"arm\":null,\"at\":null,\"item\":0,\"name\":\"not-built\",\"rule\":90}}]}\n";
+
+fn with_refused(alloc: Global) -> Result<Vec<u8>, Fail> {
+    let unknown = Refusal {
+        rule: 20,
+        item: Some(1),
+        arm: Some(0),
+        at: Some(28),
+    };
+    let judged = FnReport {
+        name: "g",
+        exhaustive: true,
+        unreachable: Vec::new(alloc),
+        witnesses: Vec::new(alloc),
+    };
+    let not_built = Refusal {
+        rule: 90,
+        item: Some(0),
+        arm: None,
+        at: None,
+    };
+    let report = ReportText::begin(alloc)?
+        .add_refused("f", &unknown)?
+        .add(&judged)?
+        .add_refused("h", &not_built)?;
+    Ok(report.finish()?)
+}
+
 fn three(alloc: Global) -> Result<Vec<u8>, Fail> {
     let mut first = FnReport {
         name: "f",
@@ -67,6 +99,7 @@ fn reports(rt: HostRuntime) -> Result<(), Fail> {
     let alloc = rt.alloc();
     assert_eq!(rt; ReportText::begin(alloc)?.finish()?.as_slice(), EMPTY);
     assert_eq!(rt; three(alloc)?.as_slice(), THREE);
+    assert_eq!(rt; with_refused(alloc)?.as_slice(), WITH_REFUSED);
     Ok(())
 }
 

@@ -1,9 +1,16 @@
-use Rattle.std.proofs.Common.{rules, refl, inl}
-use Rattle.std.specs.Str.{IsValidUpTo}
-use Rattle.match_top.proofs.Judged.{fault_answer}
+use Rattle.std.proofs.Common.{◌≡◌, rules}
+use Rattle.decl_lexer.specs.Lexing.{HasTokens, HasFault}
+use Rattle.decl_lexer.specs.Tokens.{tokens_view}
+use Rattle.match_top.proofs.Judged.{fault_answer, tokens_answer}
 use Rattle.match_top.proofs.answering.judged.Goals as goal
 
-pub returns-in-Err-clause-answers : goal.returns-in-Err-clause-answers
-returns-in-Err-clause-answers c =
-    let bad : IsValidUpTo c.args.source.now c.valid_up_to.result = search rules in
-    fault_answer c.args.source.now 1 c.valid_up_to.result _ (inl (refl, bad)) c.refused_at.ensures.answers
+pub returns-in-Ok-clause-answers : goal.returns-in-Ok-clause-answers
+returns-in-Ok-clause-answers c =
+    let same : c.deref.result.now ≡ c.in-Ok.tokens.items = search rules in
+    let lexed : HasTokens c.args.source.now (tokens_view c.in-Ok.tokens.items) = search rules in
+    tokens_answer c.args.source.now (tokens_view c.deref.result.now) _ (rw same lexed) c.answer_to_tokens.ensures.answers
+
+pub returns-in-Err-Rule-clause-answers : goal.returns-in-Err-Rule-clause-answers
+returns-in-Err-Rule-clause-answers c =
+    let fault : HasFault c.args.source.now c.in-Err-Rule.rule c.in-Err-Rule.at = search rules in
+    fault_answer c.args.source.now _ _ _ fault c.refused_at.ensures.answers

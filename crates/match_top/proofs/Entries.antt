@@ -1,0 +1,98 @@
+-- Entry after entry of a report.
+use Rattle.std.proofs.Common.{◌≡◌, ◌∙◌, ℕ, suc, ◌+◌, ◌<◌, ◌≤◌, Bool, true, false, ◌&&◌, List, [], ◌∷◌, ◌++◌, map, take, length, sum_by, get_or, refl, sym, ap, subst, append_assoc, append-nil, arith}
+use Rattle.std.specs.List.{AllZip, list_all}
+use Rattle.std.proofs.Math.ListN.{get_or-map}
+use Rattle.std.proofs.lemmas.List.{length-map, length-take-le, take_more, map-append}
+use Rattle.std.proofs.lemmas.List.Sums.{get_or-le-sum_by}
+use Rattle.decl_syntax.specs.declared.items.Item.{Item}
+use Rattle.decl_syntax.specs.Items.{ItemTree, item_view, kind_view}
+use Rattle.decl_parser.specs.Counts.{kind_arms}
+use Rattle.verdict_json.specs.declared.refusal.Refusal.{Refusal}
+use Rattle.verdict_json.specs.Report.{ReportEntry, RefusedFunction}
+use Rattle.verdict_json.specs.Writing.{HasEntries}
+use Rattle.match_top.specs.declared.reporting.Progress.{Progress}
+use Rattle.match_top.specs.Reports.{NumberedFunction, functions_from, functions_of, function_at, IsEntry, is_clean}
+use Rattle.match_top.specs.Reporting.{ReportsOn}
+
+zip_push : {A B : Type 0} (R : A → B → Type 0) (xs : List A) (ys : List B) (x : A) (y : B) → AllZip R xs ys → R x y → AllZip R (xs ++ x ∷ []) (ys ++ y ∷ [])
+zip_push R [] [] x y all r = (r, tt)
+zip_push R [] (b ∷ ys) x y all r = absurd all
+zip_push R (a ∷ xs) [] x y all r = absurd all
+zip_push R (a ∷ xs) (b ∷ ys) x y all r = (all.0, zip_push R xs ys x y all.1 r)
+
+and_true : (b : Bool) → (b && true) ≡ b
+and_true true = refl
+and_true false = refl
+
+and_assoc : (a b c : Bool) → ((a && b) && c) ≡ (a && (b && c))
+and_assoc true b c = refl
+and_assoc false b c = refl
+
+all_push : (p : ReportEntry → Bool) (xs : List ReportEntry) (x : ReportEntry) → list_all p (xs ++ x ∷ []) ≡ (list_all p xs && p x)
+all_push p [] x = and_true (p x)
+all_push p (y ∷ ys) x = ap (λ b. p y && b) (all_push p ys x) ∙ sym (and_assoc (p y) (list_all p ys) (p x))
+
+-- one entry more
+pub one_more : (items : List ItemTree) (fs : List NumberedFunction) (f : NumberedFunction) (e : ReportEntry) (old new : Progress) → (h : ReportsOn items fs old) → IsEntry items f e
+    → HasEntries (h.entries ++ e ∷ []) new.text → new.clean ≡ (old.clean && is_clean e) → ReportsOn items (fs ++ f ∷ []) new
+one_more items fs f e old new h is text clean = record {
+  entries = h.entries ++ e ∷ [];
+  each = zip_push (IsEntry items) fs h.entries f e h.each is;
+  text = text;
+  clean_is = clean ∙ ap (λ b. b && is_clean e) h.clean_is ∙ sym (all_push is_clean h.entries e);
+}
+
+and_false : (b : Bool) → (b && false) ≡ false
+and_false true = refl
+and_false false = refl
+
+-- a refused function more
+pub refused_more : (b : Bool) → false ≡ (b && false)
+refused_more b = sym (and_false b)
+
+-- the entry of a refused function, by its name and refusal
+pub same_refusal : (n m : List ℕ) (r s : Refusal) → n ≡ m → r ≡ s → RefusedFunction n r ≡ RefusedFunction m s
+same_refusal n m r s e f = ap (λ k. RefusedFunction k r) e ∙ ap (RefusedFunction m) f
+
+-- the functions of a list and one item more
+functions_push : (n : ℕ) (items : List ItemTree) (i : ItemTree) → functions_from n (items ++ i ∷ []) ≡ functions_from n items ++ function_at (n + length items) i.kind
+functions_push n [] i = append-nil (function_at n i.kind) ∙ ap (λ m. function_at m i.kind) (plus_zero n)
+  where
+    plus_zero : (n : ℕ) → n ≡ n + 0
+    plus_zero n = omega arith
+functions_push n (x ∷ items) i =
+    ap (λ fs. function_at n x.kind ++ fs) (functions_push (n + 1) items i ∙ ap (λ m. functions_from (n + 1) items ++ function_at m i.kind) (shifted n (length items)))
+    ∙ sym (append_assoc (function_at n x.kind) (functions_from (n + 1) items) (function_at (n + suc (length items)) i.kind))
+  where
+    shifted : (n m : ℕ) → (n + 1) + m ≡ n + suc m
+    shifted n m = omega arith
+
+-- the functions of a front that is one item longer
+functions_more : (items : List Item) (i : ℕ) (x : Item) → i < length items → x ≡ get_or items i x
+    → functions_from 0 (map item_view (take (i + 1) items)) ≡ functions_from 0 (map item_view (take i items)) ++ function_at i (kind_view x.kind)
+functions_more items i x lt is =
+    let front : map item_view (take (i + 1) items) ≡ map item_view (take i items) ++ item_view x ∷ [] =
+    ap (map item_view) (take_more items i x lt ∙ ap (λ (y : Item). take i items ++ y ∷ []) (sym is)) ∙ map-append item_view (take i items) (x ∷ []) in
+    let number : length (map item_view (take i items)) ≡ i = rw length-map (length-take-le i items (omega arith)) in
+    let last : 0 + length (map item_view (take i items)) ≡ i = zero_plus (length (map item_view (take i items))) ∙ number in
+    ap (functions_from 0) front
+    ∙ functions_push 0 (map item_view (take i items)) (item_view x)
+    ∙ ap (λ n. functions_from 0 (map item_view (take i items)) ++ function_at n (kind_view x.kind)) last
+  where
+    zero_plus : (n : ℕ) → 0 + n ≡ n
+    zero_plus n = omega arith
+
+-- the entries of a front that is one item longer
+pub reports_more : (all : List ItemTree) (items : List Item) (i : ℕ) (x : Item) (p : Progress) → i < length items → x ≡ get_or items i x
+    → ReportsOn all (functions_of (map item_view (take i items)) ++ function_at i (kind_view x.kind)) p → ReportsOn all (functions_of (map item_view (take (i + 1) items))) p
+reports_more all items i x p lt is h = subst (λ fs. ReportsOn all fs p) (sym (functions_more items i x lt is)) h
+
+-- an item has at most as many arms as all items together
+pub few_here : (items : List Item) (i : ℕ) (x : Item) (most : ℕ) → i < length items → x ≡ get_or items i x
+    → sum_by (λ t. kind_arms t.kind) (map item_view items) < most → kind_arms (kind_view x.kind) < most
+few_here items i x most lt is few =
+    let same : item_view x ≡ get_or (map item_view items) i (item_view x) = ap item_view is ∙ sym (get_or-map item_view items i x) in
+    let within : kind_arms (get_or (map item_view items) i (item_view x)).kind ≤ sum_by (λ t. kind_arms t.kind) (map item_view items) =
+    get_or-le-sum_by (λ (t : ItemTree). kind_arms t.kind) (map item_view items) i (item_view x) (rw length-map lt) in
+    let mine : kind_arms (kind_view x.kind) ≤ sum_by (λ t. kind_arms t.kind) (map item_view items) = subst (λ (t : ItemTree). kind_arms t.kind ≤ sum_by (λ u. kind_arms u.kind) (map item_view items)) (sym same) within in
+    omega arith

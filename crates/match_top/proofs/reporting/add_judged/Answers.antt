@@ -1,0 +1,7 @@
+use Rattle.verdict_json.specs.Report.{JudgedFunction}
+use Rattle.match_top.proofs.Entries.{one_more}
+use Rattle.match_top.proofs.reporting.add_judged.Goals as goal
+
+pub returns : goal.returns
+returns c items fs f h is =
+    one_more items fs f (JudgedFunction c.args.report.now) c.args.so_far _ h is (c.in_ok-text.ensures h.entries h.text) c.both-clean.ensures

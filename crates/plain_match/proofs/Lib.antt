@@ -1,0 +1,11 @@
+pub mod Answered
+pub mod Armless
+pub mod Cover
+pub mod Excluded
+pub mod Lists
+pub mod Meaning
+pub mod Seen
+pub mod Types
+pub mod Variants
+pub mod Verdict
+pub mod WitnessLists
