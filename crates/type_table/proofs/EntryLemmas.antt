@@ -146,14 +146,15 @@ kind_told names i marked kind = record { item = kind_of names marked kind; own =
 abbrev pub enum_as : List ℕ → Bool → List MVariant → MType → Told
 enum_as name later variants own = record { item = EnumItem name later variants; own = Some own; parameter = None }
 
-pub enum_equal : (a a1 : List ℕ) (b b1 : Bool) (c c1 : List MVariant) (d d1 : MType) → a ≡ a1 → b ≡ b1 → c ≡ c1 → d ≡ d1 → enum_as a b c d ≡ enum_as a1 b1 c1 d1
-enum_equal a a1 b b1 c c1 d d1 e f g h = rw (e, f, g, h) refl
+pub enum_equal : (name name' : List ℕ) (later later' : Bool) (vs vs' : List MVariant) (own own' : MType) → name ≡ name' → later ≡ later' → vs ≡ vs' → own ≡ own' →
+    enum_as name later vs own ≡ enum_as name' later' vs' own'
+enum_equal name name' later later' vs vs' own own' e f g h = rw (e, f, g, h) refl
 
 abbrev pub struct_as : MVariant → MType → Told
 struct_as variant own = record { item = StructItem variant; own = Some own; parameter = None }
 
-pub struct_equal : (c c1 : MVariant) (d d1 : MType) → c ≡ c1 → d ≡ d1 → struct_as c d ≡ struct_as c1 d1
-struct_equal c c1 d d1 g h = rw (g, h) refl
+pub struct_equal : (v v' : MVariant) (own own' : MType) → v ≡ v' → own ≡ own' → struct_as v own ≡ struct_as v' own'
+struct_equal v v' own own' g h = rw (g, h) refl
 
 enumerate_push : {A : Type 0} (n : ℕ) (xs : List A) (y : A) → enumerate_from n (xs ++ y ∷ []) ≡ enumerate_from n xs ++ (n + length xs, y) ∷ []
 enumerate_push {A} n [] y = let none : n ≡ n + 0 = omega arith in ap (λ (m : ℕ). one m) none

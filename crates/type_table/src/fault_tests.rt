@@ -7,8 +7,8 @@ use match_model::Width;
 use std::alloc::{AllocError, Global};
 use std::test::Fail;
 
-/// A source, and the least rule that the first faulty item breaks, the number of that item, and the byte offset where it
-/// begins.
+/// A source, and the least rule that the first faulty item breaks, the number of that item, and the byte offset
+/// where it begins.
 const BROKEN: [(&str, &str); 149] = [
     ("enum A{} enum A{}", "10 1 9"),
     ("struct A; enum A{}", "10 1 10"),
