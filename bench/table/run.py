@@ -1,18 +1,21 @@
 #!/usr/bin/env python3
-"""Times type_table on files that are extreme in one way each.
+"""Times the program on files whose declarations are extreme in one way each.
 
-Writes the sources, whole and with half as many pieces, and a copy of the crates with a small program over decl_lexer,
-decl_parser and type_table into a folder for temporary files, builds it, and prints for each source its items, what the
-table says, the time that making it takes, how much longer the whole takes than the half, the time of looking up each
-path of its functions, and the memory of the whole run. Each run has a stack of 1 MB. The last line says how many sources
-met the goals; the exit status is 1 where one missed them.
+    bench/table/run.py [PROGRAM]
+
+PROGRAM is the built program, by default crates/matchcheck/out/matchcheck. Writes each source, whole and with half as many
+pieces, into a folder for temporary files, runs `check` on both in a stack of 1 MB, and prints for each source its bytes,
+what came out, the least time of several runs, how much longer the whole takes than the half, and the memory. Times are of
+the whole program, lexer and parser included; bench/lexer and bench/parser have these alone. The last line says how many
+sources met the goal; the exit status is 1 where one missed it.
 """
+import json
+import os
 import pathlib
-import re
 import resource
-import shutil
-import subprocess
+import sys
 import tempfile
+import time
 
 HERE = pathlib.Path(__file__).resolve().parent
 ROOT = HERE.parent.parent
@@ -22,78 +25,6 @@ STACK = 1024 * 1024
 # How much longer a source may take than one of half as many pieces, and from how many milliseconds on this is asked.
 GROWTH = 2.5
 SHORTEST = 20
-CRATES = (
-    "match_model", "horn_clauses", "cycle_search", "decl_lexer", "decl_syntax", "decl_parser", "type_names", "type_table",
-)
-
-MAIN = """//! Makes the table of each file, and prints what came out and how long that took.
-#![tactic(auto)]
-
-use decl_syntax::{File, FnItem, ItemKind, PatKind};
-use match_model::Width;
-use std::time::Instant;
-use std::{env, fs, io};
-use type_table::{DeclFault, Found, TypeTable};
-
-/// How many paths of the function's arms the table finds.
-fn found_in(table: &TypeTable, function: &FnItem) -> usize {
-    let mut count = 0usize;
-    for arm in &function.arms {
-        let found = match &arm.pat.kind {
-            PatKind::Path(path) => table.find(path),
-            PatKind::TupleForm { path, .. } => table.find(path),
-            _ => Found::Nothing,
-        };
-        if found != Found::Nothing {
-            count = count.saturating_add(1);
-        }
-    }
-    count
-}
-
-fn found_in_all(table: &TypeTable, file: &File) -> usize {
-    let mut count = 0usize;
-    for item in &file.items {
-        if let ItemKind::Function(function) = &item.kind {
-            count = count.saturating_add(found_in(table, function));
-        }
-    }
-    count
-}
-
-fn main(rt: HostRuntime) -> io::Result<()> {
-    for path in env::args(&rt)?.skip(1) {
-        let bytes = fs::read(&rt, path.as_str())?;
-        let Ok(tokens) = decl_lexer::lex(rt.alloc(), bytes.as_slice()) else {
-            println!(rt; "no tokens")?;
-            continue;
-        };
-        let Ok(file) = decl_parser::parse(rt.alloc(), tokens.as_slice()) else {
-            println!(rt; "no file")?;
-            continue;
-        };
-        let count = file.items.len();
-        let begun = Instant::now(&rt)?;
-        let outcome = TypeTable::build(rt.alloc(), &file, Width::Endless);
-        let took = begun.elapsed(&rt)?.as_millis();
-        match &outcome {
-            Ok(table) => {
-                let again = Instant::now(&rt)?;
-                let found = found_in_all(table, &file);
-                let looked = again.elapsed(&rt)?.as_millis();
-                println!(rt; "{count} items, fine in {took} ms, {found} found in {looked} ms")?;
-            }
-            Err(DeclFault::Rule { rule, .. }) => {
-                println!(rt; "{count} items, rule {rule} in {took} ms, 0 found in 0 ms")?;
-            }
-            Err(DeclFault::NoMemory) => {
-                println!(rt; "{count} items, memory in {took} ms, 0 found in 0 ms")?;
-            }
-        }
-    }
-    Ok(())
-}
-"""
 
 
 def each(line):
@@ -168,63 +99,51 @@ SOURCES = {
 }
 
 
-def build():
-    """The program that makes tables."""
-    repo = OUT / "repo"
-    repo.mkdir(parents=True, exist_ok=True)
-    shutil.copytree(ROOT / "crates", repo / "crates", dirs_exist_ok=True, ignore=shutil.ignore_patterns("must-fail", "out"))
-    needed = [line for line in (ROOT / "crates.txt").read_text().splitlines() if line.split(":")[0] in CRATES]
-    (repo / "crates.txt").write_text("\n".join(needed + ["table_bench: match_model decl_lexer decl_syntax decl_parser type_table"]) + "\n")
-    crate = repo / "crates" / "table_bench"
-    (crate / "src").mkdir(parents=True, exist_ok=True)
-    (crate / "src" / "main.rt").write_text(MAIN)
-    subprocess.run(["rt", "run"], cwd=crate, check=True, stdout=subprocess.DEVNULL, stderr=subprocess.DEVNULL)
-    return crate / "out" / "table_bench"
-
-
-def small_stack():
-    resource.setrlimit(resource.RLIMIT_STACK, (STACK, STACK))
-
-
 def run(program, path):
-    """The items, the outcome, the milliseconds of making the table, of looking up, and the kilobytes of one run."""
-    command = ["/usr/bin/time", "-f", "%M", str(program), str(path)]
-    done = subprocess.run(command, capture_output=True, text=True, check=True, preexec_fn=small_stack)
-    found = re.search(r"(\d+) items, ([\w ]+) in (\d+) ms, (\d+) found in (\d+) ms", done.stdout)
-    if found is None:
-        raise SystemExit("%s: %s" % (path, done.stdout))
-    items, outcome, took, count, looked = found.groups()
-    return int(items), outcome, int(took), int(count), int(looked), int(done.stderr.split()[-1])
+    """What came out, the milliseconds and the kilobytes of one run."""
+    report = OUT / "report.json"
+    start = time.monotonic()
+    pid = os.fork()
+    if pid == 0:
+        os.dup2(os.open(report, os.O_WRONLY | os.O_CREAT | os.O_TRUNC), 1)
+        resource.setrlimit(resource.RLIMIT_STACK, (STACK, STACK))
+        os.execv(program, [program, "check", str(path)])
+    _, status, usage = os.wait4(pid, 0)
+    took = (time.monotonic() - start) * 1000
+    if os.waitstatus_to_exitcode(status) not in (0, 1, 3):
+        raise SystemExit("%s ended with status %d" % (path, status))
+    return outcome(json.loads(report.read_text())), took, usage.ru_maxrss
+
+
+def outcome(report):
+    """The rule by which the file is refused, or how many functions are in the report."""
+    if "refused" in report:
+        return "rule %d" % report["refused"]["rule"]
+    return "%d functions" % len(report["functions"])
 
 
 def least(program, paths):
     """For each file the run of several that took least; the files are taken in turn."""
     runs = [[run(program, path) for path in paths] for _ in range(RUNS)]
-    return [min(of_one, key=lambda result: result[2]) for of_one in zip(*runs)]
-
-
-def grown(half, whole):
-    """How much longer the whole took, where the half took long enough to say so."""
-    return whole / half if half >= SHORTEST else None
+    return [min(of_one, key=lambda result: result[1]) for of_one in zip(*runs)]
 
 
 def main():
+    program = sys.argv[1] if len(sys.argv) > 1 else str(ROOT / "crates" / "matchcheck" / "out" / "matchcheck")
     OUT.mkdir(parents=True, exist_ok=True)
-    program = build()
-    print("| source | bytes | items | outcome | ms | growth from half | paths found | ms | growth | bytes of memory a byte |")
-    print("|---|---|---|---|---|---|---|---|---|---|")
+    print("| source | bytes | outcome | ms | growth from half | MB | bytes of memory a byte |")
+    print("|---|---|---|---|---|---|---|")
     missed = []
     for name, (count, source) in SOURCES.items():
         paths = [OUT / "half.txt", OUT / "whole.txt"]
         for path, pieces in zip(paths, (count // 2, count)):
             path.write_text(source(pieces))
         half, whole = least(program, paths)
-        growths = [grown(half[2], whole[2]), grown(half[4], whole[4])]
-        shown = ["under %d ms" % SHORTEST if growth is None else "%.2f" % growth for growth in growths]
+        growth = whole[1] / half[1] if half[1] >= SHORTEST else None
+        shown = "under %d ms" % SHORTEST if growth is None else "%.2f" % growth
         size = paths[1].stat().st_size
-        row = (name, size, whole[0], whole[1], whole[2], shown[0], whole[3], whole[4], shown[1], whole[5] * 1024 / size)
-        print("| %s | %d | %d | %s | %d | %s | %d | %d | %s | %.1f |" % row, flush=True)
-        if any(growth is not None and growth > GROWTH for growth in growths):
+        print("| %s | %d | %s | %d | %s | %d | %.0f |" % (name, size, whole[0], whole[1], shown, whole[2] / 1024, whole[2] * 1024 / size), flush=True)
+        if growth is not None and growth > GROWTH:
             missed.append(name)
     print("%d met, %d missed%s" % (len(SOURCES) - len(missed), len(missed), ": " + ", ".join(missed) if missed else ""))
     raise SystemExit(1 if missed else 0)
