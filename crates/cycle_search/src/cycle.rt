@@ -6,7 +6,7 @@ ghost use Rattle.cycle_search.specs.Numbers.{NeverRises};
 
 use crate::components::component_numbers;
 use crate::way::is_on_cycle;
-use match_model::NoMemory;
+use no_memory::NoMemory;
 use std::alloc::{AllocError, Global};
 
 /// The least node that reaches itself by one edge or more, where there is one.

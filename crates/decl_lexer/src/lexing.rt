@@ -9,7 +9,7 @@ use crate::names::in_nfc;
 use crate::pieces::{Piece, PieceError, piece_at};
 use crate::text::split_first;
 use crate::token::{LexFault, Token};
-use match_model::NoMemory;
+use no_memory::NoMemory;
 use std::alloc::Global;
 
 /// The tokens of a source text.

@@ -7,7 +7,7 @@ ghost use Rattle.horn_clauses.specs.Marks.{IsWithin, HoldsThroughout, IsClosed, 
 
 use crate::Clause;
 use crate::propagation::propagate;
-use match_model::NoMemory;
+use no_memory::NoMemory;
 use std::alloc::Global;
 
 /// Which atoms hold in the least model of the clauses: a mark for each of the atoms from 0 to `count`, without `count`.

@@ -2,13 +2,13 @@
 ghost use Rattle.std.specs.Prelude.{◌≡◌, is_err, ◌+◌, ◌-◌, ◌^◌, ◌<◌, ◌≤◌, ◌++◌, ◌↔◌, ◌⊎◌, min, [], take, drop, length, IsTrue, IsErr, IsNone, IfOk, OnOk, OnErr, IsSome, IsOk, vec_len, vec_capacity};
 ghost use Rattle.std.specs.Io.{ReadsAtMost, WritesAtMost};
 ghost use Rattle.std.specs.Io.KnownBytes.{ReadConsumes, WriteAppends};
-ghost use Rattle.match_model.specs.Causes.{HasCause};
+ghost use Rattle.match_io.specs.Causes.{HasCause};
 ghost use Rattle.match_io.specs.Counts.{is_listed, next_count, faults_after};
 ghost use Rattle.match_io.specs.Named.{held, place_of, file_from};
 
 use crate::traits::fault;
 use crate::{Failed, Files, Sink};
-use match_model::NoMemory;
+use no_memory::NoMemory;
 use std::alloc::Global;
 
 // Copies as many bytes as there are, fit and may be taken at once.

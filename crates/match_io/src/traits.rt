@@ -2,7 +2,7 @@
 ghost use Rattle.std.specs.Prelude.{◌≡◌, ℕ, ◌+◌, ◌-◌, ◌<◌, ◌≤◌, ◌^◌, List, Option, length, IsSome, IsOk, IfOk, OnOk, OnErr};
 ghost use Rattle.std.specs.Io.{ReadsAtMost, WritesAtMost};
 ghost use Rattle.std.specs.Io.KnownBytes.{ReadConsumes, WriteAppends};
-ghost use Rattle.match_model.specs.Causes.{HasCause};
+ghost use Rattle.match_io.specs.Causes.{HasCause};
 ghost use Rattle.match_io.specs.Counts.{next_count};
 ghost use Rattle.match_io.specs.Told.{Tells};
 

@@ -1,7 +1,7 @@
 // Reads a file to its end, or to the greatest number of bytes that are taken of it.
 ghost use Rattle.std.specs.Prelude.{◌≡◌, List, ℕ, ◌≤◌, ◌<◌, ◌⊎◌, Some, IsSome, IfOk, take, length, vec_len};
 ghost use Rattle.std.specs.Result.{IsErrOf};
-ghost use Rattle.match_model.specs.Causes.{Rose};
+ghost use Rattle.match_io.specs.Causes.{Rose};
 ghost use Rattle.match_top.specs.Reading.{TakesFront, TakesAtMost, HasTaken};
 ghost use Rattle.match_top.specs.Answers.{taken, most_taken};
 ghost use Rattle.match_top.specs.declared.reading.ReadError.TheVariants.{Failed as ReadFailed, NoMemory as NoRoom};

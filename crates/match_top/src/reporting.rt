@@ -12,7 +12,7 @@ ghost use Rattle.match_top.specs.Reports.{IsEntry, IsReported, not_built, unknow
 ghost use Rattle.match_top.specs.Reporting.{IsKnownOf, ReportsOn};
 
 use decl_syntax::{File, FnItem, Item, ItemKind};
-use match_model::NoMemory;
+use no_memory::NoMemory;
 use plain_match::{FnAnswer, judge_function, plain_enums};
 use std::alloc::Global;
 use type_names::Names;

@@ -1,7 +1,7 @@
 // The top call.
 ghost use Rattle.std.specs.Prelude.{◌≡◌, ◌≢◌, ◌↔◌, ◌≤◌, ◌<◌, ◌^◌, ◌-◌, ◌⊎◌, ℕ, List, Some, None, IsSome};
 ghost use Rattle.std.specs.Io.KnownBytes.{Appends};
-ghost use Rattle.match_model.specs.Causes.{Rose};
+ghost use Rattle.match_io.specs.Causes.{Rose};
 ghost use Rattle.match_top.specs.Answers.{Answers, most_taken};
 ghost use Rattle.match_top.specs.Reading.{HasTaken};
 ghost use Rattle.match_top.specs.Statuses.{IsVerdict};

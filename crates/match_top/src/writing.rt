@@ -1,7 +1,7 @@
 // Writes a whole text to a sink that may take any part of a piece.
 ghost use Rattle.std.specs.Prelude.{◌≡◌, ℕ, ◌≤◌, OnOk, OnErr, take};
 ghost use Rattle.std.specs.Io.KnownBytes.{Appends};
-ghost use Rattle.match_model.specs.Causes.{HasCause};
+ghost use Rattle.match_io.specs.Causes.{HasCause};
 ghost use Rattle.match_top.specs.Writing.{AppendsPart};
 
 use match_io::{Failed, Sink};

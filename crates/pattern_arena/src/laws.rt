@@ -4,7 +4,7 @@ ghost use Rattle.std.specs.Prelude.{◌≡◌, map, IfOk};
 ghost use Rattle.pattern_arena.specs.Trees.{tree};
 
 use crate::{DePat, Placer};
-use match_model::NoMemory;
+use no_memory::NoMemory;
 
 /// What was placed stands for the same trees after a further call, whether that one had its memory or not.
 pub fn placed_patterns_stand<'a, T: Copy>(

@@ -3,7 +3,7 @@ ghost use Rattle.std.specs.Prelude.{◌≡◌, IfOk};
 
 use crate::{Bound, CheckedArm, DePat};
 use bumpalo::Bump;
-use match_model::NoMemory;
+use no_memory::NoMemory;
 use std::alloc::Global;
 
 /// Places patterns in an arena, from which they are lent as long as it is not reset. What stands there already is not

@@ -9,7 +9,8 @@ ghost use Rattle.pattern_arena.specs.Meaning.{IsWellTyped, IsExhaustive, IsArmRe
 use crate::laws::placed_patterns_stand;
 use crate::{Bound, CheckedArm, CheckedMatch, DePat, Part, Placer};
 use bumpalo::Bump;
-use match_model::{Mode, NoMemory};
+use match_model::Mode;
+use no_memory::NoMemory;
 use pat_context::toy::ToyTy;
 use pat_context::{Ctor, Validity};
 use std::test::Fail;

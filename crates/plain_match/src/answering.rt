@@ -12,7 +12,7 @@ use crate::params::{ParamType, param_type};
 use crate::patterns::{ReadArm, read_arms};
 use crate::witnesses::report_of;
 use decl_syntax::{FnItem, Item};
-use match_model::NoMemory;
+use no_memory::NoMemory;
 use std::alloc::Global;
 use type_names::Names;
 use verdict_json::FnReport;

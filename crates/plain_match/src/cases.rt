@@ -9,7 +9,7 @@ ghost use Rattle.plain_match.specs.Views.{param_view, pattern_view, read_view};
 use crate::judging::{Case, CaseArm};
 use crate::params::ParamType;
 use crate::patterns::{Pattern, ReadArm};
-use match_model::NoMemory;
+use no_memory::NoMemory;
 use std::alloc::Global;
 use type_names::{Names, Owner};
 

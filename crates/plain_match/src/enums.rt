@@ -6,7 +6,7 @@ ghost use Rattle.plain_match.specs.Plain.{is_unit, is_plain_kind, is_plain_enum}
 ghost use Rattle.plain_match.specs.Views.{plain_marks};
 
 use decl_syntax::{Form, Item, ItemKind, Variant};
-use match_model::NoMemory;
+use no_memory::NoMemory;
 use std::alloc::Global;
 use type_names::is_marked;
 

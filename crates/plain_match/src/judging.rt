@@ -3,7 +3,7 @@ ghost use Rattle.std.specs.Prelude.{◌≡◌, ◌<◌, ◌^◌, ◌++◌, ◌&&
 ghost use Rattle.plain_match.specs.Judging.{takes, some_below, those_below, entry_unless, unreached, missing, in_seen};
 
 use indexmap::IndexSet;
-use match_model::NoMemory;
+use no_memory::NoMemory;
 use std::alloc::Global;
 use verdict_json::Unreachable;
 

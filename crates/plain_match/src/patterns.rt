@@ -8,7 +8,7 @@ ghost use Rattle.plain_match.specs.Views.{param_view, enum_view, pattern_view, r
 
 use crate::params::ParamType;
 use decl_syntax::{Arm, EnumItem, Lit, PatKind, Path};
-use match_model::NoMemory;
+use no_memory::NoMemory;
 use std::alloc::Global;
 
 /// A pattern: `_`, a truth value, or a path to the variant of this name.

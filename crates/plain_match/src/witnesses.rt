@@ -7,7 +7,7 @@ ghost use Rattle.plain_match.specs.Views.{param_view};
 
 use crate::judging::{CaseArm, judge};
 use crate::params::ParamType;
-use match_model::NoMemory;
+use no_memory::NoMemory;
 use std::alloc::Global;
 use verdict_json::{FnReport, Witness};
 

@@ -15,7 +15,7 @@ ghost use Rattle.range_split.specs.Cuts.{plain_cut, plain_cuts, begin_cut, end_c
 use crate::cut::Cut;
 use crate::range::ascend;
 use crate::{End, Num, Range};
-use match_model::NoMemory;
+use no_memory::NoMemory;
 use std::alloc::Global;
 
 /// The pieces into which the ranges of a column cut the numbers of `whole`, ascending, each with whether some range of

@@ -8,7 +8,7 @@ ghost use Rattle.slice_split.specs.Shapes.{plain_shape, plain_shapes, plain_piec
 ghost use Rattle.slice_split.specs.Lengths.{IsSplit, AreMarks, is_longer_at, is_marked};
 
 use crate::Shape;
-use match_model::NoMemory;
+use no_memory::NoMemory;
 use std::alloc::Global;
 
 /// The pieces into which the shapes of a column cut the lengths of rows, ascending, each with whether some shape of the

@@ -15,7 +15,7 @@ use crate::names::Names;
 use crate::targets::{Target, or_else, prelude_variant, with_variant};
 use decl_syntax::{Item, ItemKind, Path, Variant};
 use indexmap::{IndexMap, IndexSet};
-use match_model::NoMemory;
+use no_memory::NoMemory;
 use std::alloc::Global;
 
 /// What names alone find in a file, before the variants that every file has: by its structs and listed imports, and by

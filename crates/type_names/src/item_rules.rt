@@ -9,7 +9,7 @@ use crate::name_rules::{has_field_twice, has_variant_twice, is_bad_use};
 use crate::names::Names;
 use crate::type_rules::{TypeRule, breaks_in_item};
 use decl_syntax::Item;
-use match_model::NoMemory;
+use no_memory::NoMemory;
 use std::alloc::Global;
 
 /// A rule that one item breaks by itself.

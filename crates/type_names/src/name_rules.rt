@@ -15,7 +15,7 @@ use crate::meanings::{FormKind, Owner};
 use crate::names::Names;
 use decl_syntax::{Field, Form, Item, ItemKind, Variant};
 use indexmap::IndexSet;
-use match_model::NoMemory;
+use no_memory::NoMemory;
 use std::alloc::Global;
 
 /// The names that the items so far have taken: those of enums, structs and listed imports, of functions, and of

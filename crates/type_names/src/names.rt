@@ -9,7 +9,7 @@ ghost use Rattle.type_names.specs.Views.{meaning_view, means_in, text_of, with_p
 use crate::meanings::{Meaning, built_in};
 use decl_syntax::{File, Item, ItemKind, Variant};
 use indexmap::IndexMap;
-use match_model::NoMemory;
+use no_memory::NoMemory;
 use std::alloc::Global;
 
 /// The names of a file: the number of the first enum or struct of each name, counted from 0 over all items, and

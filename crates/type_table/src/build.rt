@@ -11,7 +11,8 @@ use crate::endless::first_endless;
 use crate::faults::{DeclFault, least_fault};
 use crate::table::{TypeTable, assemble};
 use decl_syntax::File;
-use match_model::{NoMemory, Width};
+use match_model::Width;
+use no_memory::NoMemory;
 use std::alloc::Global;
 
 impl TypeTable {

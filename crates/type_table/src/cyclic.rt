@@ -10,7 +10,8 @@ use crate::edges::all_edges;
 use crate::entries::Entry;
 use crate::nodes::Node;
 use cycle_search::first_on_cycle;
-use match_model::{NoMemory, Width};
+use match_model::Width;
+use no_memory::NoMemory;
 use std::alloc::Global;
 
 /// The first item whose type reaches itself by fields, parts of tuples, items of arrays and arguments of `Option` and

@@ -10,7 +10,7 @@ ghost use Rattle.type_table.specs.Edges.{item_edges, edges_of, variants_edges, e
 use crate::entries::{Entry, VariantEntry};
 use crate::nodes::{Head, Node};
 use crate::values::variant_atoms;
-use match_model::NoMemory;
+use no_memory::NoMemory;
 use std::alloc::{AllocError, Global};
 use type_names::Owner;
 

@@ -12,7 +12,8 @@ ghost use Rattle.type_table.specs.Possible.{program_in};
 use crate::entries::Entry;
 use crate::nodes::Node;
 use crate::values::counted_values;
-use match_model::{NoMemory, Width};
+use match_model::Width;
+use no_memory::NoMemory;
 use std::alloc::Global;
 
 /// The first declared item whose type has no finite value where a place is not sure to hold a valid one, counted from

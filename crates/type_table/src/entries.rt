@@ -12,7 +12,7 @@ use crate::nodes::{Head, Node};
 use crate::written::{leaf, type_id};
 use decl_syntax::{Field, Form, Item, ItemKind, Variant};
 use indexmap::IndexSet;
-use match_model::NoMemory;
+use no_memory::NoMemory;
 use std::alloc::Global;
 use type_names::{FormKind, Names, Owner, field_name, form_kind, is_marked};
 

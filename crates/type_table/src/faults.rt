@@ -8,7 +8,8 @@ ghost use Rattle.type_table.specs.Readings.{earlier, fault_pair};
 ghost use Rattle.type_table.specs.declared.faults.DeclFault.TheVariants.{NoMemory as FaultNoMemory};
 
 use decl_syntax::Item;
-use match_model::{NoMemory, Width};
+use match_model::Width;
+use no_memory::NoMemory;
 use std::alloc::Global;
 use type_names::{ItemRule, Names, TypeRule, first_fault, first_name_twice};
 

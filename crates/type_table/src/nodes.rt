@@ -7,7 +7,7 @@ ghost use Rattle.std.specs.Cmp.Lexicographic.{pointwise};
 ghost use Rattle.std.specs.Cmp.Rules.{comparing, hashing};
 
 use indexmap::IndexSet;
-use match_model::NoMemory;
+use no_memory::NoMemory;
 use type_names::{Base, Opaque, Owner};
 
 /// What a type is made of its parts.

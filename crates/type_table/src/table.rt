@@ -10,7 +10,8 @@ use crate::nodes::Node;
 use crate::values::counted_values;
 use decl_syntax::File;
 use indexmap::IndexSet;
-use match_model::{NoMemory, Width};
+use match_model::Width;
+use no_memory::NoMemory;
 use std::alloc::Global;
 use type_names::{Finder, Names};
 

@@ -11,7 +11,7 @@ ghost use Rattle.type_table.specs.Bodies.{variant_body, entry_bodies, said, said
 use crate::entries::{Entry, FieldEntry, VariantEntry};
 use crate::nodes::{Head, Node};
 use horn_clauses::{Clause, least_model};
-use match_model::NoMemory;
+use no_memory::NoMemory;
 use std::alloc::{AllocError, Global};
 use type_names::{Base, FormKind, Owner};
 

@@ -10,7 +10,7 @@ ghost use Rattle.type_table.specs.Readings.{array_length, head_of};
 use crate::nodes::{Head, Node, intern};
 use decl_syntax::Ty;
 use indexmap::IndexSet;
-use match_model::NoMemory;
+use no_memory::NoMemory;
 use std::alloc::Global;
 use type_names::{Base, Meaning, Names, Opaque, Owner, argument_count, arguments_sized, is_length};
 

@@ -7,7 +7,7 @@ ghost use Rattle.verdict_json.specs.Refused.{refusal_data, alone_data, refusal_t
 ghost use Rattle.verdict_json.specs.Report.{refused_data};
 
 use crate::rules::rule_name;
-use match_model::NoMemory;
+use no_memory::NoMemory;
 use serde_json::{Value, json};
 use std::alloc::{AllocError, Global};
 

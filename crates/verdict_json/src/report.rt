@@ -10,7 +10,7 @@ ghost use Rattle.verdict_json.specs.Writing.{HasEntries, flag_word};
 
 use crate::entry::{Unreachable, Witness, unreachable_entry, witness_entry};
 use crate::refusal::{Refusal, refused_entry};
-use match_model::NoMemory;
+use no_memory::NoMemory;
 use serde_json::json;
 use std::alloc::{AllocError, Global};
 

@@ -4,7 +4,7 @@ ghost use Rattle.cycle_search.specs.Graphs.{HasTargetsBelow};
 
 use super::first_on_cycle;
 use crate::components::component_numbers;
-use match_model::NoMemory;
+use no_memory::NoMemory;
 use std::alloc::{AllocError, Global};
 use std::process::Abort;
 

@@ -2,7 +2,7 @@
 
 use super::least_model;
 use crate::Clause;
-use match_model::NoMemory;
+use no_memory::NoMemory;
 use std::alloc::{AllocError, Global};
 use std::process::Abort;
 

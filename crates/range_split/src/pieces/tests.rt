@@ -5,7 +5,7 @@ ghost use Rattle.range_split.specs.Splits.{HasRoomBelow, HasRoomAbove};
 
 use super::{is_at, split};
 use crate::{End, Num, Range};
-use match_model::NoMemory;
+use no_memory::NoMemory;
 use std::alloc::Global;
 use std::process::Abort;
 

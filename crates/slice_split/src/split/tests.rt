@@ -4,7 +4,7 @@ ghost use Rattle.slice_split.specs.Shapes.{IsShort};
 
 use super::split_lengths;
 use crate::Shape;
-use match_model::NoMemory;
+use no_memory::NoMemory;
 use std::alloc::Global;
 use std::process::Abort;
 
