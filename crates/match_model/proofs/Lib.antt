@@ -19,3 +19,6 @@ pub mod OnePieces
 pub mod OneAnswer
 pub mod FirstMatrix
 pub mod Counted
+pub mod Covered
+pub mod Empties
+pub mod Carried

@@ -11,7 +11,8 @@ use Rattle.match_model.specs.Rows.{Head, expand_row, starts_wild, row_rest, colu
 use Rattle.match_model.specs.Matrices.{MColumn, MRow, first_matrix, expand_rows, first_wild, specialised_rows, default_rows, part_columns}
 use Rattle.match_model.specs.Trees.{ElseCase}
 use Rattle.match_model.specs.PlainTree.{MTree, SwitchTree, AskTree, MBranches, no_branch, more_branches, nodes_from, row_binds, all_wild, column_ctors, is_switchless, is_present, Lowers, no_value_left, no_row_left, takes, asks, drops, opens, switches, Branches, no_else, with_else, no_case, one_case, IsPlainTree, nothing_to_lower, lowered}
-use Rattle.match_model.specs.WitnessList.{named_in, Witnesses, taken, no_row, anything, by_pieces, PieceWitnesses, no_piece, with_value, without_value, IsWitnessList, nothing_to_match, by_rows}
+use Rattle.match_model.specs.WitnessList.{named_in, Witnesses, taken, covered, no_row, anything, by_pieces, PieceWitnesses, no_piece, with_value, without_value, IsWitnessList, nothing_to_match, by_rows}
+use Rattle.match_model.proofs.Covered.{covered_none}
 use Rattle.match_model.proofs.Basics.{untrue}
 use Rattle.match_model.proofs.OnePieces.{one_pieces}
 
@@ -32,6 +33,9 @@ module _ {T : Type 0} (cx : Context T) (IsValue : T → Bool → MValue → Type
   mutual
     one_witnesses : (places : List (Open T)) (rows : List (List (Head T))) (ws us : List (List MWitness)) →
         Witnesses cx IsValue places rows ws → Witnesses cx IsValue places rows us → ws ≡ us
+    one_witnesses _ _ _ _ (covered places rows h) (covered _ _ k) = refl
+    one_witnesses _ _ _ us (covered places rows h) b = sym (covered_none cx IsValue places rows us b h)
+    one_witnesses _ _ ws _ a (covered places rows h) = covered_none cx IsValue places rows ws a h
     one_witnesses _ _ _ _ (taken row rows) (taken _ _) = refl
     one_witnesses _ _ _ _ (no_row places) (no_row _) = refl
     one_witnesses _ _ _ _ (anything o places row rows ws h a) (anything _ _ _ _ us k b) =

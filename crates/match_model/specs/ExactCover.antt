@@ -10,7 +10,7 @@ use Rattle.match_model.specs.WitnessOrder.{compare_witness, Before}
 -- the values that no arm covers, but for a bare unseen, are those that fit a witness; each fits one, and each witness is
 -- fitted by a value; an earlier one stands before a later one
 pub record IsExactCover (Domain : MValue → Type 0) (arms : List ArmWays) (ws : List MWitness) : Type 0 where
-  pub each_fitted : (w : MWitness) → Contains ws w → (v : MValue) × Domain v × IsTrue (fits w v)
+  pub each_fitted : (w : MWitness) → Contains ws w → (v : MValue) × Domain v × (v ≢ Unseen) × IsTrue (fits w v)
   pub apart : (i j : ℕ) (w u : MWitness) (v : MValue) → slice_get ws i ≡ Some w → slice_get ws j ≡ Some u → i ≢ j →
       Domain v → IsTrue (fits w v) → IsTrue (fits u v) → ⊥
   pub uncovered : (v : MValue) → Domain v → v ≢ Unseen →

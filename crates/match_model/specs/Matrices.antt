@@ -1,6 +1,6 @@
 -- Matrices: rows of heads over columns, with what was chosen and caught on the way; their ways, and the steps that expand
 -- or-patterns and specialise (Maranget 2007, 2008).
-use Rattle.std.specs.Prelude.{◌≡◌, ℕ, suc, ◌+◌, ◌-◌, Bool, List, [], ◌∷◌, ◌++◌, map, nat_lt, Option, Some, None, IsTrue, cond}
+use Rattle.std.specs.Prelude.{◌≡◌, ◌≢◌, ℕ, suc, ◌+◌, ◌-◌, Bool, true, false, ◌&&◌, nat_eq, slice_get, List, [], ◌∷◌, ◌++◌, map, nat_lt, Option, Some, None, IsTrue, cond}
 use Rattle.std.specs.List.{flat_map, Contains}
 use Rattle.match_model.specs.Values.{MValue}
 use Rattle.match_model.specs.Ways.{Way, bare_way, combine, under, bindings_of_both}
@@ -85,11 +85,19 @@ first_matrix m = record {
   rows = first_rows 0 m.arms;
 }
 
+-- the first list begins the second
+abbrev pub begins : List ℕ → List ℕ → Bool
+begins [] ns = true
+begins (m ∷ ms) [] = false
+begins (m ∷ ms) (n ∷ ns) = nat_eq m n && begins ms ns
+
 -- the value is one that a matrix speaks of: at each column's place stands a value of its type, and each place is there
 -- that a row has caught
 pub record IsMatrixValue {T : Type 0} (IsValue : T → Bool → MValue → Type 0) (m : MMatrix T) (v : MValue) : Type 0 where
   pub held : (c : MColumn T) → Contains m.columns c → (u : MValue) × (part_at c.place v ≡ Some u) × IsValue c.type c.sure u
   pub there : (r : MRow T) → Contains m.rows r → IsTrue (places_are v r.caught)
+  pub apart : (i j : ℕ) (c d : MColumn T) (p q : List ℕ) → slice_get m.columns i ≡ Some c → slice_get m.columns j ≡ Some d → i ≢ j →
+      position_at c.place v ≡ Some p → position_at d.place v ≡ Some q → begins p q ≡ false
 
 -- a name with the place of what it holds
 abbrev pub bind_at : List MStep → MBound → MBind

@@ -1,6 +1,6 @@
 -- What the patterns of the source keep to: how the ends of a written range are brought to numbers of its type, and what
 -- numbers and offsets they have (Rust Reference, Patterns).
-use Rattle.std.specs.Prelude.{ℕ, ℤ, pos, ◌-ℤ◌, Bool, true, false, ◌&&◌, List, [], ◌∷◌, ◌++◌, Option, Some, None, int_le}
+use Rattle.std.specs.Prelude.{ℕ, ℤ, pos, ◌-ℤ◌, Bool, true, false, ◌&&◌, List, [], ◌∷◌, ◌++◌, Option, Some, None, int_le, nat_lt}
 use Rattle.match_model.specs.declared.Width.{Width}
 use Rattle.match_model.specs.Types.{MType}
 use Rattle.match_model.specs.Numbers.{MEnd, Free, At, is_at, MRange, numbers_of}
@@ -94,3 +94,13 @@ ids_in (alternative id at inside others) = id ∷ (ids_in inside ++ ids_in other
 -- a trace tells the alternatives of the pattern apart
 abbrev pub offsets_differ : MPat → Bool
 offsets_differ p = all_differ (ids_in (alternatives_in p))
+
+-- each number is below the next
+abbrev pub ascend : List ℕ → Bool
+ascend [] = true
+ascend (n ∷ []) = true
+ascend (n ∷ m ∷ ns) = nat_lt n m && ascend (m ∷ ns)
+
+-- the offsets of the alternatives ascend in reading order
+abbrev pub offsets_ascend : MPat → Bool
+offsets_ascend p = ascend (ids_in (alternatives_in p))

@@ -1,6 +1,6 @@
 -- The list of witnesses of a match, among all exact ones (our own choice).
-use Rattle.std.specs.Prelude.{◌≡◌, ◌≢◌, ℕ, Bool, true, false, List, [], ◌∷◌, ◌++◌, map, take, drop, replicate, length, Some, IsTrue}
-use Rattle.std.specs.List.{flat_map, list_all, filter_map}
+use Rattle.std.specs.Prelude.{◌≡◌, ◌≢◌, ℕ, Bool, true, false, ◌&&◌, List, [], ◌∷◌, ◌++◌, map, take, drop, replicate, length, Some, IsTrue}
+use Rattle.std.specs.List.{flat_map, list_all, list_any, filter_map}
 use Rattle.match_model.specs.Values.{MValue, Unseen}
 use Rattle.match_model.specs.Witness.{MWitness, AnyOf, LaterOf, FlagOf, SpanOf, TextOf, ElseOf, NodeOf, PointOf, RowOf, no_witnesses, witnesses_of}
 use Rattle.match_model.specs.Constructors.{MShape, FixedShape, LongerShape, MCtor, SingleCtor, PointCtor, LaterCtor, OtherTextCtor, VariantCtor, FlagCtor, NumbersCtor, TextCtor, RowCtor, WildCtor, OrCtor, builds}
@@ -8,7 +8,7 @@ use Rattle.match_model.specs.Contexts.{Context, Open}
 use Rattle.match_model.specs.ArenaPatterns.{MDePat, MDeArm, MDeMatch}
 use Rattle.match_model.specs.ArenaWays.{InMatchDomain}
 use Rattle.match_model.specs.Pieces.{ArePieces, text_of}
-use Rattle.match_model.specs.Rows.{Head, expand_row, starts_wild, row_rest, column_of, all_specialised, parts_open}
+use Rattle.match_model.specs.Rows.{Head, is_wild, expand_row, starts_wild, row_rest, column_of, all_specialised, parts_open}
 
 -- the first of the witnesses, or anything
 abbrev pub first_witness : List MWitness → MWitness
@@ -46,13 +46,21 @@ HasValue IsValue o named piece = (v : MValue) × IsValue o.type o.sure v × IsTr
 abbrev pub named_in : List MCtor → List (List ℕ)
 named_in pieces = filter_map text_of pieces
 
+-- the row has a wildcard or a lone name for each place
+abbrev pub are_wild : {T : Type 0} → List (Open T) → List (Head T) → Bool
+are_wild [] [] = true
+are_wild [] (h ∷ heads) = false
+are_wild (o ∷ places) [] = false
+are_wild (o ∷ places) (h ∷ heads) = is_wild h && are_wild places heads
+
 mutual
-  -- the witnesses of rows over open places, one witness for each place. Without a place there is one where there is no
+  -- the witnesses of rows over open places, one witness for each place. A row of wildcards leaves none. Without a place there is one where there is no
   -- row. Without a row there is one, with anything at each place. Else the first place is looked at, or-patterns being
   -- expanded there: it is anything where all rows have a wildcard; else the pieces of the column give theirs
   pub data Witnesses {T : Type 0} (cx : Context T) (IsValue : T → Bool → MValue → Type 0) :
       List (Open T) → List (List (Head T)) → List (List MWitness) → Type 0 where
     taken : (row : List (Head T)) (rows : List (List (Head T))) → Witnesses cx IsValue [] (row ∷ rows) []
+    covered : (places : List (Open T)) (rows : List (List (Head T))) → IsTrue (list_any (are_wild places) rows) → Witnesses cx IsValue places rows []
     no_row : (places : List (Open T)) → Witnesses cx IsValue places [] (replicate (length places) AnyOf ∷ [])
     anything : (o : Open T) (places : List (Open T)) (row : List (Head T)) (rows : List (List (Head T))) (ws : List (List MWitness)) →
         IsTrue (list_all starts_wild (flat_map expand_row (row ∷ rows))) →

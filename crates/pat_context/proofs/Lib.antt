@@ -1,1 +1,3 @@
 mod Consequences
+mod Chosen
+mod Decided
