@@ -1,3 +1,3 @@
-mod Consequences
+pub mod Consequences
 mod Chosen
 mod Decided
