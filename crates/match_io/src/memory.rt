@@ -70,7 +70,17 @@ impl Files for SureFiles {
         Ok(())
     }
 
-    fn read(&mut self, into: &mut [u8]) -> Result<usize, Failed> {
+    fn read(&mut self, into: &mut [u8]) -> Result<usize, Failed>
+        ensures bound { ReadsAtMost result into.new }
+        ensures holds { sure_bytes self.new ≡ sure_bytes self.old }
+        ensures bytes { ReadConsumes (Some (sure_left self.old)) (Some (sure_left self.new)) result into.new }
+        ensures kept { OnErr result (sure_left self.new ≡ sure_left self.old) }
+        ensures cause { HasCause 0 0 result }
+        ensures answers { IsOk result }
+
+        // It gives as much as is left and fits.
+        ensures amount { IfOk result (λ n. n ≡ min (length (sure_left self.old)) (length into.old)) }
+    {
         let rest = self.bytes.get(self.at..).unwrap_or(&[]);
         let count = copy_front(rest, rest.len(), into);
         self.at = self.at.saturating_add(count);
