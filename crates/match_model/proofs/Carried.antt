@@ -3,6 +3,7 @@ use Rattle.std.proofs.Common.{◌≡◌, ◌≢◌, ◌↔◌, ◌<◌, ◌^◌,
 use Rattle.match_model.specs.Values.{MValue, Point, Thing, Unseen, parts_of}
 use Rattle.match_model.specs.Constructors.{MShape, MCtor, SingleCtor, PointCtor, VariantCtor, RowCtor, MSet, PointSet, NothingSet, OpaqueSet, Elementary, OneSingle, OnePoint, OneLater, OneVariant, OneFlag, OneNumber, OneText, OneLength, elementary_ctor, builds_one, is_of_set, belongs}
 use Rattle.match_model.specs.Contexts.{Context}
+use Rattle.match_model.specs.Made.{IsMadeSet}
 use Rattle.match_model.specs.ContextLaws.{ValueIs, RangesAscend, ValuesLaw, parts_count, PartsAre, ArityIs, HasFields, PartsLaw, EmptyLaw, UnsureLaw}
 
 module _ {S T : Type 0} (f : S → T) (IsTypeS : S → Type 0) (IsType : T → Type 0) (IsValue : T → Bool → MValue → Type 0) (cy : Context S) (cx : Context T) where
@@ -42,6 +43,7 @@ module _ {S T : Type 0} (f : S → T) (IsTypeS : S → Type 0) (IsType : T → T
       thing = λ s sure d e. law.thing (f s) sure (w.is_type s d) (w.set s ∙ e);
       unseen = λ s d e. law.unseen (f s) (w.is_type s d) (w.set s ∙ e);
       ascend = λ s d. subst RangesAscend (w.set s) (law.ascend (f s) (w.is_type s d));
+      made = λ s d. subst IsMadeSet (w.set s) (law.made (f s) (w.is_type s d));
     }
 
     parts_forth : (sure : Bool) (c : MCtor) (s : S) (i : ℕ) (vs : List MValue) → PartsAre IsValue sure (cx.sub c (f s)) i vs → PartsAre Seen sure (cy.sub c s) i vs
@@ -55,23 +57,24 @@ module _ {S T : Type 0} (f : S → T) (IsTypeS : S → Type 0) (IsType : T → T
     pub parts_carry : PartsLaw IsType IsValue cx → PartsLaw IsTypeS Seen cy
     parts_carry law = record {
       parts = λ s e sure v d h b n.
-        let g = law.parts (f s) e sure v (w.is_type s d) (of_set s e h) b n in
-        (
-          (λ x. ((g.0 x).0 ∙ count_is s e, parts_forth sure (elementary_ctor e) s 0 (parts_of v) (g.0 x).1)),
-          (λ p. g.1 (p.0 ∙ sym (count_is s e), parts_back sure (elementary_ctor e) s 0 (parts_of v) p.1)),
-        );
+          let g = law.parts (f s) e sure v (w.is_type s d) (of_set s e h) b n in (
+            (λ x. ((g.0 x).0 ∙ count_is s e, parts_forth sure (elementary_ctor e) s 0 (parts_of v) (g.0 x).1)),
+            (λ p. g.1 (p.0 ∙ sym (count_is s e), parts_back sure (elementary_ctor e) s 0 (parts_of v) p.1)),
+          );
       point = λ s d e.
-        let g = law.point (f s) (w.is_type s d) (w.set s ∙ e) in
-        (g.0, λ sure m v. (
-          (λ x. (((g.1 sure m v).0 x).0, subst (λ t. IsValue t false v) (w.sub PointCtor s 0) ((g.1 sure m v).0 x).1)),
-          (λ p. (g.1 sure m v).1 (p.0, subst (λ t. IsValue t false v) (sym (w.sub PointCtor s 0)) p.1)),
-        ));
+          let g = law.point (f s) (w.is_type s d) (w.set s ∙ e) in (
+            g.0,
+            λ sure m v. (
+              (λ x. (((g.1 sure m v).0 x).0, subst (λ t. IsValue t false v) (w.sub PointCtor s 0) ((g.1 sure m v).0 x).1)),
+              (λ p. (g.1 sure m v).1 (p.0, subst (λ t. IsValue t false v) (sym (w.sub PointCtor s 0)) p.1)),
+            ),
+          );
       types = λ s e i d h l. w.part_type s e i d h l;
       few = λ s e d h k. subst (λ n. n < 2 ^ 32) (count_is s e) (law.few (f s) e (w.is_type s d) (of_set s e h) k);
       arity = λ s c d h. subst (ArityIs c) (w.arity c s) (law.arity (f s) c (w.is_type s d) (of_ctor s c h));
       items = λ s p r i j d h k.
-        w.one _ _ (w.row_type s p i d h) (w.row_type s r j d k)
-        (sym (w.sub (RowCtor p) s i) ∙ law.items (f s) p r i j (w.is_type s d) (of_ctor s (RowCtor p) h) (of_ctor s (RowCtor r) k) ∙ w.sub (RowCtor r) s j);
+          w.one _ _ (w.row_type s p i d h) (w.row_type s r j d k)
+          (sym (w.sub (RowCtor p) s i) ∙ law.items (f s) p r i j (w.is_type s d) (of_ctor s (RowCtor p) h) (of_ctor s (RowCtor r) k) ∙ w.sub (RowCtor r) s j);
       item_types = λ s r i d h. w.row_type s r i d h;
     }
 

@@ -6,7 +6,12 @@ use Rattle.match_model.specs.Types.{DeclaredItem, OptionOwner, ResultOwner, MTyp
 use Rattle.match_model.specs.Declarations.{MVariant, MItem, StructItem, EnumItem, OtherItem, MProgram, node_types, item_types, variant_types, item_is_marked, item_is_bare, is_constructorless}
 use Rattle.match_model.specs.Values.{MValue, Flag, Num, Text, Node, Point, Row, Thing, Later, Unseen, MValues, values_list}
 use Rattle.match_model.specs.Texts.{is_scalar}
-use Rattle.match_model.specs.Numbers.{MRange, in_range, closed}
+use Rattle.match_model.specs.Numbers.{MRange, in_range, closed, kind_range}
+use Rattle.match_model.specs.declared.Width.{Width}
+use Rattle.match_model.specs.declared.Width.TheVariants.{Endless, Bits16, Bits32, Bits64}
+use Rattle.match_model.specs.declared.IntKind.{IntKind}
+use Rattle.match_model.specs.declared.IntKind.TheVariants.{U8, U16, U32, U64, U128, USize, I8, I16, I32, I64, I128, ISize}
+use Rattle.match_model.specs.Made.{IsMadeRange, IsMadeSet}
 use Rattle.match_model.specs.Typing.{is_value, are_values, all_are_values, item_type, type_if}
 use Rattle.match_model.specs.Constructors.{SingleSet, PointSet, FlagSet, TextSet, VariantSet, NumberSet, RowSet, OpaqueSet, NothingSet, Elementary, OneSingle, OnePoint, OneLater, OneVariant, OneFlag, OneNumber, OneText, OneLength, builds_one, is_of_set, in_either}
 use Rattle.match_model.specs.ContextLaws.{BuiltOnce, ValueIs, RangesAscend, ValuesLaw}
@@ -216,10 +221,50 @@ ascends program (NamedType OptionOwner args) = tt
 ascends program (NamedType ResultOwner args) = tt
 ascends program _ = tt
 
+-- the numbers of the types can be held
+
+item_made : (o : Option MItem) → IsMadeSet (item_set o)
+item_made None = tt
+item_made (Some OtherItem) = tt
+item_made (Some (StructItem v)) = tt
+item_made (Some (EnumItem name true [])) = tt
+item_made (Some (EnumItem name false [])) = tt
+item_made (Some (EnumItem name marked (v ∷ vs))) = tt
+
+kind_made : (width : Width) (kind : IntKind) → IsMadeRange (kind_range width kind)
+kind_made width U8 = record { up = refl; low = (refl, refl); high = (refl, refl) }
+kind_made width U16 = record { up = refl; low = (refl, refl); high = (refl, refl) }
+kind_made width U32 = record { up = refl; low = (refl, refl); high = (refl, refl) }
+kind_made width U64 = record { up = refl; low = (refl, refl); high = (refl, refl) }
+kind_made width U128 = record { up = refl; low = (refl, refl); high = (refl, refl) }
+kind_made width I8 = record { up = refl; low = (refl, refl); high = (refl, refl) }
+kind_made width I16 = record { up = refl; low = (refl, refl); high = (refl, refl) }
+kind_made width I32 = record { up = refl; low = (refl, refl); high = (refl, refl) }
+kind_made width I64 = record { up = refl; low = (refl, refl); high = (refl, refl) }
+kind_made width I128 = record { up = refl; low = (refl, refl); high = (refl, refl) }
+kind_made Bits16 USize = record { up = refl; low = (refl, refl); high = (refl, refl) }
+kind_made Bits32 USize = record { up = refl; low = (refl, refl); high = (refl, refl) }
+kind_made Bits64 USize = record { up = refl; low = (refl, refl); high = (refl, refl) }
+kind_made Endless USize = record { up = refl; low = (refl, refl); high = tt }
+kind_made Bits16 ISize = record { up = refl; low = (refl, refl); high = (refl, refl) }
+kind_made Bits32 ISize = record { up = refl; low = (refl, refl); high = (refl, refl) }
+kind_made Bits64 ISize = record { up = refl; low = (refl, refl); high = (refl, refl) }
+kind_made Endless ISize = record { up = refl; low = tt; high = tt }
+
+made : (program : MProgram) (t : MType) → IsMadeSet (rust_set program t)
+made program CharType =
+    (record { up = refl; low = (refl, refl); high = (refl, refl) }, record { up = refl; low = (refl, refl); high = (refl, refl) })
+made program (IntType kind) = (kind_made program.width kind, tt)
+made program (NamedType (DeclaredItem i) args) = item_made (slice_get program.items i)
+made program (NamedType OptionOwner args) = tt
+made program (NamedType ResultOwner args) = tt
+made program _ = tt
+
 pub rust_values_law : (program : MProgram) → ValuesLaw (λ t. IsTrue (is_type program t)) (RustValue program) (rust_context program)
 rust_values_law program = record {
   each = λ t sure v d h. rust_value_is program t sure v h;
   thing = λ t sure d h. thing_is program t sure h;
   unseen = λ t d h. unseen_value program t d h;
   ascend = λ t d. ascends program t;
+  made = λ t d. made program t;
 }

@@ -5,6 +5,7 @@ use Rattle.match_model.specs.Values.{MValue, Point, Thing, Unseen, parts_of}
 use Rattle.match_model.specs.Numbers.{in_range}
 use Rattle.match_model.specs.Constructors.{MShape, MCtor, SingleCtor, PointCtor, VariantCtor, RowCtor, least_length, MSet, PointSet, NothingSet, OpaqueSet, NumberSet, Elementary, OneSingle, OnePoint, OneVariant, OneLength, elementary_ctor, builds_one, is_of_set, belongs}
 use Rattle.match_model.specs.Contexts.{Context}
+use Rattle.match_model.specs.Made.{IsMadeSet}
 
 -- one elementary constructor of the set builds the value, and no other
 pub record BuiltOnce (s : MSet) (v : MValue) : Type 0 where
@@ -25,12 +26,14 @@ RangesAscend (NumberSet first (Some second)) =
     (a b : ℤ) → IsTrue (in_range first a) → IsTrue (in_range second b) → IsTrue (int_lt a b)
 RangesAscend _ = ⊤
 
--- one constructor builds each value, but unseen and opaque things, which are values of their types
+-- one constructor builds each value, but unseen and opaque things, which are values of their types; two ranges of a type
+-- ascend, and each can be held, so that what a range is cut into belongs to the type
 pub record ValuesLaw {T : Type 0} (IsType : T → Type 0) (IsValue : T → Bool → MValue → Type 0) (cx : Context T) : Type 0 where
   pub each : (t : T) (sure : Bool) (v : MValue) → IsType t → IsValue t sure v → ValueIs (cx.set_of t) sure v
   pub thing : (t : T) (sure : Bool) → IsType t → cx.set_of t ≡ OpaqueSet → IsValue t sure Thing
   pub unseen : (t : T) → IsType t → cx.set_of t ≡ NothingSet → IsValue t false Unseen
   pub ascend : (t : T) → IsType t → RangesAscend (cx.set_of t)
+  pub made : (t : T) → IsType t → IsMadeSet (cx.set_of t)
 
 -- how many parts a value of the elementary constructor has
 abbrev pub parts_count : {T : Type 0} → Context T → T → Elementary → ℕ

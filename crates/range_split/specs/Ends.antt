@@ -1,5 +1,6 @@
 -- Ends of ranges as the definitions have them.
-use Rattle.std.specs.Prelude.{Bool, true, false, int_le, int_lt}
+use Rattle.std.specs.Prelude.{Bool, true, false, int_lt}
+pub use Rattle.match_model.specs.Made.{ends_ascend}
 use Rattle.match_model.specs.Numbers as model
 use Rattle.match_model.specs.Numbers.{MEnd}
 use Rattle.range_split.specs.declared.end.End.{End}
@@ -10,11 +11,6 @@ use Rattle.range_split.specs.Numbers.{num_value}
 abbrev pub plain_end : End → MEnd
 plain_end Free = model.Free
 plain_end (At n) = model.At (num_value n)
-
--- a low end is not above a high one, so a range with these ends has a number
-abbrev pub ends_ascend : (low high : MEnd) → Bool
-ends_ascend (model.At a) (model.At b) = int_le a b
-ends_ascend _ _ = true
 
 -- a high end is below a low one
 abbrev pub ends_are_apart : (high low : MEnd) → Bool
