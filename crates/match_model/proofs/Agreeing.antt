@@ -5,7 +5,7 @@ use Rattle.match_model.specs.declared.Mode.TheVariants.{Move, Ref, RefMut}
 use Rattle.match_model.specs.Values.{MValue, Flag, Num, Text, Node, Point, Row, Thing, Later, Unseen, values_list}
 use Rattle.match_model.specs.Patterns.{Written, WrittenPlain, WrittenMut, WrittenRef, WrittenRefMut, MRest, NoRest, SomeRest, BoundRest, MPat, WildPat, NumPat, FlagPat, TextPat, SpanPat, BindPat, FormPat, ListPat, PointPat, OrPat, MPats, no_pats, more_pats, MNumbered, no_numbered, more_numbered, numbers_in}
 use Rattle.match_model.specs.Ways.{Way, under, binding}
-use Rattle.match_model.specs.Matching.{Matcher, wild, mode_written, mode_behind, through_points, parts_ways, are_parts, form_ways, items_ways, laid_out, middle_of, bind_rest, rows_ways, list_ways, point_ways, ways_by, matchers, field_ways, alternatives_ways, to_move}
+use Rattle.match_model.specs.Matching.{Matcher, wild, mode_written, mode_behind, through_points, parts_ways, are_parts, form_ways, items_ways, laid_out, middle_of, bind_rest, list_items_ways, list_ways, point_ways, ways_by, matchers, field_ways, alternatives_ways, to_move}
 use Rattle.match_model.specs.Readings.{Test, passes, is_move, move_if_mut, move_if_rest_mut, test_through, test_parts, test_form, test_items, test_row, test_list, test_inside, moves_at, items_move, field_moves, alternatives_move}
 use Rattle.match_model.proofs.Basics.{both}
 
@@ -111,7 +111,7 @@ module _ (back : Mode → Mode) (fixed : back Move ≡ Move) where
   rest_same (BoundRest name written) m middle ws h = ap (λ n. map (binding name n middle) ws) (mode_same written m h)
 
   rows_same : (ts us : List Test) (fs gs hs ks : List Matcher) → AllSame ts fs gs → AllSame us hs ks → (rest : MRest) (m : Mode) (items : List MValue) →
-      test_row ts rest us m items ≡ true → rows_ways back fs rest hs m items ≡ rows_ways to_move gs rest ks m items
+      test_row ts rest us m items ≡ true → list_items_ways back fs rest hs m items ≡ list_items_ways to_move gs rest ks m items
   rows_same ts us fs gs hs ks a b rest m items h =
       let t = both (move_if_rest_mut rest m) (test_items (laid_out passes ts rest us (length items)) items) h in
       let l = same-length ts fs gs a in

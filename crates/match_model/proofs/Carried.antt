@@ -1,10 +1,10 @@
 -- The laws of a context carry over to another that is seen through a one-to-one map of types.
-use Rattle.std.proofs.Common.{◌≡◌, ◌≢◌, ◌↔◌, ◌<◌, ◌^◌, ◌⊎◌, ℕ, suc, Bool, true, false, List, [], ◌∷◌, length, IsTrue, refl, sym, ap, ◌∙◌, subst}
-use Rattle.match_model.specs.Values.{MValue, Point, Thing, Unseen, parts_of}
-use Rattle.match_model.specs.Constructors.{MShape, MCtor, SingleCtor, PointCtor, VariantCtor, RowCtor, MSet, PointSet, NothingSet, OpaqueSet, Elementary, OneSingle, OnePoint, OneLater, OneVariant, OneFlag, OneNumber, OneText, OneLength, elementary_ctor, builds_one, is_of_set, belongs}
+use Rattle.std.proofs.Common.{◌≡◌, ◌<◌, ◌^◌, ℕ, suc, Bool, false, List, [], ◌∷◌, IsTrue, refl, sym, ◌∙◌, subst}
+use Rattle.match_model.specs.Values.{MValue, parts_of}
+use Rattle.match_model.specs.Constructors.{MShape, MCtor, SingleCtor, PointCtor, VariantCtor, RowCtor, Elementary, OneSingle, OnePoint, OneLater, OneVariant, OneFlag, OneNumber, OneText, OneLength, elementary_ctor, is_of_set, belongs}
 use Rattle.match_model.specs.Contexts.{Context}
 use Rattle.match_model.specs.Made.{IsMadeSet}
-use Rattle.match_model.specs.ContextLaws.{ValueIs, RangesAscend, ValuesLaw, parts_count, PartsAre, ArityIs, HasFields, PartsLaw, EmptyLaw, UnsureLaw}
+use Rattle.match_model.specs.ContextLaws.{ValueIs, RangesAscend, ValuesLaw, parts_count, PartsAre, ArityIs, PartsLaw, EmptyLaw, UnsureLaw}
 
 module _ {S T : Type 0} (f : S → T) (IsTypeS : S → Type 0) (IsType : T → Type 0) (IsValue : T → Bool → MValue → Type 0) (cy : Context S) (cx : Context T) where
   -- what a view of types keeps

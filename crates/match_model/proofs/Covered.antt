@@ -1,5 +1,5 @@
 -- Rows of which one is all wildcards leave no witness.
-use Rattle.std.proofs.Common.{◌≡◌, ◌⊎◌, inl, inr, ℕ, zero, suc, Bool, true, false, ◌&&◌, ◌||◌, List, [], ◌∷◌, ◌++◌, map, length, subst,  Option, Some, None, IsTrue, refl, sym, ap, ◌∙◌}
+use Rattle.std.proofs.Common.{◌≡◌, ◌⊎◌, inl, inr, ℕ, zero, suc, Bool, true, false, List, [], ◌∷◌, ◌++◌, map, length, subst, Some, None, refl, ap, ◌∙◌}
 use Rattle.std.specs.List.{flat_map, list_any}
 use Rattle.match_model.specs.Values.{MValue}
 use Rattle.match_model.specs.Witness.{MWitness, AnyOf}
@@ -8,8 +8,8 @@ use Rattle.match_model.specs.Contexts.{Context, Open}
 use Rattle.match_model.specs.ArenaPatterns.{de_pat}
 use Rattle.match_model.specs.Rows.{Head, is_wild, expand_row, row_rest, specialised_heads, all_specialised, wildcards, part_open, parts_open}
 use Rattle.match_model.specs.Pieces.{each_below}
-use Rattle.match_model.specs.WitnessList.{are_wild, named_in, Witnesses, taken, covered, no_row, anything, by_pieces, PieceWitnesses, no_piece, with_value, without_value, wrapped}
-use Rattle.match_model.proofs.Basics.{both, and_true, or_left, or_right, either, untrue}
+use Rattle.match_model.specs.WitnessList.{are_wild, named_in, Witnesses, taken, covered, no_row, anything, by_pieces, PieceWitnesses, no_piece, with_value, without_value}
+use Rattle.match_model.proofs.Basics.{both, or_left, or_right, either, untrue}
 
 any_append : {A : Type 0} (P : A → Bool) (xs ys : List A) → (list_any P xs ≡ true) ⊎ (list_any P ys ≡ true) → list_any P (xs ++ ys) ≡ true
 any_append P [] ys (inl h) = untrue h
@@ -95,7 +95,7 @@ module _ {T : Type 0} (cx : Context T) (IsValue : T → Bool → MValue → Type
     pieces_none _ _ _ _ _ _ (with_value named o places rows piece pieces ws us h a b) k =
         rw (
           covered_none (parts_open cx o piece ++ places) (all_specialised piece (cx.arity piece o.type) rows) ws a
-            (any_flat (are_wild (o ∷ places)) (are_wild (parts_open cx o piece ++ places)) (specialised_heads piece (cx.arity piece o.type)) (specialised o places piece) rows k),
+              (any_flat (are_wild (o ∷ places)) (are_wild (parts_open cx o piece ++ places)) (specialised_heads piece (cx.arity piece o.type)) (specialised o places piece) rows k),
           pieces_none named o places rows pieces us b k,
         ) refl
     pieces_none _ _ _ _ _ _ (without_value named o places rows piece pieces us n b) k = pieces_none named o places rows pieces us b k

@@ -1,12 +1,12 @@
 -- A match is exhaustive exactly where its exact cover is empty; numbers that ascend differ.
-use Rattle.std.proofs.Common.{◌≡◌, ◌≢◌, ◌↔◌, ◌<◌, ℕ, zero, suc, Bool, true, false, not, ◌&&◌, ◌||◌, List, [], ◌∷◌, length, Some, None, IsTrue, nat_eq, nat_lt, refl, sym, ap, ◌∙◌, arith, subst}
+use Rattle.std.proofs.Common.{◌≡◌, ◌↔◌, ℕ, Bool, true, false, not, ◌||◌, List, [], ◌∷◌, IsTrue, nat_eq, nat_lt, refl, sym, arith, subst}
 use Rattle.std.proofs.lemmas.Bool.Decides.{nat_tests}
 use Rattle.std.specs.List.{Contains, list_any}
-use Rattle.match_model.specs.Values.{MValue, Unseen}
+use Rattle.match_model.specs.Values.{MValue}
 use Rattle.match_model.specs.Match.{ArmWays, is_covered, IsExhaustive}
 use Rattle.match_model.specs.Witness.{MWitness}
 use Rattle.match_model.specs.ExactCover.{IsExactCover}
-use Rattle.match_model.specs.Patterns.{MPat, is_other, all_differ}
+use Rattle.match_model.specs.Patterns.{MPat, is_none_of, all_differ}
 use Rattle.match_model.specs.Match.{alternatives_in}
 use Rattle.match_model.specs.SourcePatterns.{ascend, offsets_ascend, offsets_differ, ids_in}
 use Rattle.match_model.proofs.Basics.{both, and_true, untrue}
@@ -37,7 +37,7 @@ empty_exactly Domain arms ws cover = (forth ws cover, back)
         go true h = refl
         go false h = let f = (cover.uncovered v d n).0 h in absurd (none_in f.0 (subst (λ l. Contains l f.0) e f.1))
 
-below_others : (n m : ℕ) (ns : List ℕ) → nat_lt n m ≡ true → ascend (m ∷ ns) ≡ true → is_other (m ∷ ns) n ≡ true
+below_others : (n m : ℕ) (ns : List ℕ) → nat_lt n m ≡ true → ascend (m ∷ ns) ≡ true → is_none_of (m ∷ ns) n ≡ true
 below_others n m [] h a = grind (arith, nat_tests)
 below_others n m (k ∷ ns) h a =
     let b = both (nat_lt m k) (ascend (k ∷ ns)) a in
@@ -46,7 +46,7 @@ below_others n m (k ∷ ns) h a =
     less : (x y z : ℕ) → nat_lt x y ≡ true → nat_lt y z ≡ true → nat_lt x z ≡ true
     less x y z p q = grind (arith, nat_tests)
 
-    go : (t : Bool) → nat_eq n m ≡ t → is_other (k ∷ ns) n ≡ true → not (t || list_any (nat_eq n) (k ∷ ns)) ≡ true
+    go : (t : Bool) → nat_eq n m ≡ t → is_none_of (k ∷ ns) n ≡ true → not (t || list_any (nat_eq n) (k ∷ ns)) ≡ true
     go true e o = absurd (same n m h e)
       where
         same : (x y : ℕ) → nat_lt x y ≡ true → nat_eq x y ≡ true → ⊥
@@ -58,7 +58,7 @@ ascending_differ [] a = refl
 ascending_differ (n ∷ []) a = refl
 ascending_differ (n ∷ m ∷ ns) a =
     let b = both (nat_lt n m) (ascend (m ∷ ns)) a in
-    and_true (is_other (m ∷ ns) n) (all_differ (m ∷ ns)) (below_others n m ns b.0 b.1) (ascending_differ (m ∷ ns) b.1)
+    and_true (is_none_of (m ∷ ns) n) (all_differ (m ∷ ns)) (below_others n m ns b.0 b.1) (ascending_differ (m ∷ ns) b.1)
 
 pub offsets_then_differ : (p : MPat) → offsets_ascend p ≡ true → offsets_differ p ≡ true
 offsets_then_differ p a = ascending_differ (ids_in (alternatives_in p)) a

@@ -4,7 +4,7 @@ use Rattle.std.specs.List.{list_any}
 use Rattle.match_model.specs.Types.{DeclaredItem, OptionOwner, ResultOwner, MType, BoolType, CharType, StrType, IntType, OpaqueType, TupleType, PointType, SliceType, ArrayType, NamedType, MTypes, no_types, more_types}
 use Rattle.match_model.specs.Declarations.{MVariant, MItem, StructItem, EnumItem, OtherItem, MProgram, form_types, node_types, item_types, variant_types, item_is_marked}
 use Rattle.match_model.specs.Values.{MValue, Flag, Num, Text, Node, Point, Row, Thing, Later, Unseen, MValues, no_values, more_values, values_list}
-use Rattle.match_model.specs.Typing.{is_value, are_values, all_are_values, item_type, type_if}
+use Rattle.match_model.specs.Typing.{is_value, are_values, all_are_values, item_type, some_if}
 use Rattle.match_model.specs.Emptiness.{has_value, all_have_value, item_has_value, IsStable}
 use Rattle.match_model.proofs.Basics.{both, and_true, or_left, or_right, found, nat_equal, nothing, third_of_result}
 
@@ -79,7 +79,7 @@ later_has : (marks : List Bool) (program : MProgram) → IsStable program marks 
 later_has marks program s (NamedType (DeclaredItem i) args) h = s i (marked_has marks (slice_get program.items i) h)
 later_has marks program s _ h = cc
 
-pub type_if_is : (b : Bool) (u item : MType) → type_if b u ≡ Some item → (b ≡ true) × (u ≡ item)
+pub type_if_is : (b : Bool) (u item : MType) → some_if b u ≡ Some item → (b ≡ true) × (u ≡ item)
 type_if_is true u item e = (refl, cc)
 type_if_is false u item e = absurd (not_some e)
   where

@@ -9,7 +9,7 @@ use Rattle.match_model.specs.Types.{DeclaredItem, OptionOwner, ResultOwner, MTyp
 use Rattle.match_model.specs.Declarations.{MProgram}
 use Rattle.match_model.specs.Values.{MValue, Flag, Num, Text, Node, Point, Row, Thing, Unseen, MValues, no_values, more_values, values_list}
 use Rattle.match_model.specs.Numbers.{has_number}
-use Rattle.match_model.specs.Typing.{is_value, are_values, all_are_values, type_if}
+use Rattle.match_model.specs.Typing.{is_value, are_values, all_are_values, some_if}
 use Rattle.match_model.specs.RustTypes.{is_type, are_types, IsSoundProgram}
 use Rattle.match_model.specs.Emptiness.{has_value, all_have_value, mark_of}
 use Rattle.match_model.proofs.Basics.{both, and_true, nat_equal, nat_itself}
@@ -68,7 +68,7 @@ point_found program sure true t (v, h) = (Point true v, h)
 point_found program sure false t (v, h) = (Point false v, h)
 
 items_by : (program : MProgram) (sure : Bool) (t : MType) (items : MValues) (b : Bool) → b ≡ true → all_are_values program sure t items ≡ true →
-    (elim (type_if b t) [ None ↦ false | Some item ↦ all_are_values program sure item items ]) ≡ true
+    (elim (some_if b t) [ None ↦ false | Some item ↦ all_are_values program sure item items ]) ≡ true
 items_by program sure t items true e h = h
 items_by program sure t items false e h = cc
 

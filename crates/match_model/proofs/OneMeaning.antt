@@ -10,11 +10,11 @@ use Rattle.match_model.specs.Trees.{MBranch, MNode, SwitchNode, AskNode, TakeNod
 abbrev on_refusal : (number refused : ℕ) → List Bool → List ℕ → Option Visit
 on_refusal n refused [] asked = None
 on_refusal n refused (true ∷ left) asked = None
-on_refusal n refused (false ∷ left) asked = Some (record { node = refused; left = left; asked = asked ++ n ∷ [] })
+on_refusal n refused (false ∷ left) asked = Some (record { node = refused; left = left; refused = asked ++ n ∷ [] })
 
 abbrev behind : Option MBranch → List Bool → List ℕ → Option Visit
 behind None left asked = None
-behind (Some b) left asked = Some (record { node = b.next; left = left; asked = asked })
+behind (Some b) left asked = Some (record { node = b.next; left = left; refused = asked })
 
 abbrev next_stop : MValue → Option MNode → (number : ℕ) → List Bool → List ℕ → Option Visit
 next_stop v (Some (SwitchNode place branches)) n left asked = behind (branch_at place branches v) left asked
@@ -26,7 +26,7 @@ next_stop v None n left asked = None
 
 module _ (nodes : List MNode) (v : MValue) where
   abbrev Next : Visit → Option Visit
-  Next a = next_stop v (slice_get nodes a.node) a.node a.left a.asked
+  Next a = next_stop v (slice_get nodes a.node) a.node a.left a.refused
 
   goes : (a b : Visit) → GoesOn nodes v a b → Next a ≡ Some b
   goes _ _ (by_case n left asked place branches b e f) = ap (λ o. next_stop v o n left asked) e ∙ ap (λ o. behind o left asked) f
@@ -73,9 +73,9 @@ pub one_walk : (nodes : List MNode) (v : MValue) (answers : List Bool) (ns ms : 
 one_walk nodes v answers ns ms o p m n =
     let same : m.last ≡ n.last =
     one_last nodes v (root answers) m.last n.last m.comes n.comes
-    (ends_there nodes v (slice_get nodes m.last.node) m.last.node m.last.left m.last.asked o m.ends)
-    (ends_there nodes v (slice_get nodes n.last.node) n.last.node n.last.left n.last.asked p n.ends) in (
-      sym m.asks ∙ ap (λ l. answered (slice_get nodes l.node) l.node l.left l.asked) same ∙ n.asks,
+    (ends_there nodes v (slice_get nodes m.last.node) m.last.node m.last.left m.last.refused o m.ends)
+    (ends_there nodes v (slice_get nodes n.last.node) n.last.node n.last.left n.last.refused p n.ends) in (
+      sym m.asks ∙ ap (λ l. answered (slice_get nodes l.node) l.node l.left l.refused) same ∙ n.asks,
       some_same nodes v o p (sym m.ends ∙ ap (λ l. outcome_at (slice_get nodes l.node) v l.left) same ∙ n.ends),
     )
 
@@ -88,7 +88,7 @@ both_same a b o p h k = rw (h, k) refl
 pub one_meaning : (nodes : List MNode) (v : MValue) (answers : List Bool) (s t : Selected) → Means nodes v answers s → Means nodes v answers t → s ≡ t
 one_meaning nodes v answers s t m n =
     let one = one_walk nodes v answers m.asked_nodes n.asked_nodes s.outcome t.outcome m.walk n.walk in
-    both_same s.asked t.asked s.outcome t.outcome (sym m.asked ∙ ap (guards_at nodes v) one.0 ∙ n.asked) one.1
+    both_same s.asked t.asked s.outcome t.outcome (sym m.asks ∙ ap (guards_at nodes v) one.0 ∙ n.asks) one.1
 
 one_listed : (Reachable : ℕ → Type 0) (arm : ℕ) (alternatives : Alternatives) (es fs : List Entry) →
     Listed Reachable arm alternatives es → Listed Reachable arm alternatives fs → es ≡ fs

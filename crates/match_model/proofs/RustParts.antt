@@ -7,9 +7,9 @@ use Rattle.match_model.specs.Declarations.{MVariant, MItem, StructItem, EnumItem
 use Rattle.match_model.specs.Values.{MValue, Flag, Num, Text, Node, Point, Row, Later, MValues, no_values, more_values, values_list, parts_of}
 use Rattle.match_model.specs.Texts.{is_scalar}
 use Rattle.match_model.specs.Numbers.{has_number}
-use Rattle.match_model.specs.Typing.{is_value, are_values, all_are_values, is_bool, is_str, item_type, type_if}
+use Rattle.match_model.specs.Typing.{is_value, are_values, all_are_values, is_bool, is_str, item_type, some_if}
 use Rattle.match_model.specs.Constructors.{MCtor, SingleCtor, PointCtor, LaterCtor, OtherTextCtor, VariantCtor, FlagCtor, NumbersCtor, TextCtor, RowCtor, WildCtor, OrCtor, MSet, PointSet, Elementary, OneSingle, OnePoint, OneLater, OneVariant, OneFlag, OneNumber, OneText, OneLength, elementary_ctor, builds_one, is_of_set}
-use Rattle.match_model.specs.ContextLaws.{PartsLaw, PartsAre, ArityIs, HasFields, parts_count}
+use Rattle.match_model.specs.ContextLaws.{PartsLaw, PartsAre, ArityIs, TypeFixesParts, parts_count}
 use Rattle.match_model.specs.RustTypes.{rust_set, item_set, rust_context, rust_sub, rust_arity, count_of_types, part_type, type_or, inner_type, is_type, are_types, IsSoundProgram, RustValue}
 use Rattle.match_model.specs.Emptiness.{IsRustType}
 use Rattle.match_model.proofs.RustValues.{one_number}
@@ -312,7 +312,7 @@ row_item (Some (EnumItem name marked (v ∷ vs))) b h = untrue h
 -- the items of a row of this length are of this type
 row_of : (program : MProgram) (t : MType) (n : ℕ) → is_of_set (rust_set program t) (OneLength n) ≡ true → item_type t n ≡ Some (inner_type t)
 row_of program (SliceType u) n h = refl
-row_of program (ArrayType u m) n h = ap (λ b. type_if b u) (flipped m n h)
+row_of program (ArrayType u m) n h = ap (λ b. some_if b u) (flipped m n h)
   where
     flipped : (a b : ℕ) → nat_eq a b ≡ true → nat_eq b a ≡ true
     flipped a b h = grind (arith, nat_tests)
@@ -458,7 +458,7 @@ few_of program sound (NamedType OptionOwner args) (suc (suc k)) d = few_none (va
 few_of program sound (NamedType ResultOwner args) (suc (suc k)) d = few_none (variant_types (slice_get (result_variants args) (suc (suc k)))) (third_of_result args k)
 few_of program sound _ _ d = lit< tt
 
-few_law : (program : MProgram) → IsSoundProgram program → (t : MType) (e : Elementary) → is_type program t ≡ true → HasFields e →
+few_law : (program : MProgram) → IsSoundProgram program → (t : MType) (e : Elementary) → is_type program t ≡ true → TypeFixesParts e →
     parts_count (rust_context program) t e < 2 ^ 32
 few_law program sound t e d (inl s) = rw s (few_of program sound t 0 d)
 few_law program sound t e d (inr (k, s)) = rw s (few_of program sound t k d)

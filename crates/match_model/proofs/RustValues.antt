@@ -12,7 +12,7 @@ use Rattle.match_model.specs.declared.Width.TheVariants.{Endless, Bits16, Bits32
 use Rattle.match_model.specs.declared.IntKind.{IntKind}
 use Rattle.match_model.specs.declared.IntKind.TheVariants.{U8, U16, U32, U64, U128, USize, I8, I16, I32, I64, I128, ISize}
 use Rattle.match_model.specs.Made.{IsMadeRange, IsMadeSet}
-use Rattle.match_model.specs.Typing.{is_value, are_values, all_are_values, item_type, type_if}
+use Rattle.match_model.specs.Typing.{is_value, are_values, all_are_values, item_type, some_if}
 use Rattle.match_model.specs.Constructors.{SingleSet, PointSet, FlagSet, TextSet, VariantSet, NumberSet, RowSet, OpaqueSet, NothingSet, Elementary, OneSingle, OnePoint, OneLater, OneVariant, OneFlag, OneNumber, OneText, OneLength, builds_one, is_of_set, in_either}
 use Rattle.match_model.specs.ContextLaws.{BuiltOnce, ValueIs, RangesAscend, ValuesLaw}
 use Rattle.match_model.specs.RustTypes.{rust_set, item_set, is_declared, is_type, RustValue, rust_context}
@@ -142,7 +142,7 @@ some_of : {A : Type 0} (o : Option A) (f : A → Bool) → (elim o [ None ↦ fa
 some_of None f h = cc
 some_of (Some x) f h = refl
 
-type_there : (b : Bool) (t : MType) → is_some (type_if b t) ≡ true → b ≡ true
+type_there : (b : Bool) (t : MType) → is_some (some_if b t) ≡ true → b ≡ true
 type_there true t h = refl
 type_there false t h = cc
 

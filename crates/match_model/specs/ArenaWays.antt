@@ -1,11 +1,12 @@
 -- The ways in which a pattern of the engine matches a value; they are the source's, by constructors (Rust Reference,
 -- Patterns; the documentation of `rustc_pattern_analysis`, deconstructed patterns).
-use Rattle.std.specs.Prelude.{ℕ, suc, ◌-◌, Bool, List, [], ◌∷◌, ◌++◌, map, length, take, drop, Option, Some, None}
+use Rattle.std.specs.Prelude.{ℕ, suc, Bool, List, [], ◌∷◌, ◌++◌, map, Option, Some, None}
 use Rattle.match_model.specs.Values.{MValue, Row, parts_of, values_list}
 use Rattle.match_model.specs.Ways.{Way, bare_way, combine, under, choosing, binding}
 use Rattle.match_model.specs.Matching.{middle_of, span_way}
 use Rattle.match_model.specs.Match.{ArmWays, Alternatives, no_alternative, alternative, and_others}
-use Rattle.match_model.specs.Constructors.{LongerShape, MCtor, NumbersCtor, RowCtor, WildCtor, OrCtor, builds}
+pub use Rattle.match_model.specs.Constructors.{parts_met}
+use Rattle.match_model.specs.Constructors.{MCtor, NumbersCtor, WildCtor, OrCtor, builds}
 use Rattle.match_model.specs.ArenaPatterns.{MPart, WholePart, MiddlePart, MBound, MDePat, de_pat, MDePats, no_de_pats, more_de_pats, MDeArm, MDeMatch, uid_of, at_of}
 use Rattle.match_model.specs.Places.{some_if}
 
@@ -18,11 +19,6 @@ pub record NumberedPart : Type 0 where
 abbrev pub numbered_from : ℕ → List MValue → List NumberedPart
 numbered_from i [] = []
 numbered_from i (v ∷ vs) = record { number = i; part = v } ∷ numbered_from (suc i) vs
-
--- the parts that the patterns of a constructor meet: of a row with a rest those at each end, else all
-abbrev pub parts_met : MCtor → List NumberedPart → List NumberedPart
-parts_met (RowCtor (LongerShape f b)) parts = take f parts ++ drop (length parts - b) parts
-parts_met _ parts = parts
 
 -- the parts of the value that the patterns meet, where the constructor builds it
 abbrev pub parts_built : MCtor → MValue → Option (List NumberedPart)

@@ -1,5 +1,5 @@
 -- Constructors, the sets of them that types have, and what one builds (the documentation of `rustc_pattern_analysis`).
-use Rattle.std.specs.Prelude.{ℕ, ◌+◌, ◌-◌, ◌^◌, ℤ, pos, negsuc, Bool, true, false, not, ◌&&◌, ◌||◌, List, [], length, nat_eq, nat_lt, nat_le, Option, Some, None, int_le}
+use Rattle.std.specs.Prelude.{ℕ, ◌+◌, ◌-◌, ◌^◌, ℤ, pos, negsuc, Bool, true, false, not, ◌&&◌, ◌||◌, List, [], ◌++◌, length, take, drop, nat_eq, nat_lt, nat_le, Option, Some, None, int_le}
 use Rattle.std.specs.List.{list_any, list_all}
 use Rattle.std.specs.Ordering.{int_eq}
 use mathlib.Core.Bool.{beq}
@@ -51,6 +51,11 @@ builds named (TextCtor t) (Text u) = text_eq t u
 builds named OtherTextCtor (Text u) = not (list_any (text_eq u) named)
 builds named (RowCtor s) (Row items) = covers s (length (values_list items))
 builds named _ _ = false
+
+-- the parts that the patterns or witnesses below a constructor meet: of a row with a rest those at each end, else all
+abbrev pub parts_met : {A : Type 0} → MCtor → List A → List A
+parts_met (RowCtor (LongerShape f b)) parts = take f parts ++ drop (length parts - b) parts
+parts_met _ parts = parts
 
 -- an elementary constructor: of one number, one text or one length
 pub data Elementary : Type 0 where

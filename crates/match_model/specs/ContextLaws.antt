@@ -57,8 +57,8 @@ ArityIs (RowCtor s) n = n ≡ least_length s
 ArityIs _ n = n ≡ 0
 
 -- the elementary constructor has a number of parts that the type decides
-abbrev pub HasFields : Elementary → Type 0
-HasFields e = (e ≡ OneSingle) ⊎ ((k : ℕ) × (e ≡ OneVariant k))
+abbrev pub TypeFixesParts : Elementary → Type 0
+TypeFixesParts e = (e ≡ OneSingle) ⊎ ((k : ℕ) × (e ≡ OneVariant k))
 
 -- a built tree is a value exactly where it has the right number of parts and each is a value of its type. Behind a
 -- reference no place is sure, and a reference of the other kind is no value
@@ -70,7 +70,7 @@ pub record PartsLaw {T : Type 0} (IsType : T → Type 0) (IsValue : T → Bool �
       (mutable : Bool) × ((sure m : Bool) (v : MValue) → IsValue t sure (Point m v) ↔ ((m ≡ mutable) × IsValue (cx.sub PointCtor t 0) false v))
   pub types : (t : T) (e : Elementary) (i : ℕ) → IsType t → IsTrue (is_of_set (cx.set_of t) e) → i < parts_count cx t e →
       IsType (cx.sub (elementary_ctor e) t i)
-  pub few : (t : T) (e : Elementary) → IsType t → IsTrue (is_of_set (cx.set_of t) e) → HasFields e → parts_count cx t e < 2 ^ 32
+  pub few : (t : T) (e : Elementary) → IsType t → IsTrue (is_of_set (cx.set_of t) e) → TypeFixesParts e → parts_count cx t e < 2 ^ 32
   pub arity : (t : T) (c : MCtor) → IsType t → IsTrue (belongs (cx.set_of t) c) → ArityIs c (cx.arity c t)
   pub items : (t : T) (s r : MShape) (i j : ℕ) → IsType t → IsTrue (belongs (cx.set_of t) (RowCtor s)) →
       IsTrue (belongs (cx.set_of t) (RowCtor r)) → cx.sub (RowCtor s) t i ≡ cx.sub (RowCtor r) t j

@@ -1,14 +1,10 @@
 -- What the program can hold of ranges: ends within 128 bits and a sign, none below the other; and the sets, constructors and
 -- patterns that have no other ranges.
-use Rattle.std.specs.Prelude.{◌≡◌, ⊤, ℤ, Bool, true, List, [], ◌∷◌, Option, Some, None, IsTrue, int_le}
+use Rattle.std.specs.Prelude.{⊤, List, [], ◌∷◌, Option, Some, None, IsTrue, int_le}
+pub use Rattle.match_model.specs.Numbers.{ends_ascend}
 use Rattle.match_model.specs.Numbers.{MEnd, Free, At, MRange}
 use Rattle.match_model.specs.Constructors.{MCtor, NumbersCtor, MSet, NumberSet, least_held, greatest_held}
 use Rattle.match_model.specs.ArenaPatterns.{MDePat, de_pat, MDePats, no_de_pats, more_de_pats, MDeArm}
-
--- a low end is not above a high one, so a range with these ends has a number
-abbrev pub ends_ascend : (low high : MEnd) → Bool
-ends_ascend (At a) (At b) = int_le a b
-ends_ascend _ _ = true
 
 -- the end has no bound, or one that can be held
 abbrev pub IsHeldEnd : MEnd → Type 0

@@ -8,7 +8,7 @@ use Rattle.match_model.specs.declared.Mode.{Mode}
 use Rattle.match_model.specs.declared.Mode.TheVariants.{Move, Ref, RefMut}
 use Rattle.match_model.specs.Values.{MValue, Flag, Num, Text, Node, Point, Row, values_list, values_of}
 use Rattle.match_model.specs.Texts.{text_eq}
-use Rattle.match_model.specs.Numbers.{MRange, in_range, is_one}
+use Rattle.match_model.specs.Numbers.{MRange, in_range, has_one_number}
 use Rattle.match_model.specs.Patterns.{Written, WrittenPlain, WrittenMut, WrittenRef, WrittenRefMut, MRest, NoRest, SomeRest, BoundRest, MPat, WildPat, NumPat, FlagPat, TextPat, SpanPat, BindPat, FormPat, ListPat, PointPat, OrPat, MPats, no_pats, more_pats, MNumbered, no_numbered, more_numbered, numbers_in, all_differ}
 use Rattle.match_model.specs.Ways.{Way, bare_way, combine, under, choosing, binding}
 
@@ -60,7 +60,7 @@ text_ways t _ = []
 
 -- the way of a range that was met, which keeps the range where it has more than one number
 abbrev pub span_way : (at : ℕ) → MRange → Way
-span_way at r = record bare_way { spans = if is_one r then [] else record { at = at; position = []; range = r } ∷ [] }
+span_way at r = record bare_way { spans = if has_one_number r then [] else record { at = at; position = []; range = r } ∷ [] }
 
 -- the value is a number in the range
 abbrev pub span_ways : (at : ℕ) → MRange → Matcher
@@ -107,15 +107,15 @@ bind_rest back SomeRest m middle w = w
 bind_rest back (BoundRest name written) m middle w = binding name (mode_written back written m) middle w
 
 -- the items match, those at the front first; what the rest has is bound where it has a name
-abbrev pub rows_ways : (Mode → Mode) → List Matcher → MRest → List Matcher → Mode → List MValue → List Way
-rows_ways by front rest back m items =
+abbrev pub list_items_ways : (Mode → Mode) → List Matcher → MRest → List Matcher → Mode → List MValue → List Way
+list_items_ways by front rest back m items =
     map (bind_rest by rest m (middle_of (length front) (length back) items))
     (items_ways (laid_out wild front rest back (length items)) 0 items)
 
 -- the value is a tuple or row whose items match
 abbrev pub list_ways : (Mode → Mode) → List Matcher → MRest → List Matcher → Mode → Matcher
-list_ways by front rest back m (Node k parts) = rows_ways by front rest back m (values_list parts)
-list_ways by front rest back m (Row items) = rows_ways by front rest back m (values_list items)
+list_ways by front rest back m (Node k parts) = list_items_ways by front rest back m (values_list parts)
+list_ways by front rest back m (Row items) = list_items_ways by front rest back m (values_list items)
 list_ways by front rest back m _ = []
 
 -- the value is a reference of this kind, and what it points to matches

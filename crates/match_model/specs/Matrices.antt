@@ -12,7 +12,8 @@ use Rattle.match_model.specs.Contexts.{Context, Open}
 use Rattle.match_model.specs.ArenaPatterns.{MPart, WholePart, MiddlePart, MBound, de_pat, MDeArm, MDeMatch}
 use Rattle.match_model.specs.ArenaWays.{arena_ways}
 use Rattle.match_model.specs.Pieces.{each_below}
-use Rattle.match_model.specs.Rows.{Head, choices_of, starts_wild, row_rest, specialised_heads, part_open}
+use Rattle.match_model.specs.PieceStates.{IsPieceOf}
+use Rattle.match_model.specs.Rows.{Head, choices_of, starts_wild, starts_or, row_rest, column_of, specialised_heads, part_open}
 
 -- a column: the place that it looks at, its type, and whether the place is sure
 pub record MColumn (T : Type 0) : Type 0 where
@@ -91,13 +92,13 @@ begins [] ns = true
 begins (m ∷ ms) [] = false
 begins (m ∷ ms) (n ∷ ns) = nat_eq m n && begins ms ns
 
--- the value is one that a matrix speaks of: at each column's place stands a value of its type, and each place is there
--- that a row has caught
+-- the value is one that a matrix speaks of: at each column's place stands a value of its type, each place is there that a
+-- row has caught, and no column lies at the position of another, or inside it
 pub record IsMatrixValue {T : Type 0} (IsValue : T → Bool → MValue → Type 0) (m : MMatrix T) (v : MValue) : Type 0 where
-  pub held : (c : MColumn T) → Contains m.columns c → (u : MValue) × (part_at c.place v ≡ Some u) × IsValue c.type c.sure u
+  pub filled : (c : MColumn T) → Contains m.columns c → (u : MValue) × (part_at c.place v ≡ Some u) × IsValue c.type c.sure u
   pub there : (r : MRow T) → Contains m.rows r → IsTrue (places_are v r.caught)
-  pub apart : (i j : ℕ) (c d : MColumn T) (p q : List ℕ) → slice_get m.columns i ≡ Some c → slice_get m.columns j ≡ Some d → i ≢ j →
-      position_at c.place v ≡ Some p → position_at d.place v ≡ Some q → begins p q ≡ false
+  pub apart : (i j : ℕ) (c d : MColumn T) (p q : List ℕ) → slice_get m.columns i ≡ Some c → slice_get m.columns j ≡ Some d →
+      i ≢ j → position_at c.place v ≡ Some p → position_at d.place v ≡ Some q → begins p q ≡ false
 
 -- a name with the place of what it holds
 abbrev pub bind_at : List MStep → MBound → MBind
@@ -130,6 +131,19 @@ expand_rows place rows = flat_map (λ r. expand_first place r r.heads) rows
 -- the first head is a wildcard or a name
 abbrev pub first_wild : {T : Type 0} → MRow T → Bool
 first_wild r = starts_wild r.heads
+
+-- the first head is an or-pattern
+abbrev pub first_or : {T : Type 0} → MRow T → Bool
+first_or r = starts_or r.heads
+
+-- the constructors of the first column
+abbrev pub column_ctors : {T : Type 0} → List (MRow T) → List MCtor
+column_ctors rows = column_of (map (λ r. r.heads) rows)
+
+-- the constructor is a piece of the first column's split, by which rows are specialised
+abbrev pub IsFirstPiece : {T : Type 0} → Context T → MMatrix T → MCtor → Type 0
+IsFirstPiece {T} cx m piece =
+    (c : MColumn T) × (columns : List (MColumn T)) × (m.columns ≡ c ∷ columns) × IsPieceOf (cx.set_of c.type) (column_ctors m.rows) piece
 
 -- the open place of a column
 abbrev pub open_of : {T : Type 0} → MColumn T → Open T

@@ -37,9 +37,14 @@ is_at n (At m) = int_eq n m
 abbrev pub in_range : MRange → ℤ → Bool
 in_range r n = is_from r.low n && is_up_to r.high n
 
+-- the ends of a range ascend, so it has a number
+abbrev pub ends_ascend : (low high : MEnd) → Bool
+ends_ascend (At a) (At b) = int_le a b
+ends_ascend _ _ = true
+
 -- both ends are the same number, so the range has exactly one number
-abbrev pub is_one : MRange → Bool
-is_one r = same_number r.low r.high
+abbrev pub has_one_number : MRange → Bool
+has_one_number r = same_number r.low r.high
   where
     same_number : MEnd → MEnd → Bool
     same_number (At a) (At b) = int_eq a b

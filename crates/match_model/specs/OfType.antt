@@ -2,7 +2,7 @@
 -- of `rustc_pattern_analysis`, constructors).
 use Rattle.std.specs.Prelude.{ℕ, zero, suc, Bool, true, false, ◌&&◌, List, [], ◌∷◌, length, nat_eq, nat_lt, Option, Some, None}
 use Rattle.std.specs.List.{list_all}
-use Rattle.match_model.specs.Witness.{MWitness, AnyOf, LaterOf, FlagOf, SpanOf, TextOf, ElseOf, NodeOf, PointOf, RowOf, MWitnesses, no_witnesses, more_witnesses, witnesses_list, row_shape, back_is_allowed}
+use Rattle.match_model.specs.Witness.{MWitness, AnyOf, LaterOf, FlagOf, SpanOf, TextOf, ElseOf, NodeOf, PointOf, RowOf, MWitnesses, no_witnesses, more_witnesses, witnesses_list, slice_shape, back_is_allowed}
 use Rattle.match_model.specs.Constructors.{LongerShape, MCtor, SingleCtor, PointCtor, LaterCtor, OtherTextCtor, VariantCtor, FlagCtor, NumbersCtor, TextCtor, RowCtor, MSet, SingleSet, belongs}
 use Rattle.match_model.specs.Contexts.{Context}
 use Rattle.match_model.specs.Places.{MStep, ThroughStep, FieldStep, FrontStep, BackStep, MiddleStep}
@@ -32,14 +32,14 @@ abbrev mutual
       has_ctor cx t c && (nat_eq (length (witnesses_list ws)) (cx.arity c t) && witnesses_are_of cx (cx.sub c t) 0 ws)
   witness_is_of cx t (PointOf w) = has_ctor cx t PointCtor && witness_is_of cx (cx.sub PointCtor t 0) w
   witness_is_of cx t (RowOf front longer back) =
-      let c : MCtor = RowCtor (row_shape (length (witnesses_list front)) longer (length (witnesses_list back))) in
+      let c : MCtor = RowCtor (slice_shape (length (witnesses_list front)) longer (length (witnesses_list back))) in
       has_ctor cx t c && back_is_allowed longer (length (witnesses_list back))
       && (witnesses_are_of cx (cx.sub c t) 0 front && witnesses_are_of cx (cx.sub c t) (length (witnesses_list front)) back)
 
   -- the witnesses are of the types of the parts from number `i` on
   pub witnesses_are_of : {T : Type 0} → Context T → (ℕ → T) → ℕ → MWitnesses → Bool
-  witnesses_are_of cx type_at i no_witnesses = true
-  witnesses_are_of cx type_at i (more_witnesses w ws) = witness_is_of cx (type_at i) w && witnesses_are_of cx type_at (suc i) ws
+  witnesses_are_of cx type_of i no_witnesses = true
+  witnesses_are_of cx type_of i (more_witnesses w ws) = witness_is_of cx (type_of i) w && witnesses_are_of cx type_of (suc i) ws
 
 -- the constructor whose part a step enters, and the number of that part; a step to middle items enters no part
 pub record Entered : Type 0 where
@@ -62,9 +62,9 @@ type_entered cx t (Some e) =
     elim (has_ctor cx t e.ctor && nat_lt e.part (cx.arity e.ctor t)) [ true ↦ Some (cx.sub e.ctor t e.part) | false ↦ None ]
 
 -- the type at a place, each step of which enters a part that a constructor of the set there has
-abbrev pub type_at : {T : Type 0} → Context T → T → List MStep → Option T
-type_at cx t [] = Some t
-type_at cx t (s ∷ steps) = elim (type_entered cx t (entered (cx.set_of t) s)) [ None ↦ None | Some u ↦ type_at cx u steps ]
+abbrev pub type_at_place : {T : Type 0} → Context T → T → List MStep → Option T
+type_at_place cx t [] = Some t
+type_at_place cx t (s ∷ steps) = elim (type_entered cx t (entered (cx.set_of t) s)) [ None ↦ None | Some u ↦ type_at_place cx u steps ]
 
 -- the place is of the type; a step to middle items stands only last, and on rows that have the two sides
 abbrev pub place_is_of : {T : Type 0} → Context T → T → List MStep → Bool
@@ -89,7 +89,7 @@ cases_are_of cx (Some t) branches = list_all (λ b. case_is_of cx t b.case) bran
 
 -- the places and cases of the node are of the type
 abbrev pub node_is_of : {T : Type 0} → Context T → T → MNode → Bool
-node_is_of cx t (SwitchNode place branches) = cases_are_of cx (type_at cx t place) branches
+node_is_of cx t (SwitchNode place branches) = cases_are_of cx (type_at_place cx t place) branches
 node_is_of cx t (AskNode arm binds refused) = list_all (λ b. place_is_of cx t b.place) binds
 node_is_of cx t (TakeNode arm binds) = list_all (λ b. place_is_of cx t b.place) binds
 node_is_of cx t MissNode = true

@@ -1,5 +1,5 @@
 -- Overlapping ranges (the documentation of the lint on overlapping range endpoints; the exact condition is our own choice).
-use Rattle.std.specs.Prelude.{◌≡◌, ◌≢◌, ◌<◌, ◌⊎◌, ℕ, ℤ, List, slice_get, Some}
+use Rattle.std.specs.Prelude.{◌≡◌, ◌≢◌, ◌<◌, ◌⊎◌, ◌↔◌, ℕ, ℤ, Bool, ◌&&◌, ◌||◌, List, slice_get, Some, IsTrue, nat_eq, nat_lt, int_lt}
 use Rattle.std.specs.List.{Contains}
 use Rattle.match_model.specs.Values.{MValue, Num, part_at_position}
 use Rattle.match_model.specs.Numbers.{MRange, At}
@@ -12,27 +12,45 @@ use Rattle.match_model.specs.Select.{Try, tries_from}
 abbrev pub MeetAt : MRange → MRange → ℤ → Type 0
 MeetAt r s x = ((r.high ≡ At x) × (s.low ≡ At x)) ⊎ ((s.high ≡ At x) × (r.low ≡ At x))
 
--- two different ways of the value met two ranges at one position, the one at the smaller offset first, and there stands
+-- two different tries of the value met two ranges at one position, the one at the smaller offset first, and there stands
 -- their one common number
 pub record OverlapIn (arms : List ArmWays) (v : MValue) (first second : ℕ) (x : ℤ) : Type 0 where
-  pub number_of_one : ℕ
-  pub number_of_other : ℕ
-  pub one : Try
-  pub other : Try
-  pub a : SpanMet
-  pub b : SpanMet
-  pub different : number_of_one ≢ number_of_other
-  pub is_one : slice_get (tries_from 0 arms v) number_of_one ≡ Some one
-  pub is_other : slice_get (tries_from 0 arms v) number_of_other ≡ Some other
-  pub has_a : Contains one.way.spans a
-  pub has_b : Contains other.way.spans b
-  pub is_first : a.at ≡ first
-  pub is_second : b.at ≡ second
+  pub first_index : ℕ
+  pub second_index : ℕ
+  pub first_try : Try
+  pub second_try : Try
+  pub first_span : SpanMet
+  pub second_span : SpanMet
+  pub different : first_index ≢ second_index
+  pub first_there : slice_get (tries_from 0 arms v) first_index ≡ Some first_try
+  pub second_there : slice_get (tries_from 0 arms v) second_index ≡ Some second_try
+  pub first_met : Contains first_try.way.spans first_span
+  pub second_met : Contains second_try.way.spans second_span
+  pub first_at : first_span.at ≡ first
+  pub second_at : second_span.at ≡ second
   pub ordered : first < second
-  pub same_position : a.position ≡ b.position
-  pub is_number : part_at_position a.position v ≡ Some (Num x)
-  pub meet : MeetAt a.range b.range x
+  pub same_position : first_span.position ≡ second_span.position
+  pub is_number : part_at_position first_span.position v ≡ Some (Num x)
+  pub meet : MeetAt first_span.range second_span.range x
 
 -- the ranges at these two offsets overlap at the number, in some value of the domain; arms with guards count
 abbrev pub Overlaps : (Domain : MValue → Type 0) → List ArmWays → (first second : ℕ) → ℤ → Type 0
 Overlaps Domain arms first second x = (v : MValue) × Domain v × OverlapIn arms v first second x
+
+-- an overlap as it is printed: the offsets of the two ranges, and their common number
+pub record MOverlap : Type 0 where
+  pub first : ℕ
+  pub second : ℕ
+  pub number : ℤ
+
+-- the overlap stands before the other one: by its first offset, then its second, then its number
+abbrev pub overlap_before : MOverlap → MOverlap → Bool
+overlap_before o p =
+    nat_lt o.first p.first
+    || (nat_eq o.first p.first && (nat_lt o.second p.second || (nat_eq o.second p.second && int_lt o.number p.number)))
+
+-- the list of overlaps: each of them and nothing else, each once, ascending by first offset, second offset and number
+pub record IsOverlapList (Domain : MValue → Type 0) (arms : List ArmWays) (os : List MOverlap) : Type 0 where
+  pub each : (o : MOverlap) → Contains os o ↔ Overlaps Domain arms o.first o.second o.number
+  pub ascending : (i j : ℕ) (o p : MOverlap) → slice_get os i ≡ Some o → slice_get os j ≡ Some p → i < j →
+      IsTrue (overlap_before o p)

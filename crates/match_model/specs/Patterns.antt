@@ -52,10 +52,10 @@ numbers_in no_numbered = []
 numbers_in (more_numbered n p ps) = n ∷ numbers_in ps
 
 -- the number is none of these
-abbrev pub is_other : List ℕ → ℕ → Bool
-is_other ns n = not (list_any (nat_eq n) ns)
+abbrev pub is_none_of : List ℕ → ℕ → Bool
+is_none_of ns n = not (list_any (nat_eq n) ns)
 
 -- no number stands twice
 abbrev pub all_differ : List ℕ → Bool
 all_differ [] = true
-all_differ (n ∷ ns) = is_other ns n && all_differ ns
+all_differ (n ∷ ns) = is_none_of ns n && all_differ ns

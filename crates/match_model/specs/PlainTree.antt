@@ -1,18 +1,19 @@
 -- The decision tree of a match that is printed, among all right ones (our own choice, after Maranget 2008).
-use Rattle.std.specs.Prelude.{◌≡◌, ◌⊎◌, ℕ, ◌+◌, Bool, true, false, List, [], ◌∷◌, ◌++◌, map, Some, IsTrue}
-use Rattle.std.specs.List.{list_all, list_any, Contains}
+use Rattle.std.specs.Prelude.{◌≡◌, ◌⊎◌, ℕ, ◌+◌, Bool, true, false, List, [], ◌∷◌, ◌++◌, Some, IsTrue}
+use Rattle.std.specs.List.{list_all, Contains}
 use Rattle.match_model.specs.Values.{MValue, Unseen}
 use Rattle.match_model.specs.Ways.{put_by}
-use Rattle.match_model.specs.Constructors.{FixedShape, LongerShape, MCtor, VariantCtor, FlagCtor, NumbersCtor, TextCtor, RowCtor, has_piece, MSet, SingleSet, PointSet, RowSet}
+use Rattle.match_model.specs.Constructors.{FixedShape, LongerShape, MCtor, VariantCtor, FlagCtor, NumbersCtor, TextCtor, RowCtor, MSet, SingleSet, PointSet, RowSet}
 use Rattle.match_model.specs.Contexts.{Context}
 use Rattle.match_model.specs.ArenaPatterns.{MDeMatch}
 use Rattle.match_model.specs.ArenaWays.{InMatchDomain}
 use Rattle.match_model.specs.Places.{MStep}
 use Rattle.match_model.specs.Trees.{MCase, VariantCase, FlagCase, SpanCase, TextCase, LengthCase, LongerCase, ElseCase, MBind, MBranch, MNode, SwitchNode, AskNode, TakeNode, MissNode, VoidNode}
 use Rattle.match_model.specs.Pieces.{ArePieces}
-use Rattle.match_model.specs.Rows.{Head, is_wild, column_of}
+use Rattle.match_model.specs.Rows.{Head, is_wild}
 use Rattle.match_model.specs.Matrices.{MColumn, MRow, first_matrix, head_binds, expand_rows, first_wild, specialised_rows, default_rows, open_of, part_columns}
-use Rattle.match_model.specs.WitnessList.{HasValue, named_in}
+pub use Rattle.match_model.specs.PieceStates.{HasValue, named_in, is_present}
+pub use Rattle.match_model.specs.Matrices.{column_ctors}
 
 mutual
   -- a tree with its subtrees in their places
@@ -79,10 +80,6 @@ row_binds columns r = by_name (r.caught ++ all_head_binds columns r.heads)
 abbrev pub all_wild : {T : Type 0} → MRow T → Bool
 all_wild r = list_all is_wild r.heads
 
--- the constructors of the first column
-abbrev pub column_ctors : {T : Type 0} → List (MRow T) → List MCtor
-column_ctors rows = column_of (map (λ r. r.heads) rows)
-
 -- a type whose parts take its place without a node: a struct, tuple, reference or array
 abbrev pub is_switchless : MSet → Bool
 is_switchless SingleSet = true
@@ -99,10 +96,6 @@ case_of (TextCtor t) = TextCase t
 case_of (RowCtor (FixedShape n)) = LengthCase n
 case_of (RowCtor (LongerShape f b)) = LongerCase f b
 case_of _ = ElseCase
-
--- a head of the column has the piece
-abbrev pub is_present : (heads : List MCtor) → (piece : MCtor) → Bool
-is_present heads piece = list_any (λ h. has_piece h piece) heads
 
 -- the piece is one of all that no head of the column has
 abbrev pub IsMissing : (all heads : List MCtor) → (piece : MCtor) → Type 0

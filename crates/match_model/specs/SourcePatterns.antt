@@ -1,9 +1,9 @@
 -- What the patterns of the source keep to: how the ends of a written range are brought to numbers of its type, and what
 -- numbers and offsets they have (Rust Reference, Patterns).
-use Rattle.std.specs.Prelude.{ℕ, ℤ, pos, ◌-ℤ◌, Bool, true, false, ◌&&◌, List, [], ◌∷◌, ◌++◌, Option, Some, None, int_le, nat_lt}
+use Rattle.std.specs.Prelude.{ℕ, ℤ, pos, ◌-ℤ◌, Bool, true, false, ◌&&◌, List, [], ◌∷◌, ◌++◌, Option, Some, None, nat_lt}
 use Rattle.match_model.specs.declared.Width.{Width}
 use Rattle.match_model.specs.Types.{MType}
-use Rattle.match_model.specs.Numbers.{MEnd, Free, At, is_at, MRange, numbers_of}
+use Rattle.match_model.specs.Numbers.{MEnd, Free, At, is_at, MRange, ends_ascend, numbers_of}
 use Rattle.match_model.specs.Patterns.{MPat, WildPat, NumPat, FlagPat, TextPat, SpanPat, BindPat, FormPat, ListPat, PointPat, OrPat, MPats, no_pats, more_pats, MNumbered, no_numbered, more_numbered, numbers_in, all_differ}
 use Rattle.match_model.specs.Match.{Alternatives, no_alternative, alternative, alternatives_in}
 
@@ -49,12 +49,6 @@ written_range width t low inclusive high = record {
   high = high_written (numbers_of width t) inclusive high;
 }
 
--- the ends of a range are in order
-abbrev pub in_order : MEnd → MEnd → Bool
-in_order (At a) (At b) = int_le a b
-in_order Free high = true
-in_order (At a) Free = true
-
 -- two alternatives or more
 abbrev pub two_or_more : MNumbered → Bool
 two_or_more no_numbered = false
@@ -69,7 +63,7 @@ abbrev mutual
   is_formed (NumPat n) = true
   is_formed (FlagPat b) = true
   is_formed (TextPat t) = true
-  is_formed (SpanPat at r) = in_order r.low r.high
+  is_formed (SpanPat at r) = ends_ascend r.low r.high
   is_formed (BindPat name written p) = is_formed p
   is_formed (FormPat k fields) = all_differ (numbers_in fields) && numbered_are_formed fields
   is_formed (ListPat front rest back) = items_are_formed front && items_are_formed back

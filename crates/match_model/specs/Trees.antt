@@ -103,21 +103,22 @@ asked_at arm binds v = record { arm = arm; bindings = bindings_in v binds }
 pub record Visit : Type 0 where
   pub node : ℕ
   pub left : List Bool
-  pub asked : List ℕ
+  pub refused : List ℕ
 
 -- where every walk begins
 abbrev pub root : (answers : List Bool) → Visit
-root answers = record { node = 0; left = answers; asked = [] }
+root answers = record { node = 0; left = answers; refused = [] }
 
 -- one step of a walk: along the case that has the part, or on from a guard that refuses
 pub data GoesOn (nodes : List MNode) (v : MValue) : Visit → Visit → Type 0 where
-  by_case : (n : ℕ) (left : List Bool) (asked : List ℕ) (place : List MStep) (branches : List MBranch) (b : MBranch) →
+  by_case : (n : ℕ) (left : List Bool) (refused : List ℕ) (place : List MStep) (branches : List MBranch) (b : MBranch) →
       slice_get nodes n ≡ Some (SwitchNode place branches) → branch_at place branches v ≡ Some b →
-      GoesOn nodes v (record { node = n; left = left; asked = asked }) (record { node = b.next; left = left; asked = asked })
-  by_refusal : (n : ℕ) (left : List Bool) (asked : List ℕ) (arm : ℕ) (binds : List MBind) (refused : ℕ) →
-      slice_get nodes n ≡ Some (AskNode arm binds refused) →
-      GoesOn nodes v (record { node = n; left = false ∷ left; asked = asked })
-      (record { node = refused; left = left; asked = asked ++ n ∷ [] })
+      GoesOn nodes v (record { node = n; left = left; refused = refused })
+      (record { node = b.next; left = left; refused = refused })
+  by_refusal : (n : ℕ) (left : List Bool) (refused : List ℕ) (arm : ℕ) (binds : List MBind) (next : ℕ) →
+      slice_get nodes n ≡ Some (AskNode arm binds next) →
+      GoesOn nodes v (record { node = n; left = false ∷ left; refused = refused })
+      (record { node = next; left = left; refused = refused ++ n ∷ [] })
 
 -- a walk comes from one stop to another, in no step or more
 pub data ComesTo (nodes : List MNode) (v : MValue) : Visit → Visit → Type 0 where
@@ -146,11 +147,11 @@ answered (Some (AskNode arm binds next)) n (answer ∷ left) refused = refused +
 answered _ n left refused = refused
 
 -- the walk from node 0 with these answers asks the guards of these nodes, in order, and ends so
-pub record EndsIn (nodes : List MNode) (v : MValue) (answers : List Bool) (asked : List ℕ) (outcome : Outcome) : Type 0 where
+pub record EndsIn (nodes : List MNode) (v : MValue) (answers : List Bool) (asked_nodes : List ℕ) (outcome : Outcome) : Type 0 where
   pub last : Visit
   pub comes : ComesTo nodes v (root answers) last
   pub ends : outcome_at (slice_get nodes last.node) v last.left ≡ Some outcome
-  pub asks : answered (slice_get nodes last.node) last.node last.left last.asked ≡ asked
+  pub asks : answered (slice_get nodes last.node) last.node last.left last.refused ≡ asked_nodes
 
 -- what the guard at a node is asked with, where one stands there
 abbrev pub guard_at : MValue → Option MNode → List Asked
@@ -165,7 +166,7 @@ guards_at nodes v ns = flat_map (λ n. guard_at v (slice_get nodes n)) ns
 pub record Means (nodes : List MNode) (v : MValue) (answers : List Bool) (s : Selected) : Type 0 where
   pub asked_nodes : List ℕ
   pub walk : EndsIn nodes v answers asked_nodes s.outcome
-  pub asked : guards_at nodes v asked_nodes ≡ s.asked
+  pub asks : guards_at nodes v asked_nodes ≡ s.asked
 
 -- exactly one of the branches has the part; an else has it where no other has
 abbrev pub one_has : MValue → List MBranch → Bool

@@ -8,6 +8,7 @@ use Rattle.match_model.specs.Declarations.{MProgram, node_types, is_marked, is_c
 use Rattle.match_model.specs.Values.{MValue, Flag, Num, Text, Node, Point, Row, Thing, Later, Unseen, MValues, no_values, more_values, values_list}
 use Rattle.match_model.specs.Texts.{is_scalar}
 use Rattle.match_model.specs.Numbers.{has_number}
+pub use Rattle.match_model.specs.Places.{some_if}
 
 -- the type is `bool`
 abbrev pub is_bool : MType → Bool
@@ -24,20 +25,15 @@ abbrev pub is_opaque : MType → Bool
 is_opaque (OpaqueType name arguments) = true
 is_opaque _ = false
 
--- the type, where the test holds
-abbrev pub type_if : Bool → MType → Option MType
-type_if true t = Some t
-type_if false t = None
-
 -- the type behind a reference of this kind
 abbrev pub type_behind : MType → (mutable : Bool) → Option MType
-type_behind (PointType mutable t) m = type_if (beq mutable m) t
+type_behind (PointType mutable t) m = some_if (beq mutable m) t
 type_behind _ m = None
 
 -- the type of the items of a row of this length
 abbrev pub item_type : MType → (len : ℕ) → Option MType
 item_type (SliceType t) len = Some t
-item_type (ArrayType t n) len = type_if (nat_eq len n) t
+item_type (ArrayType t n) len = some_if (nat_eq len n) t
 item_type _ len = None
 
 abbrev mutual

@@ -1,6 +1,6 @@
 -- When a match, a row or a matrix of the engine is well typed for a context (after the Rust Reference, Patterns; what an
 -- engine asks besides is our own choice).
-use Rattle.std.specs.Prelude.{◌≡◌, ⊤, ℕ, suc, Bool, true, false, not, ◌&&◌, List, [], ◌∷◌, ◌++◌, map, length, nat_eq, nat_le, Some, None, IsTrue}
+use Rattle.std.specs.Prelude.{◌≡◌, ⊤, ℕ, suc, ◌^◌, Bool, true, false, not, ◌&&◌, List, [], ◌∷◌, ◌++◌, map, length, nat_eq, nat_le, Some, None, IsTrue}
 use Rattle.std.specs.List.{list_any, list_all, flat_map, Contains, IsDistinct}
 use Rattle.match_model.specs.Texts.{text_eq}
 use Rattle.match_model.specs.Constructors.{LongerShape, MCtor, LaterCtor, OtherTextCtor, RowCtor, WildCtor, OrCtor, least_length, belongs}
@@ -70,7 +70,7 @@ part_is_of _ (MiddlePart g c) = false
 abbrev pub is_written : MCtor → Bool
 is_written LaterCtor = false
 is_written OtherTextCtor = false
-is_written (RowCtor s) = nat_le (least_length s) 4294967296
+is_written (RowCtor s) = nat_le (least_length s) (2 ^ 32)
 is_written _ = true
 
 -- no patterns stand below
@@ -86,7 +86,8 @@ ByCtor _ wild or parts = parts
 
 abbrev mutual
   -- the pattern is well typed: it has the type; its constructor belongs to the type's set, has as many patterns as parts, and
-  -- each is well typed for its part; alternatives have the or-pattern's type
+  -- each is well typed for its part; alternatives have the or-pattern's type. An or-pattern may have one alternative, or
+  -- none: it then matches nothing, and an expanded row with it is gone
   pub IsTyped : {T : Type 0} → Context T → T → MDePat T → Type 0
   IsTyped cx t (de_pat c u uid at subs binds) =
       (u ≡ t) × IsTrue (list_all (λ b. part_is_of c b.part) binds)

@@ -1,9 +1,9 @@
 -- Witnesses: patterns that show what a match leaves out, and the values that fit one (Maranget 2007; the documentation of
 -- `rustc_pattern_analysis`, witness patterns).
 use Rattle.std.specs.Prelude.{ℕ, Bool, true, false, ◌&&◌, List, [], ◌∷◌, length, take, drop, ◌+◌, ◌-◌, nat_eq}
-use Rattle.match_model.specs.Values.{MValue, Node, Point, Row, values_list}
+use Rattle.match_model.specs.Values.{MValue, Node, Point, Row, values_list, parts_of}
 use Rattle.match_model.specs.Numbers.{MRange}
-use Rattle.match_model.specs.Constructors.{MShape, FixedShape, LongerShape, LaterCtor, OtherTextCtor, FlagCtor, NumbersCtor, TextCtor, covers, builds}
+use Rattle.match_model.specs.Constructors.{MShape, FixedShape, LongerShape, MCtor, LaterCtor, OtherTextCtor, FlagCtor, NumbersCtor, TextCtor, covers, builds, parts_met}
 
 mutual
   -- a witness: anything; a flag; a range; a text; every text but these; a tuple, struct or variant; a reference; a row by
@@ -34,9 +34,13 @@ witnesses_of [] = no_witnesses
 witnesses_of (w ∷ ws) = more_witnesses w (witnesses_of ws)
 
 -- the shape of a row witness with so many items in front and at the back
-abbrev pub row_shape : (front : ℕ) → (longer : Bool) → (back : ℕ) → MShape
-row_shape f true b = LongerShape f b
-row_shape f false b = FixedShape (f + b)
+abbrev pub slice_shape : (front : ℕ) → (longer : Bool) → (back : ℕ) → MShape
+slice_shape f true b = LongerShape f b
+slice_shape f false b = FixedShape (f + b)
+
+-- the parts of a value that the witnesses below a constructor meet
+abbrev pub parts_under : MCtor → MValue → List MValue
+parts_under c v = parts_met c (parts_of v)
 
 -- items at the back stand only where more may stand between
 abbrev pub back_is_allowed : (longer : Bool) → (back : ℕ) → Bool
@@ -54,11 +58,11 @@ point_fits fit (Point mutable v) = fit v
 point_fits fit _ = false
 
 -- a row whose first items fit the front and whose last items fit the back
-abbrev pub row_fits : ℕ → (longer : Bool) → ℕ → (List MValue → Bool) → (List MValue → Bool) → MValue → Bool
-row_fits f longer b front back (Row items) =
-    covers (row_shape f longer b) (length (values_list items))
+abbrev pub slice_fits : ℕ → (longer : Bool) → ℕ → (List MValue → Bool) → (List MValue → Bool) → MValue → Bool
+slice_fits f longer b front back (Row items) =
+    covers (slice_shape f longer b) (length (values_list items))
     && (front (take f (values_list items)) && back (drop (length (values_list items) - b) (values_list items)))
-row_fits f longer b front back _ = false
+slice_fits f longer b front back _ = false
 
 abbrev mutual
   -- the value fits the witness: the witness's constructor builds it, and its parts fit
@@ -72,7 +76,7 @@ abbrev mutual
   fits (NodeOf k parts) v = node_fits k (λ vs. all_fit parts vs) v
   fits (PointOf w) v = point_fits (λ u. fits w u) v
   fits (RowOf front longer back) v =
-      row_fits (length (witnesses_list front)) longer (length (witnesses_list back)) (λ vs. all_fit front vs) (λ vs. all_fit back vs) v
+      slice_fits (length (witnesses_list front)) longer (length (witnesses_list back)) (λ vs. all_fit front vs) (λ vs. all_fit back vs) v
 
   -- the values fit the witnesses one by one
   pub all_fit : MWitnesses → List MValue → Bool

@@ -1,13 +1,14 @@
 -- The list of witnesses of a match, among all exact ones (our own choice).
 use Rattle.std.specs.Prelude.{◌≡◌, ◌≢◌, ℕ, Bool, true, false, ◌&&◌, List, [], ◌∷◌, ◌++◌, map, take, drop, replicate, length, Some, IsTrue}
-use Rattle.std.specs.List.{flat_map, list_all, list_any, filter_map}
+use Rattle.std.specs.List.{flat_map, list_all, list_any}
 use Rattle.match_model.specs.Values.{MValue, Unseen}
 use Rattle.match_model.specs.Witness.{MWitness, AnyOf, LaterOf, FlagOf, SpanOf, TextOf, ElseOf, NodeOf, PointOf, RowOf, no_witnesses, witnesses_of}
-use Rattle.match_model.specs.Constructors.{MShape, FixedShape, LongerShape, MCtor, SingleCtor, PointCtor, LaterCtor, OtherTextCtor, VariantCtor, FlagCtor, NumbersCtor, TextCtor, RowCtor, WildCtor, OrCtor, builds}
+use Rattle.match_model.specs.Constructors.{MShape, FixedShape, LongerShape, MCtor, SingleCtor, PointCtor, LaterCtor, OtherTextCtor, VariantCtor, FlagCtor, NumbersCtor, TextCtor, RowCtor, WildCtor, OrCtor}
 use Rattle.match_model.specs.Contexts.{Context, Open}
 use Rattle.match_model.specs.ArenaPatterns.{MDePat, MDeArm, MDeMatch}
 use Rattle.match_model.specs.ArenaWays.{InMatchDomain}
-use Rattle.match_model.specs.Pieces.{ArePieces, text_of}
+use Rattle.match_model.specs.Pieces.{ArePieces}
+pub use Rattle.match_model.specs.PieceStates.{HasValue, named_in}
 use Rattle.match_model.specs.Rows.{Head, is_wild, expand_row, starts_wild, row_rest, column_of, all_specialised, parts_open}
 
 -- the first of the witnesses, or anything
@@ -16,9 +17,9 @@ first_witness [] = AnyOf
 first_witness (w ∷ ws) = w
 
 -- the witness of a row by the witnesses of its items
-abbrev pub row_witness : MShape → List MWitness → MWitness
-row_witness (FixedShape n) ws = RowOf (witnesses_of ws) false no_witnesses
-row_witness (LongerShape f b) ws = RowOf (witnesses_of (take f ws)) true (witnesses_of (drop f ws))
+abbrev pub slice_witness : MShape → List MWitness → MWitness
+slice_witness (FixedShape n) ws = RowOf (witnesses_of ws) false no_witnesses
+slice_witness (LongerShape f b) ws = RowOf (witnesses_of (take f ws)) true (witnesses_of (drop f ws))
 
 -- the witness of a constructor by those of its parts, in a column that names these texts
 abbrev pub witness_of : MCtor → (named : List (List ℕ)) → List MWitness → MWitness
@@ -30,7 +31,7 @@ witness_of (FlagCtor b) named ws = FlagOf b
 witness_of (NumbersCtor r) named ws = SpanOf r
 witness_of (TextCtor t) named ws = TextOf t
 witness_of OtherTextCtor named ws = ElseOf named
-witness_of (RowCtor s) named ws = row_witness s ws
+witness_of (RowCtor s) named ws = slice_witness s ws
 witness_of WildCtor named ws = AnyOf
 witness_of OrCtor named ws = AnyOf
 
@@ -38,15 +39,7 @@ witness_of OrCtor named ws = AnyOf
 abbrev pub wrapped : MCtor → (named : List (List ℕ)) → (count : ℕ) → List MWitness → List MWitness
 wrapped piece named n ws = witness_of piece named (take n ws) ∷ drop n ws
 
--- some value of the type, at such a place, is built by the piece
-abbrev pub HasValue : {T : Type 0} → (T → Bool → MValue → Type 0) → Open T → (named : List (List ℕ)) → MCtor → Type 0
-HasValue IsValue o named piece = (v : MValue) × IsValue o.type o.sure v × IsTrue (builds named piece v)
-
--- the texts that the pieces of a column name
-abbrev pub named_in : List MCtor → List (List ℕ)
-named_in pieces = filter_map text_of pieces
-
--- the row has a wildcard or a lone name for each place
+-- the row has one head for each place, and each is a wildcard or a lone name
 abbrev pub are_wild : {T : Type 0} → List (Open T) → List (Head T) → Bool
 are_wild [] [] = true
 are_wild [] (h ∷ heads) = false
@@ -54,13 +47,15 @@ are_wild (o ∷ places) [] = false
 are_wild (o ∷ places) (h ∷ heads) = is_wild h && are_wild places heads
 
 mutual
-  -- the witnesses of rows over open places, one witness for each place. A row of wildcards leaves none. Without a place there is one where there is no
-  -- row. Without a row there is one, with anything at each place. Else the first place is looked at, or-patterns being
-  -- expanded there: it is anything where all rows have a wildcard; else the pieces of the column give theirs
+  -- the witnesses of rows over open places, one witness for each place. A row of wildcards leaves none, so no later place
+  -- is looked at; nor does a row where no place is left. Without a row there is one, with anything at each place. Else the
+  -- first place is looked at, or-patterns being expanded there: it is anything where all rows have a wildcard; else the
+  -- pieces of the column give theirs
   pub data Witnesses {T : Type 0} (cx : Context T) (IsValue : T → Bool → MValue → Type 0) :
       List (Open T) → List (List (Head T)) → List (List MWitness) → Type 0 where
     taken : (row : List (Head T)) (rows : List (List (Head T))) → Witnesses cx IsValue [] (row ∷ rows) []
-    covered : (places : List (Open T)) (rows : List (List (Head T))) → IsTrue (list_any (are_wild places) rows) → Witnesses cx IsValue places rows []
+    covered : (places : List (Open T)) (rows : List (List (Head T))) → IsTrue (list_any (are_wild places) rows) →
+        Witnesses cx IsValue places rows []
     no_row : (places : List (Open T)) → Witnesses cx IsValue places [] (replicate (length places) AnyOf ∷ [])
     anything : (o : Open T) (places : List (Open T)) (row : List (Head T)) (rows : List (List (Head T))) (ws : List (List MWitness)) →
         IsTrue (list_all starts_wild (flat_map expand_row (row ∷ rows))) →

@@ -1,2 +1,3 @@
 pub mod TreeFacts
 mod FlagMatch
+pub mod OneReadingList

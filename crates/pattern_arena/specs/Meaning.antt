@@ -1,7 +1,8 @@
 -- What a match of an arena means: the definitions of matching, read for the ways of its arms.
-use Rattle.std.specs.Prelude.{ℕ, ℤ, Bool, List}
+use Rattle.std.specs.Prelude.{◌≡◌, ℕ, ℤ, Bool, List}
 use Rattle.match_model.specs.Values.{MValue}
 use Rattle.match_model.specs.Contexts.{Context}
+use Rattle.match_model.specs.ArenaPatterns.{MDeMatch}
 use Rattle.match_model.specs.ArenaWays.{match_arms, InMatchDomain}
 use Rattle.match_model.specs.ArenaUnreachable.{IsReadingList}
 use Rattle.match_model.specs.Match as matching
@@ -30,9 +31,9 @@ abbrev pub IsAlternativeReachable : {T : Type 0} → (IsValue : T → Bool → M
 IsAlternativeReachable IsValue m j uid =
     matching.IsAlternativeReachable (InMatchDomain IsValue (plain_match m)) (match_arms (plain_match m)) j uid
 
--- the entries are what is unreachable, by arm and then by offset
-abbrev pub IsUnreachableList : {T : Type 0} → (IsValue : T → Bool → MValue → Type 0) → CheckedMatch T → List Entry → Type 0
-IsUnreachableList IsValue m entries = IsReadingList (InMatchDomain IsValue (plain_match m)) (match_arms (plain_match m)) entries
+-- the entries are what is unreachable, in reading order: by arm and then by offset
+abbrev pub IsReadingListOf : {T : Type 0} → (IsValue : T → Bool → MValue → Type 0) → CheckedMatch T → List Entry → Type 0
+IsReadingListOf IsValue m entries = IsReadingList (InMatchDomain IsValue (plain_match m)) (match_arms (plain_match m)) entries
 
 -- which arm takes the value and which guards are asked, where they give these answers
 abbrev pub select : {T : Type 0} → CheckedMatch T → MValue → (answers : List Bool) → Selected
@@ -42,3 +43,9 @@ select m v answers = selecting.select (match_arms (plain_match m)) v answers
 abbrev pub Overlaps : {T : Type 0} → (IsValue : T → Bool → MValue → Type 0) → CheckedMatch T → (first second : ℕ) → ℤ → Type 0
 Overlaps IsValue m first second x =
     overlaps.Overlaps (InMatchDomain IsValue (plain_match m)) (match_arms (plain_match m)) first second x
+
+-- a match has one list of what is unreachable in reading order, whatever values the types have
+abbrev pub ReadingListIsOne : {T : Type 0} → (IsValue : T → Bool → MValue → Type 0) → Type 0
+ReadingListIsOne {T} IsValue =
+    (m : MDeMatch T) (es fs : List Entry) →
+    IsReadingList (InMatchDomain IsValue m) (match_arms m) es → IsReadingList (InMatchDomain IsValue m) (match_arms m) fs → es ≡ fs

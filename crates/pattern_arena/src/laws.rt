@@ -1,10 +1,12 @@
-//! What holds of everything that is placed.
+//! What holds of everything that is placed, and of what a match means.
 
 ghost use Rattle.std.specs.Prelude.{◌≡◌, map, IfOk};
 ghost use Rattle.pattern_arena.specs.Trees.{tree};
+ghost use Rattle.pattern_arena.specs.Meaning.{ReadingListIsOne};
 
 use crate::{DePat, Placer};
 use no_memory::NoMemory;
+use pat_context::PatCx;
 
 /// What was placed stands for the same trees after a further call, whether that one had its memory or not.
 pub fn placed_patterns_stand<'a, T: Copy>(
@@ -18,3 +20,8 @@ pub fn placed_patterns_stand<'a, T: Copy>(
     let next = placer.place_subs(more);
     (placed, next)
 }
+
+/// A match has one list of what is unreachable, whatever values the types of the context have.
+pub fn reading_lists_are_one<C: PatCx>(cx: &C)
+    ensures { ReadingListIsOne (C.is_value cx.now) }
+{}

@@ -5,6 +5,7 @@ use Rattle.std.specs.List.{Contains, filter_map}
 use Rattle.std.proofs.lemmas.Bool.{eq-eqb, eqb-true}
 use Rattle.std.proofs.lemmas.Bool.Decides.{eqb_tells, Decides-ltb}
 use mathlib.Core.Bool.{beq}
+use Rattle.match_model.specs.Values.{Unseen}
 use Rattle.match_model.specs.Match.{is_covered}
 use Rattle.match_model.specs.Witness.{MWitness, AnyOf, FlagOf, NodeOf, no_witnesses, fits}
 use Rattle.match_model.specs.WitnessOrder.{compare_witness, Before}
@@ -141,6 +142,11 @@ before_is (EnumType i e) j k a b lt = number_before j k lt
 
 -- ---- exact cover
 
+-- a value of a plain type is no bare unseen
+seen_value : (type : PlainType) (k : ℕ) → value_of type k ≢ Unseen
+seen_value FlagType k e = absurd cc
+seen_value (EnumType i n) k e = absurd cc
+
 get_at : {A : Type 0} (xs : List A) (i : ℕ) (x : A) → slice_get xs i ≡ Some x → (i < length xs) × (get_or xs i x ≡ x)
 get_at [] zero x e = absurd cc
 get_at [] (suc i) x e = absurd cc
@@ -203,7 +209,7 @@ module _ (program : MProgram) (type : PlainType) (known : IsTypeOf program type)
         let at = contained (map (wit type) numbers) w c in
         let k = known_at at.0 w at.1 in
         let self : fits (wit type k.0) (value_of type k.0) ≡ true = fits_is type k.0 k.0 k.3 k.3 ∙ eq-eqb k.0 k.0 refl in
-        (value_of type k.0, value_in program type known k.0 k.3, ap (λ (u : MWitness). fits u (value_of type k.0)) (sym k.2) ∙ self);
+        (value_of type k.0, value_in program type known k.0 k.3, seen_value type k.0, ap (λ (u : MWitness). fits u (value_of type k.0)) (sym k.2) ∙ self);
     apart = λ i j w u v a b differ d fw fu.
         let numbered = value_is program type known v d in
         let k = known_at i w a in
@@ -246,7 +252,7 @@ cover_of_all program type known some = record {
   each_fitted = λ w c.
       let at = contained (AnyOf ∷ []) w c in
       let one = one_place AnyOf w at.0 at.1 in
-      (value_of type 0, value_in program type known 0 some, ap (λ (x : MWitness). fits x (value_of type 0)) (sym one.1));
+      (value_of type 0, value_in program type known 0 some, seen_value type 0, ap (λ (x : MWitness). fits x (value_of type 0)) (sym one.1));
   apart = λ i j w u v a b differ d fw fu. differ ((one_place AnyOf w i a).0 ∙ sym (one_place AnyOf u j b).0);
   uncovered = λ v d seen. ((λ none. (AnyOf, (0, omega arith, refl), refl)), λ found. refl);
   ascending = λ i j w u a b lt. absurd (omega (arith, (one_place AnyOf w i a).0, (one_place AnyOf u j b).0));

@@ -1,7 +1,7 @@
 -- Ends of ranges as the definitions have them.
-use Rattle.std.specs.Prelude.{Bool, true, false, int_lt}
-pub use Rattle.match_model.specs.Made.{ends_ascend}
+use Rattle.std.specs.Prelude.{Bool, false, int_lt}
 use Rattle.match_model.specs.Numbers as model
+pub use Rattle.match_model.specs.Numbers.{ends_ascend}
 use Rattle.match_model.specs.Numbers.{MEnd}
 use Rattle.range_split.specs.declared.end.End.{End}
 use Rattle.range_split.specs.declared.end.End.TheVariants.{Free, At}

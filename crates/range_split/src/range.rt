@@ -5,7 +5,7 @@ ghost use Rattle.range_split.specs.Ends.{plain_end, ends_ascend, ends_are_apart}
 use crate::{End, Num};
 
 /// A range of whole numbers with both its ends in it. It has a number: a low end is never above a high one.
-#[derive(Clone, Copy, Debug, PartialEq, Eq)]
+#[derive(Clone, Copy, Debug, PartialEq, Eq, Hash)]
 pub struct Range {
     pub low: End,
     pub high: End,
@@ -34,7 +34,7 @@ fn are_apart(high: &End, low: &End) -> bool
 
 impl Range {
     ghost use Rattle.std.specs.Prelude.{◌≡◌, ◌↔◌, IsTrue, IfSome, is_some};
-    ghost use Rattle.match_model.specs.Numbers.{in_range, is_one};
+    ghost use Rattle.match_model.specs.Numbers.{in_range, has_one_number};
     ghost use Rattle.range_split.specs.Numbers.{num_value};
     ghost use Rattle.range_split.specs.Ends.{plain_end, ends_ascend};
     ghost use Rattle.range_split.specs.Ranges.{plain_range, Meet, IsBelow};
@@ -68,7 +68,7 @@ impl Range {
 
     /// Tells whether both ends are the same number, so that the range has exactly that one.
     pub fn is_single(&self) -> bool
-        ensures { result ≡ is_one (plain_range self.now) }
+        ensures { result ≡ has_one_number (plain_range self.now) }
     {
         match (&self.low, &self.high) {
             (End::At(first), End::At(last)) => last.is_at_most(first),

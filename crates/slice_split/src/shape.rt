@@ -4,7 +4,7 @@ ghost use Rattle.match_model.specs.Constructors.{covers};
 ghost use Rattle.slice_split.specs.Shapes.{plain_shape};
 
 /// The shape of a row: one length, or every length from `front + back` on. Lengths are counts of items from 0.
-#[derive(Clone, Copy, Debug, PartialEq, Eq)]
+#[derive(Clone, Copy, Debug, PartialEq, Eq, Hash)]
 pub enum Shape {
     /// Rows of this length.
     Fixed(u64),

@@ -5,7 +5,7 @@ use mathlib.Core.Bool.{beq}
 use Rattle.match_model.specs.Types.{DeclaredItem, OptionOwner, ResultOwner, MType, BoolType, CharType, StrType, NeverType, IntType, OpaqueType, TupleType, PointType, SliceType, ArrayType, NamedType, MTypes, no_types, more_types}
 use Rattle.match_model.specs.Declarations.{MVariant, MItem, StructItem, EnumItem, OtherItem, MProgram, form_types, node_types, item_types, variant_types, item_is_marked, item_is_bare}
 use Rattle.match_model.specs.Values.{MValue, Flag, Num, Text, Node, Point, Row, Thing, Later, Unseen, MValues, no_values, more_values, values_list}
-use Rattle.match_model.specs.Typing.{is_value, are_values, all_are_values, item_type, type_if, type_behind}
+use Rattle.match_model.specs.Typing.{is_value, are_values, all_are_values, item_type, some_if, type_behind}
 use Rattle.match_model.proofs.Basics.{both, and_true, or_left, or_right, found, nat_equal, nothing, third_of_result}
 use Rattle.type_table.specs.Possible.{may_be, may_all_be, is_unseen, item_may_be, IsStableAt}
 
@@ -62,7 +62,7 @@ text_has : (marks : List Bool) (program : MProgram) (u : List ℕ) (t : MType) �
 text_has marks program u StrType h = refl
 text_has marks program u _ h = cc
 
-type_if_is : (b : Bool) (u item : MType) → type_if b u ≡ Some item → (b ≡ true) × (u ≡ item)
+type_if_is : (b : Bool) (u item : MType) → some_if b u ≡ Some item → (b ≡ true) × (u ≡ item)
 type_if_is true u item e = (refl, cc)
 type_if_is false u item e = absurd (not_some e)
   where

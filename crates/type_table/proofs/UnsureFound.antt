@@ -10,7 +10,7 @@ use Rattle.match_model.specs.Types.{DeclaredItem, OptionOwner, ResultOwner, MTyp
 use Rattle.match_model.specs.Declarations.{MVariant, MItem, StructItem, EnumItem, OtherItem, MProgram, form_types, node_types, item_types, variant_types, item_is_marked, item_is_bare}
 use Rattle.match_model.specs.Values.{MValue, Flag, Num, Text, Node, Point, Row, Thing, Later, Unseen, MValues, no_values, more_values, values_list}
 use Rattle.match_model.specs.Numbers.{has_number}
-use Rattle.match_model.specs.Typing.{is_value, are_values, all_are_values, type_if}
+use Rattle.match_model.specs.Typing.{is_value, are_values, all_are_values, some_if}
 use Rattle.match_model.specs.Emptiness.{mark_of}
 use Rattle.match_model.proofs.Basics.{both, and_true, nat_itself}
 use Rattle.match_model.proofs.Inhabited.{Found, AllFound}
@@ -77,7 +77,7 @@ point_found program true t (v, h) = (Point true v, h)
 point_found program false t (v, h) = (Point false v, h)
 
 items_by : (program : MProgram) (t : MType) (items : MValues) (b : Bool) → b ≡ true → all_are_values program false t items ≡ true →
-    (elim (type_if b t) [ None ↦ false | Some item ↦ all_are_values program false item items ]) ≡ true
+    (elim (some_if b t) [ None ↦ false | Some item ↦ all_are_values program false item items ]) ≡ true
 items_by program t items true e h = h
 items_by program t items false e h = cc
 

@@ -1,0 +1,41 @@
+-- How many things of a kind a match may have (our own choice): what a number of 32 bits names are fewer than 2^32.
+use Rattle.std.specs.Prelude.{◌<◌, ⊤, ℕ, ◌+◌, ◌^◌, map, length, sum}
+use Rattle.std.specs.List.{Contains}
+use Rattle.match_model.specs.Constructors.{MCtor, OrCtor}
+use Rattle.match_model.specs.ArenaPatterns.{MDePat, de_pat, MDePats, no_de_pats, more_de_pats, de_pats_list, MDeArm, MDeMatch}
+
+-- an or-pattern counts one
+abbrev pub or_counts : MCtor → ℕ
+or_counts OrCtor = 1
+or_counts _ = 0
+
+abbrev mutual
+  -- how many or-patterns a pattern has, itself counted
+  pub ors_in : {T : Type 0} → MDePat T → ℕ
+  ors_in (de_pat c t uid at subs binds) = or_counts c + ors_in_all subs
+
+  -- how many or-patterns the patterns have
+  pub ors_in_all : {T : Type 0} → MDePats T → ℕ
+  ors_in_all no_de_pats = 0
+  ors_in_all (more_de_pats p ps) = ors_in p + ors_in_all ps
+
+-- what is asked of an or-pattern, and nothing of any other
+abbrev pub ForOr : MCtor → Type 0 → Type 0
+ForOr OrCtor asked = asked
+ForOr _ asked = ⊤
+
+abbrev mutual
+  -- no or-pattern of the pattern has 2^32 alternatives
+  pub HasFewAlternatives : {T : Type 0} → MDePat T → Type 0
+  HasFewAlternatives (de_pat c t uid at subs binds) = ForOr c (length (de_pats_list subs) < 2 ^ 32) × HaveFewAlternatives subs
+
+  -- no or-pattern of the patterns has 2^32 alternatives
+  pub HaveFewAlternatives : {T : Type 0} → MDePats T → Type 0
+  HaveFewAlternatives no_de_pats = ⊤
+  HaveFewAlternatives (more_de_pats p ps) = HasFewAlternatives p × HaveFewAlternatives ps
+
+-- the match has fewer than 2^32 arms, or-patterns, and alternatives of any one or-pattern
+pub record IsCountable {T : Type 0} (m : MDeMatch T) : Type 0 where
+  pub arms : length m.arms < 2 ^ 32
+  pub ors : sum (map (λ a. ors_in a.pat) m.arms) < 2 ^ 32
+  pub alternatives : (a : MDeArm T) → Contains m.arms a → HasFewAlternatives a.pat

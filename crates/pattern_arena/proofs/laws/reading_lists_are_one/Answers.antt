@@ -1,0 +1,6 @@
+use Rattle.pattern_arena.proofs.OneReadingList.{one_reading_list}
+use Rattle.match_model.specs.ArenaWays.{match_arms, InMatchDomain}
+use Rattle.pattern_arena.proofs.laws.reading_lists_are_one.Goals as goal
+
+pub returns : goal.returns
+returns g c = λ m. one_reading_list (InMatchDomain (g.C.PatCx.is_value c.args.cx.now) m) (match_arms m)
