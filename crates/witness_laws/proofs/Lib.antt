@@ -1,0 +1,12 @@
+pub mod MatrixHeads
+pub mod Takes
+pub mod Specials
+pub mod Wrapping
+pub mod Typed
+pub mod SpecialTyped
+pub mod Places
+pub mod Made
+pub mod Parting
+pub mod Exact
+pub mod Covers
+pub mod Ascending

@@ -1,0 +1,35 @@
+-- Matrices and rows of heads: their types, their heads, their or-patterns.
+use Rattle.std.specs.Prelude.{◌≡◌, Bool, false, List, [], ◌∷◌, ⊤, Some, map}
+use Rattle.match_model.specs.ArenaPatterns.{de_pat}
+use Rattle.match_model.specs.Contexts.{Context, Open}
+use Rattle.match_model.specs.Rows.{Head, is_or_ctor}
+use Rattle.match_model.specs.Matrices.{MColumn, MRow, open_of}
+use Rattle.match_model.specs.WellTyped.{AreHeadsTyped}
+
+-- each column has a type of the context
+abbrev pub AreTypes : {T : Type 0} → (T → Type 0) → List (MColumn T) → Type 0
+AreTypes IsType [] = ⊤
+AreTypes IsType (c ∷ columns) = IsType c.type × AreTypes IsType columns
+
+-- each row has a well-typed head for each column
+abbrev pub AreRowsTyped : {T : Type 0} → Context T → List (MColumn T) → List (MRow T) → Type 0
+AreRowsTyped cx columns [] = ⊤
+AreRowsTyped cx columns (r ∷ rows) = AreHeadsTyped cx columns r.heads × AreRowsTyped cx columns rows
+
+-- the first head is an or-pattern
+abbrev pub first_or : {T : Type 0} → List (Head T) → Bool
+first_or (Some (de_pat c t uid at subs binds) ∷ rest) = is_or_ctor c
+first_or _ = false
+
+-- no first head is an or-pattern
+abbrev pub AreNoneOr : {T : Type 0} → List (MRow T) → Type 0
+AreNoneOr [] = ⊤
+AreNoneOr (r ∷ rows) = (first_or r.heads ≡ false) × AreNoneOr rows
+
+-- the open places of columns, and the heads of rows
+abbrev pub opens : {T : Type 0} → List (MColumn T) → List (Open T)
+opens columns = map open_of columns
+
+-- the heads of the rows
+abbrev pub all_heads : {T : Type 0} → List (MRow T) → List (List (Head T))
+all_heads rows = map (λ r. r.heads) rows
