@@ -1,37 +1,24 @@
--- The stacks ascend, where the pieces of each column do.
-use Rattle.std.proofs.Common.{◌≡◌, ◌≤◌, ℕ, zero, suc, ◌+◌, Bool, List, [], ◌∷◌, ◌++◌, map, take, drop, length, refl, ap, subst, ◌∙◌, arith, length-append, length-take-le}
+-- The stacks ascend.
+use Rattle.std.proofs.Common.{◌≡◌, ◌≤◌, ℕ, zero, suc, ◌+◌, Bool, List, [], ◌∷◌, ◌++◌, map, take, drop, length, IsTrue, refl, ap, subst, ◌∙◌, arith, length-append, length-take-le}
 use Rattle.std.specs.List.{flat_map}
 use Rattle.match_model.specs.Values.{MValue}
-use Rattle.match_model.specs.Constructors.{MCtor}
+use Rattle.match_model.specs.Constructors.{MCtor, belongs}
 use Rattle.match_model.specs.Contexts.{Context, Open}
 use Rattle.match_model.specs.ContextLaws.{PartsLaw, ValuesLaw}
-use Rattle.match_model.specs.Pieces.{ArePieces}
+use Rattle.match_model.specs.Matrices.{column_at}
 use Rattle.match_model.specs.Rows.{Head, expand_row, row_rest, column_of, all_specialised, parts_open, part_open}
 use Rattle.match_model.specs.Witness.{MWitness, AnyOf, witnesses_of}
 use Rattle.match_model.specs.WitnessList.{Witnesses, taken, covered, no_row, anything, by_pieces, PieceWitnesses, no_piece, with_value, without_value, witness_of, wrapped, named_in}
-use Rattle.match_model.specs.WitnessOrder.{Compared, Same, Before, NotBefore, and_then, compare_witness, compare_witnesses}
-use Rattle.witness_laws.proofs.Places.{length-below}
-use Rattle.witness_laws.proofs.Exact.{AreLong, long_stacks}
-
--- two stacks
-abbrev pub compare_stacks : List MWitness → List MWitness → Compared
-compare_stacks w u = compare_witnesses (witnesses_of w) (witnesses_of u)
-
-and_then-assoc : (a b c : Compared) → and_then (and_then a b) c ≡ and_then a (and_then b c)
-and_then-assoc Same b c = refl
-and_then-assoc Before b c = refl
-and_then-assoc NotBefore b c = refl
-
-pub split_compare : (n : ℕ) (w u : List MWitness) → and_then (compare_stacks (take n w) (take n u)) (compare_stacks (drop n w) (drop n u)) ≡ compare_stacks w u
-split_compare zero w u = refl
-split_compare (suc n) [] u = refl
-split_compare (suc n) (x ∷ w) [] = short (drop n w)
-  where
-    short : (w : List MWitness) → compare_stacks w [] ≡ Same
-    short [] = refl
-    short (x ∷ w) = refl
-split_compare (suc n) (x ∷ w) (y ∷ u) =
-    and_then-assoc (compare_witness x y) (compare_stacks (take n w) (take n u)) (compare_stacks (drop n w) (drop n u)) ∙ ap (and_then (compare_witness x y)) (split_compare n w u)
+use Rattle.match_model.specs.WitnessOrder.{Before, and_then}
+use Rattle.constructor_sets.specs.InOrder.{IsBeforeEach, AreInOrder}
+use Rattle.constructor_sets.proofs.InOrder.{in_order_of}
+use Rattle.constructor_sets.proofs.Whole.{made_pieces}
+use Rattle.witness_laws.specs.HeadRows.{AreTypes}
+use Rattle.witness_laws.proofs.SpecialTyped.{AllTyped}
+use Rattle.witness_laws.proofs.Made.{AreMadeRows, expand_made, rests_made, column_made, special_made}
+use Rattle.witness_laws.proofs.Places.{cols, length-below, rests_typed, expanded_typed, expanded_none, heads_good, specials_typed, specials_types}
+use Rattle.witness_laws.proofs.Exact.{AreLong, long_stacks, AreAllSided, all_sided, not_wild}
+use Rattle.witness_laws.proofs.Comparing.{compare_stacks, split_compare, IsPieceBefore, IsPieceSame, piece_same, piece_before}
 
 -- each is after the stack, and each after those before it
 abbrev pub AreAfter : List MWitness → List (List MWitness) → Type 0
@@ -53,14 +40,6 @@ any_after w (u ∷ us) h = (h.0, any_after w us h.1)
 pub any_ascend : (ws : List (List MWitness)) → DoAscend ws → DoAscend (map (λ u. AnyOf ∷ u) ws)
 any_ascend [] h = tt
 any_ascend (w ∷ ws) h = (any_after w ws h.0, any_ascend ws h.1)
-
--- one piece before another, whatever their parts are
-abbrev pub IsPieceBefore : (named : List (List ℕ)) → (p : MCtor) → ℕ → (q : MCtor) → ℕ → Type 0
-IsPieceBefore named p n q m = (ws us : List MWitness) → length ws ≡ n → length us ≡ m → compare_witness (witness_of p named ws) (witness_of q named us) ≡ Before
-
--- a piece beside itself is told by its parts
-abbrev pub IsPieceSame : (named : List (List ℕ)) → (p : MCtor) → ℕ → Type 0
-IsPieceSame named p n = (ws us : List MWitness) → length ws ≡ n → length us ≡ n → compare_witness (witness_of p named ws) (witness_of p named us) ≡ compare_stacks ws us
 
 wrapped_after : (named : List (List ℕ)) (p : MCtor) (n m : ℕ) → IsPieceSame named p n → (w : List MWitness) → length w ≡ n + m → (us : List (List MWitness)) → AreLong (n + m) us → AreAfter w us → AreAfter (wrapped p named n w) (map (wrapped p named n) us)
 wrapped_after named p n m s w l [] k h = tt
@@ -92,9 +71,20 @@ module _ {T : Type 0} (IsType : T → Type 0) (IsValue : T → Bool → MValue �
   DoPiecesAscend named o [] = Unit {0}
   DoPiecesAscend named o (p ∷ rest) = IsPieceSame named p (cx.arity p o.type) × IsBeforeAll named o p rest × DoPiecesAscend named o rest
 
-  -- the pieces of every column ascend
-  abbrev pub DoColumnsAscend : Type 0
-  DoColumnsAscend = (o : Open T) (heads pieces : List MCtor) → ArePieces (cx.set_of o.type) heads pieces → DoPiecesAscend (named_in pieces) o pieces
+  -- pieces that stand in order ascend
+  before_all : (named : List (List ℕ)) (o : Open T) (p : MCtor) (pieces : List MCtor) → IsType o.type → IsTrue (belongs (cx.set_of o.type) p) → (hss : List (List (Head T))) → AreAllSided IsType IsValue cx values law o named hss pieces →
+      IsBeforeEach p pieces → IsBeforeAll named o p pieces
+  before_all named o p [] d b hss s h = tt
+  before_all named o p (q ∷ pieces) d b hss s h =
+      (piece_before named p q (cx.arity p o.type) (cx.arity q o.type) h.0 (law.arity o.type p d b) (law.arity o.type q d s.0.0), before_all named o p pieces d b hss s.1 h.1)
+
+  pieces_do : (named : List (List ℕ)) (o : Open T) (pieces : List MCtor) → IsType o.type → (hss : List (List (Head T))) → AreAllSided IsType IsValue cx values law o named hss pieces → AreInOrder pieces → DoPiecesAscend named o pieces
+  pieces_do named o [] d hss s h = tt
+  pieces_do named o (p ∷ pieces) d hss s h = (
+    piece_same named p (cx.arity p o.type) (not_wild IsType IsValue cx values law (cx.set_of o.type) p s.0.0) (law.arity o.type p d s.0.0),
+    before_all named o p pieces d s.0.0 hss s.1 h.0,
+    pieces_do named o pieces d hss s.1 h.1,
+  )
 
   long_parts : (q : Open T) (places : List (Open T)) (p : MCtor) (rows : List (List (Head T))) (xs : List (List MWitness)) → Witnesses cx IsValue (parts_open cx q p ++ places) (all_specialised p (cx.arity p q.type) rows) xs →
       AreLong (cx.arity p q.type + length places) xs
@@ -118,19 +108,30 @@ module _ {T : Type 0} (IsType : T → Type 0) (IsValue : T → Bool → MValue �
       (after-append (wrapped p named n x) (map (wrapped p named n) xs) us h.0 (f x (omega (arith, e))), joined named o n m p xs us l.1 h.1 k f)
 
   mutual
-    pub stacks_ascend : DoColumnsAscend → (places : List (Open T)) (hss : List (List (Head T))) (ws : List (List MWitness)) → Witnesses cx IsValue places hss ws → DoAscend ws
-    stacks_ascend up places hss ws (taken row rows) = tt
-    stacks_ascend up places hss ws (covered ps rows e) = tt
-    stacks_ascend up places hss ws (no_row ps) = (tt, tt)
-    stacks_ascend up places hss ws (anything o ps row rows xs e k) = any_ascend xs (stacks_ascend up ps (map row_rest (flat_map expand_row (row ∷ rows))) xs k)
-    stacks_ascend up places hss ws (by_pieces o ps row rows pieces xs e p k) =
-        pieces_ascend up (named_in pieces) o ps (flat_map expand_row (row ∷ rows)) pieces xs k (up o (column_of (flat_map expand_row (row ∷ rows))) pieces p)
+    pub stacks_ascend : (places : List (Open T)) (hss : List (List (Head T))) (ws : List (List MWitness)) → Witnesses cx IsValue places hss ws → AreTypes IsType (cols places) → AllTyped cx (cols places) hss → AreMadeRows hss → DoAscend ws
+    stacks_ascend places hss ws (taken row rows) d h g = tt
+    stacks_ascend places hss ws (covered ps rows e) d h g = tt
+    stacks_ascend places hss ws (no_row ps) d h g = (tt, tt)
+    stacks_ascend places hss ws (anything o ps row rows xs e k) d h g =
+        let hs = flat_map expand_row (row ∷ rows) in
+        let t = expanded_typed cx (column_at [] o) (cols ps) (row ∷ rows) h in
+        any_ascend xs (stacks_ascend ps (map row_rest hs) xs k d.1 (rests_typed cx (column_at [] o) (cols ps) hs t) (rests_made hs (expand_made (row ∷ rows) g)))
+    stacks_ascend places hss ws (by_pieces o ps row rows pieces xs e p k) d h g =
+        let hs = flat_map expand_row (row ∷ rows) in
+        let t = expanded_typed cx (column_at [] o) (cols ps) (row ∷ rows) h in
+        let mh = expand_made (row ∷ rows) g in
+        let n = expanded_none cx (column_at [] o) (cols ps) (row ∷ rows) h in
+        let c = made_pieces (cx.set_of o.type) (column_of hs) pieces (values.made o.type d.0) (values.ascend o.type d.0) (heads_good cx (column_at [] o) (cols ps) hs t n) (column_made hs mh) p in
+        let s = all_sided IsType IsValue cx values law o ps (named_in pieces) hs pieces d.0 t n c.belong c.one_sided c.room in
+        pieces_ascend (named_in pieces) o ps hs pieces xs k d t mh s (pieces_do (named_in pieces) o pieces d.0 hs s (in_order_of (cx.set_of o.type) (column_of hs) pieces (values.made o.type d.0) (values.ascend o.type d.0) p))
 
-    pieces_ascend : DoColumnsAscend → (named : List (List ℕ)) (o : Open T) (places : List (Open T)) (hss : List (List (Head T))) (pieces : List MCtor) (ws : List (List MWitness)) → PieceWitnesses cx IsValue named o places hss pieces ws →
-        DoPiecesAscend named o pieces → DoAscend ws
-    pieces_ascend up named o places hss pieces ws (no_piece m q ps rows) h = tt
-    pieces_ascend up named o places hss pieces ws (with_value m q ps rows p rest xs us v k d) (s, b, h) =
-        joined m q (cx.arity p q.type) (length ps) p xs us (long_parts q ps p rows xs k)
-        (wrapped_ascend m p (cx.arity p q.type) (length ps) s xs (long_parts q ps p rows xs k) (stacks_ascend up (parts_open cx q p ++ ps) (all_specialised p (cx.arity p q.type) rows) xs k))
-        (pieces_ascend up m q ps rows rest us d h) (λ w l. rest_after m q ps rows rest us d p b w l)
-    pieces_ascend up named o places hss pieces ws (without_value m q ps rows p rest us v d) (s, b, h) = pieces_ascend up m q ps rows rest us d h
+    pieces_ascend : (named : List (List ℕ)) (o : Open T) (places : List (Open T)) (hss : List (List (Head T))) (pieces : List MCtor) (ws : List (List MWitness)) → PieceWitnesses cx IsValue named o places hss pieces ws →
+        AreTypes IsType (cols (o ∷ places)) → AllTyped cx (cols (o ∷ places)) hss → AreMadeRows hss → AreAllSided IsType IsValue cx values law o named hss pieces → DoPiecesAscend named o pieces → DoAscend ws
+    pieces_ascend named o places hss pieces ws (no_piece m q ps rows) d h g r a = tt
+    pieces_ascend named o places hss pieces ws (with_value m q ps rows p rest xs us v k y) d h g r (s, b, a) =
+        let n = cx.arity p q.type in
+        joined m q n (length ps) p xs us (long_parts q ps p rows xs k)
+        (wrapped_ascend m p n (length ps) s xs (long_parts q ps p rows xs k)
+        (stacks_ascend (parts_open cx q p ++ ps) (all_specialised p n rows) xs k (specials_types IsType IsValue cx law q ps p r.0.0 d) (specials_typed IsType IsValue cx law q ps p rows d.0 r.0.0 h) (special_made p n rows g)))
+        (pieces_ascend m q ps rows rest us y d h g r.1 a) (λ w l. rest_after m q ps rows rest us y p b w l)
+    pieces_ascend named o places hss pieces ws (without_value m q ps rows p rest us v y) d h g r (s, b, a) = pieces_ascend m q ps rows rest us y d h g r.1 a

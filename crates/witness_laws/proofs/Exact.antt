@@ -215,7 +215,7 @@ module _ {T : Type 0} (IsType : T → Type 0) (IsValue : T → Bool → MValue �
       go (TextCtor i) h k s r f = (sided_head o p named (TextCtor i) t uid at subs binds d b refl refl h h.2.0 h.2.1 (All-head (IsOneSided named p) (TextCtor i) (column_of hss) s) (All-head (Roomed p) (TextCtor i) (column_of hss) r), f (All-tail (IsOneSided named p) (TextCtor i) (column_of hss) s) (All-tail (Roomed p) (TextCtor i) (column_of hss) r))
       go (RowCtor i) h k s r f = (sided_head o p named (RowCtor i) t uid at subs binds d b refl refl h h.2.0 h.2.1 (All-head (IsOneSided named p) (RowCtor i) (column_of hss) s) (All-head (Roomed p) (RowCtor i) (column_of hss) r), f (All-tail (IsOneSided named p) (RowCtor i) (column_of hss) s) (All-tail (Roomed p) (RowCtor i) (column_of hss) r))
 
-  not_wild : (set : MSet) (p : MCtor) → belongs set p ≡ true → (is_wild_ctor p || is_or_ctor p) ≡ false
+  pub not_wild : (set : MSet) (p : MCtor) → belongs set p ≡ true → (is_wild_ctor p || is_or_ctor p) ≡ false
   not_wild set WildCtor b = untrue (sym (no_wild set) ∙ b)
     where
       no_wild : (set : MSet) → belongs set WildCtor ≡ false

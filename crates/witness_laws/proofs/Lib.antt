@@ -9,4 +9,5 @@ pub mod Made
 pub mod Parting
 pub mod Exact
 pub mod Covers
+pub mod Comparing
 pub mod Ascending

@@ -24,7 +24,7 @@ split_fits (suc n) ws [] vs e = absurd (omega (arith, e))
 split_fits (suc n) [] (x ∷ xs) vs e = refl
 split_fits (suc n) (w ∷ ws) (x ∷ xs) vs e = and-assoc (fits w x) (all_fit (witnesses_of (take n ws)) xs) (all_fit (witnesses_of (drop n ws)) vs) ∙ ap (λ b. fits w x && b) (split_fits n ws xs vs (omega (arith, e)))
 
-as_list : (ws : List MWitness) → witnesses_list (witnesses_of ws) ≡ ws
+pub as_list : (ws : List MWitness) → witnesses_list (witnesses_of ws) ≡ ws
 as_list [] = refl
 as_list (w ∷ ws) = ap (λ us. w ∷ us) (as_list ws)
 
