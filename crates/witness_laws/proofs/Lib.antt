@@ -11,3 +11,4 @@ pub mod Exact
 pub mod Covers
 pub mod Comparing
 pub mod Ascending
+pub mod OfTypes
