@@ -119,7 +119,7 @@ AreArmsTyped cx t [] = Unit {0}
 AreArmsTyped cx t (a ∷ arms) = IsTyped cx t a.pat × AreArmsTyped cx t arms
 
 module _ {T : Type 0} (IsType : T → Type 0) (IsValue : T → Bool → MValue → Type 0) (cx : Context T) (values : ValuesLaw IsType IsValue cx) (law : PartsLaw IsType IsValue cx) where
-  rows_made : (arms : List (MDeArm T)) → AreArmsMade arms → AreMadeRows (flat_map row_of arms)
+  pub rows_made : (arms : List (MDeArm T)) → AreArmsMade arms → AreMadeRows (flat_map row_of arms)
   rows_made [] h = tt
   rows_made (a ∷ arms) h = go a.guarded h.0 (rows_made arms h.1)
     where

@@ -12,3 +12,4 @@ pub mod Covers
 pub mod Comparing
 pub mod Ascending
 pub mod OfTypes
+pub mod Whole
