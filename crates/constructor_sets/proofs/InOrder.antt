@@ -1,5 +1,5 @@
 -- The pieces of a column stand in the order of constructors.
-use Rattle.std.proofs.Common.{◌≡◌, ◌<◌, ◌≤◌, ℕ, zero, suc, ◌+◌, ◌-◌, max, ℤ, pos, ◌+ℤ◌, Bool, true, false, ◌&&◌, List, [], ◌∷◌, ◌++◌, map, int_le, int_lt, int_eq, nat_eq, nat_lt, Option, Some, None, refl, sym, ap, subst, ◌∙◌, arith, IsTrue}
+use Rattle.std.proofs.Common.{◌≡◌, ◌<◌, ℕ, zero, suc, ◌+◌, ◌-◌, max, ℤ, pos, ◌+ℤ◌, Bool, true, false, ◌&&◌, List, [], ◌∷◌, ◌++◌, map, int_le, int_lt, int_eq, Option, Some, None, refl, sym, ap, subst, ◌∙◌, arith}
 use Rattle.std.specs.List.{AllByRecursion, filter_map}
 use Rattle.std.specs.List.Sorted.{IsStrictlySortedBy}
 use Rattle.std.specs.Ordering.{is_lt}
@@ -7,7 +7,6 @@ use Rattle.std.specs.declared.cmp.Ordering.{Ordering}
 use Rattle.std.specs.declared.cmp.Ordering.TheVariants.{Less, Equal}
 use Rattle.std.proofs.lemmas.Cmp.{nat_list_cmp_total, tied_itself}
 use Rattle.std.proofs.lemmas.Int.{ints}
-use Rattle.std.proofs.lemmas.Bool.Decides.{nat_tests}
 use Rattle.std.proofs.lemmas.List.{map-append}
 use Rattle.match_model.specs.Texts.{text_eq, compare_texts}
 use Rattle.match_model.specs.Numbers.{MEnd, Free, At, MRange, in_range, is_from, is_up_to}
@@ -16,7 +15,7 @@ use Rattle.match_model.specs.WitnessOrder.{Before, compared, compare_low, compar
 use Rattle.match_model.specs.ContextLaws.{RangesAscend}
 use Rattle.match_model.specs.Made.{ends_ascend, IsMadeRange, IsMadeSecond, IsMadeSet}
 use Rattle.match_model.specs.Pieces.{Follow, last_one, one_more, IsCutToo, ArePieces, each_below, variant_pieces, slice_pieces, lengths_end, fixed_end, longest_front, longest_back}
-use Rattle.match_model.proofs.Basics.{untrue, both, text_equal}
+use Rattle.match_model.proofs.Basics.{both, text_equal}
 use Rattle.range_split.proofs.Following.{Follow-ascends}
 use Rattle.range_split.proofs.Sides.{from_later}
 use Rattle.constructor_sets.specs.InOrder.{IsEarlier, IsBeforeEach, AreInOrder}

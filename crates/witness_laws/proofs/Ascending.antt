@@ -1,5 +1,5 @@
 -- The stacks ascend.
-use Rattle.std.proofs.Common.{◌≡◌, ◌≤◌, ℕ, zero, suc, ◌+◌, Bool, List, [], ◌∷◌, ◌++◌, map, take, drop, length, IsTrue, refl, ap, subst, ◌∙◌, arith, length-append, length-take-le}
+use Rattle.std.proofs.Common.{◌≡◌, ◌≤◌, ℕ, ◌+◌, Bool, List, [], ◌∷◌, ◌++◌, map, take, drop, length, IsTrue, ap, subst, ◌∙◌, arith, length-append, length-take-le}
 use Rattle.std.specs.List.{flat_map}
 use Rattle.match_model.specs.Values.{MValue}
 use Rattle.match_model.specs.Constructors.{MCtor, belongs}
@@ -7,8 +7,8 @@ use Rattle.match_model.specs.Contexts.{Context, Open}
 use Rattle.match_model.specs.ContextLaws.{PartsLaw, ValuesLaw}
 use Rattle.match_model.specs.Matrices.{column_at}
 use Rattle.match_model.specs.Rows.{Head, expand_row, row_rest, column_of, all_specialised, parts_open, part_open}
-use Rattle.match_model.specs.Witness.{MWitness, AnyOf, witnesses_of}
-use Rattle.match_model.specs.WitnessList.{Witnesses, taken, covered, no_row, anything, by_pieces, PieceWitnesses, no_piece, with_value, without_value, witness_of, wrapped, named_in}
+use Rattle.match_model.specs.Witness.{MWitness, AnyOf}
+use Rattle.match_model.specs.WitnessList.{Witnesses, taken, covered, no_row, anything, by_pieces, PieceWitnesses, no_piece, with_value, without_value, wrapped, named_in}
 use Rattle.match_model.specs.WitnessOrder.{Before, and_then}
 use Rattle.constructor_sets.specs.InOrder.{IsBeforeEach, AreInOrder}
 use Rattle.constructor_sets.proofs.InOrder.{in_order_of}

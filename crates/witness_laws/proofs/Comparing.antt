@@ -1,15 +1,15 @@
 -- How the witnesses of two pieces compare.
-use Rattle.std.proofs.Common.{◌≡◌, ◌<◌, ℕ, zero, suc, ◌+◌, ℤ, int_eq, Bool, true, false, ◌&&◌, ◌||◌, List, [], ◌∷◌, take, drop, length, nat_eq, nat_lt, refl, sym, ap, ◌∙◌, arith, length-take-le, length-drop}
+use Rattle.std.proofs.Common.{◌≡◌, ◌<◌, ℕ, zero, suc, ◌+◌, Bool, true, false, ◌&&◌, ◌||◌, List, [], ◌∷◌, take, drop, length, nat_eq, nat_lt, refl, sym, ap, ◌∙◌, arith, length-take-le, length-drop}
 use Rattle.std.specs.Cmp.Lexicographic.{pointwise}
 use Rattle.std.proofs.lemmas.Cmp.{lists_equiv, nat_list_eq_equiv}
 use Rattle.std.proofs.lemmas.Bool.Decides.{nat_tests}
 use mathlib.Core.Bool.{beq}
 use Rattle.match_model.specs.Texts.{text_eq}
-use Rattle.match_model.specs.Numbers.{MEnd, Free, At, MRange}
+use Rattle.match_model.specs.Numbers.{MEnd, Free, At}
 use Rattle.match_model.specs.Constructors.{MShape, FixedShape, LongerShape, MCtor, SingleCtor, PointCtor, LaterCtor, OtherTextCtor, VariantCtor, FlagCtor, NumbersCtor, TextCtor, RowCtor, WildCtor, OrCtor, least_length}
 use Rattle.match_model.specs.ContextLaws.{ArityIs}
 use Rattle.match_model.specs.Rows.{is_wild_ctor, is_or_ctor}
-use Rattle.match_model.specs.Witness.{MWitness, MWitnesses, no_witnesses, witnesses_of, witnesses_list, NodeOf}
+use Rattle.match_model.specs.Witness.{MWitness, no_witnesses, witnesses_of, witnesses_list}
 use Rattle.match_model.specs.WitnessList.{witness_of, row_witness}
 use Rattle.match_model.specs.WitnessOrder.{Compared, Same, Before, NotBefore, and_then, compared, compare_nat, compare_low, compare_high, compare_range, compare_text, compare_flag, compare_shape, compare_witness, compare_witnesses}
 use Rattle.match_model.proofs.Basics.{untrue, nat_itself, int_itself, text_itself}

@@ -1,18 +1,13 @@
 -- The steps of a matrix do to the heads of its rows what the steps of rows of heads do.
-use Rattle.std.proofs.Common.{◌≡◌, ℕ, ◌<◌, Bool, true, false, not, ◌&&◌, ◌||◌, List, [], ◌∷◌, ◌++◌, map, replicate, length, cond, Some, None, refl, sym, ap, subst, ◌∙◌, arith}
-use Rattle.std.specs.List.{list_all, flat_map}
-use Rattle.std.proofs.lemmas.List.{map-append, length-map}
-use Rattle.match_model.specs.Values.{MValue}
+use Rattle.std.proofs.Common.{◌≡◌, ℕ, List, [], ◌∷◌, ◌++◌, map, Some, None, refl, ap, ◌∙◌}
+use Rattle.std.specs.List.{flat_map}
+use Rattle.std.proofs.lemmas.List.{map-append}
 use Rattle.match_model.specs.Constructors.{MCtor}
 use Rattle.match_model.specs.Contexts.{Context, Open}
 use Rattle.match_model.specs.Trees.{MBind}
 use Rattle.match_model.specs.Places.{MStep}
-use Rattle.match_model.specs.Pieces.{ArePieces}
-use Rattle.match_model.specs.Rows.{Head, Choice, choices_of, expand_row, specialised_heads, all_specialised, starts_wild, row_rest, column_of, parts_open, part_open}
-use Rattle.match_model.specs.Matrices.{MColumn, MRow, row_with, bind_at, expand_first, expand_rows, specialised_rows, default_rows, first_binds, open_of, part_columns, column_at, part_step}
-use Rattle.match_model.specs.Witness.{MWitness, AnyOf}
-use Rattle.match_model.specs.WitnessList.{Witnesses, taken, no_row, anything, by_pieces, PieceWitnesses, with_value, without_value, wrapped, HasValue, named_in}
-use Rattle.match_model.proofs.Basics.{untrue}
+use Rattle.match_model.specs.Rows.{Head, Choice, choices_of, expand_row, specialised_heads, all_specialised, parts_open, part_open}
+use Rattle.match_model.specs.Matrices.{MColumn, MRow, row_with, bind_at, expand_first, expand_rows, specialised_rows, first_binds, open_of, part_columns, column_at, part_step}
 use Rattle.slice_split.proofs.Below.{map-each_below}
 use Rattle.witness_laws.specs.HeadRows.{opens, all_heads}
 
@@ -55,4 +50,3 @@ pub opens_parts : {T : Type 0} (cx : Context T) (c : MColumn T) (columns : List 
 opens_parts {T = T} cx c columns piece =
     map-append open_of (part_columns cx c piece) columns
     ∙ ap (λ xs. xs ++ opens columns) (map-each_below {A = MColumn T} {B = Open T} open_of (λ i. column_at (c.place ++ part_step piece i ∷ []) (part_open cx (open_of c) piece i)) (cx.arity piece c.type))
-

@@ -1,5 +1,5 @@
 -- Each witness of a stack is of the type of its place.
-use Rattle.std.proofs.Common.{◌≡◌, ◌≤◌, ℕ, zero, suc, ◌+◌, Bool, true, false, ◌&&◌, ◌||◌, nat_eq, List, [], ◌∷◌, ◌++◌, map, take, drop, replicate, length, refl, sym, ap, subst, ◌∙◌, arith, length-take-le, length-drop, IsTrue}
+use Rattle.std.proofs.Common.{◌≡◌, ◌≤◌, ℕ, zero, suc, ◌+◌, Bool, true, false, ◌&&◌, ◌||◌, nat_eq, List, [], ◌∷◌, ◌++◌, map, take, drop, replicate, length, refl, sym, ap, subst, ◌∙◌, arith, length-take-le, length-drop}
 use Rattle.std.specs.List.{flat_map}
 use Rattle.match_model.specs.Values.{MValue}
 use Rattle.match_model.specs.Constructors.{MShape, FixedShape, LongerShape, MCtor, SingleCtor, PointCtor, LaterCtor, OtherTextCtor, VariantCtor, FlagCtor, NumbersCtor, TextCtor, RowCtor, WildCtor, OrCtor, least_length, MSet, SingleSet, PointSet, FlagSet, TextSet, OpaqueSet, NothingSet, VariantSet, NumberSet, RowSet, belongs}
@@ -8,7 +8,7 @@ use Rattle.match_model.specs.ContextLaws.{PartsLaw, ValuesLaw, ArityIs}
 use Rattle.match_model.specs.Matrices.{column_at}
 use Rattle.match_model.specs.OfType.{node_ctor, has_ctor, witness_is_of, witnesses_are_of}
 use Rattle.match_model.specs.Rows.{Head, is_wild_ctor, is_or_ctor, expand_row, row_rest, column_of, all_specialised, parts_open, part_open}
-use Rattle.match_model.specs.Witness.{MWitness, AnyOf, MWitnesses, no_witnesses, witnesses_of, witnesses_list, row_shape, back_is_allowed}
+use Rattle.match_model.specs.Witness.{MWitness, AnyOf, witnesses_of, witnesses_list}
 use Rattle.match_model.specs.WitnessList.{Witnesses, taken, covered, no_row, anything, by_pieces, PieceWitnesses, no_piece, with_value, without_value, witness_of, row_witness, wrapped, named_in}
 use Rattle.match_model.proofs.Basics.{untrue, nat_itself, and_true, both}
 use Rattle.constructor_sets.proofs.Whole.{made_pieces}

@@ -1,5 +1,5 @@
 -- The witness list of a match is an exact cover, and its witnesses are of the match's type.
-use Rattle.std.proofs.Common.{◌≡◌, ◌≢◌, ◌↔◌, ◌<◌, ℕ, zero, suc, Bool, true, false, List, [], ◌∷◌, map, Some, slice_get, refl, sym, ap, subst, ◌∙◌, arith, IsTrue}
+use Rattle.std.proofs.Common.{◌≡◌, ◌≢◌, ◌<◌, ℕ, zero, suc, Bool, true, List, [], ◌∷◌, map, Some, slice_get, refl, sym, subst, ◌∙◌, arith, IsTrue}
 use Rattle.std.specs.List.{flat_map, Contains}
 use Rattle.match_model.specs.Values.{MValue, Unseen, Thing}
 use Rattle.match_model.specs.Constructors.{MSet, SingleSet, PointSet, FlagSet, TextSet, OpaqueSet, NothingSet, VariantSet, NumberSet, RowSet}
@@ -7,16 +7,14 @@ use Rattle.match_model.specs.Contexts.{Context}
 use Rattle.match_model.specs.ContextLaws.{PartsLaw, ValuesLaw, ValueIs}
 use Rattle.match_model.specs.ArenaPatterns.{MDeArm, MDeMatch}
 use Rattle.match_model.specs.ArenaWays.{match_arms, InMatchDomain}
-use Rattle.match_model.specs.ExactCover.{IsExactCover}
 use Rattle.match_model.specs.Made.{AreArmsMade}
-use Rattle.match_model.specs.Match.{IsExhaustive}
 use Rattle.match_model.specs.OfType.{witness_is_of}
-use Rattle.match_model.specs.WellTyped.{IsTyped, IsWellTyped}
-use Rattle.match_model.specs.Witness.{MWitness, fits}
+use Rattle.match_model.specs.WellTyped.{IsTyped}
+use Rattle.match_model.specs.Witness.{MWitness}
 use Rattle.match_model.specs.WitnessList.{IsWitnessList, nothing_to_match, by_rows, row_of}
 use Rattle.match_model.specs.WitnessOrder.{Before, compare_witness}
 use Rattle.match_model.proofs.Empties.{empty_exactly}
-use Rattle.witness_laws.specs.Laws.{IsListOf, ListsAreCovers, EmptyIsExhaustive, WitnessesAreOfType}
+use Rattle.witness_laws.specs.Laws.{ListsAreCovers, EmptyIsExhaustive, WitnessesAreOfType}
 use Rattle.witness_laws.proofs.Comparing.{and_then-same}
 use Rattle.witness_laws.proofs.Ascending.{AreAfter, DoAscend, stacks_ascend}
 use Rattle.witness_laws.proofs.Covers.{AreArmsTyped, rows_made, rows_typed, uncovered_is, apart_is, each_is}
@@ -28,7 +26,6 @@ arms_typed cx t [] f = tt
 arms_typed cx t (a ∷ arms) f = (f a (0, omega arith, refl), arms_typed cx t arms (λ b (k, l, e). f b (suc k, omega (arith, l), e)))
 
 -- stacks of one witness
-
 
 after_at : (w : MWitness) (us : List MWitness) → AreAfter (w ∷ []) (map (λ x. x ∷ []) us) → (j : ℕ) (u : MWitness) → slice_get us j ≡ Some u → compare_witness w u ≡ Before
 after_at w [] h j u e = cc
