@@ -15,11 +15,6 @@ abbrev pub is_wild_ctor : MCtor → Bool
 is_wild_ctor WildCtor = true
 is_wild_ctor _ = false
 
--- the pattern is an or-pattern
-abbrev pub is_or_ctor : MCtor → Bool
-is_or_ctor OrCtor = true
-is_or_ctor _ = false
-
 -- the head is a wildcard or a lone name
 abbrev pub is_wild : {T : Type 0} → Head T → Bool
 is_wild None = true

@@ -10,7 +10,7 @@ use Rattle.match_model.specs.Constructors.{MShape, FixedShape, LongerShape, MCto
 use Rattle.match_model.specs.ContextLaws.{ArityIs}
 use Rattle.match_model.specs.Rows.{is_wild_ctor, is_or_ctor}
 use Rattle.match_model.specs.Witness.{MWitness, no_witnesses, witnesses_of, witnesses_list}
-use Rattle.match_model.specs.WitnessList.{witness_of, row_witness}
+use Rattle.match_model.specs.WitnessList.{witness_of, slice_witness}
 use Rattle.match_model.specs.WitnessOrder.{Compared, Same, Before, NotBefore, and_then, compared, compare_nat, compare_low, compare_high, compare_range, compare_text, compare_flag, compare_shape, compare_witness, compare_witnesses}
 use Rattle.match_model.proofs.Basics.{untrue, nat_itself, int_itself, text_itself}
 use Rattle.constructor_sets.specs.InOrder.{IsEarlier}
@@ -86,7 +86,7 @@ shape_same f g longer b c e h =
 listed_length : (ws : List MWitness) → length (witnesses_list (witnesses_of ws)) ≡ length ws
 listed_length ws = ap length (as_list ws)
 
-row_same : (s : MShape) (ws us : List MWitness) → length ws ≡ least_length s → length us ≡ least_length s → compare_witness (row_witness s ws) (row_witness s us) ≡ compare_stacks ws us
+row_same : (s : MShape) (ws us : List MWitness) → length ws ≡ least_length s → length us ≡ least_length s → compare_witness (slice_witness s ws) (slice_witness s us) ≡ compare_stacks ws us
 row_same (FixedShape m) ws us e f =
     ap (λ x. and_then x (and_then (compare_stacks ws us) Same))
     (shape_same (length (witnesses_list (witnesses_of ws))) (length (witnesses_list (witnesses_of us))) false 0 0 (listed_length ws ∙ e ∙ sym f ∙ sym (listed_length us)) refl)
@@ -133,7 +133,7 @@ nat_before a b l = ap (λ x. compared x (nat_lt a b)) (differ a b l) ∙ ap (com
 shape_before : (f : ℕ) (longer : Bool) (b g : ℕ) (wider : Bool) (c : ℕ) → f + b < g + c → (x : Compared) → and_then (compare_shape f longer b g wider c) x ≡ Before
 shape_before f longer b g wider c l x = ap (λ y. and_then (and_then y (compared (nat_eq f g && beq longer wider) false)) x) (nat_before (f + b) (g + c) l)
 
-row_before : (s r : MShape) → least_length s < least_length r → (ws us : List MWitness) → length ws ≡ least_length s → length us ≡ least_length r → compare_witness (row_witness s ws) (row_witness r us) ≡ Before
+row_before : (s r : MShape) → least_length s < least_length r → (ws us : List MWitness) → length ws ≡ least_length s → length us ≡ least_length r → compare_witness (slice_witness s ws) (slice_witness r us) ≡ Before
 row_before (FixedShape m) (FixedShape k) l ws us e f =
     let a = listed_length ws in
     let b = listed_length us in

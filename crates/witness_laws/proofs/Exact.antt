@@ -8,9 +8,9 @@ use Rattle.match_model.specs.Constructors.{FixedShape, LongerShape, MCtor, Singl
 use Rattle.match_model.specs.Contexts.{Context, Open}
 use Rattle.match_model.specs.ContextLaws.{PartsLaw, ValuesLaw, ValueIs, BuiltOnce, ArityIs}
 use Rattle.match_model.specs.ArenaPatterns.{MBound, de_pat, MDePats, de_pats_list}
-use Rattle.match_model.specs.Rows.{is_or_ctor, Head, is_wild_ctor, heads_of, expand_row, starts_wild, row_rest, column_of, all_specialised, parts_open}
+use Rattle.match_model.specs.Rows.{is_or_ctor, Head, is_wild_ctor, heads_of, expand_row, starts_wild, row_rest, column_of, all_specialised, parts_open, starts_or}
 use Rattle.match_model.specs.Matrices.{column_at}
-use Rattle.match_model.specs.Witness.{MWitness, AnyOf, witnesses_of, all_fit}
+use Rattle.match_model.specs.Witness.{MWitness, AnyOf, witnesses_of, all_fit, parts_under}
 use Rattle.match_model.specs.WitnessList.{Witnesses, taken, covered, no_row, anything, by_pieces, PieceWitnesses, no_piece, with_value, without_value, wrapped, named_in}
 use Rattle.match_model.specs.WellTyped.{is_written, IsTyped}
 use Rattle.match_model.proofs.Basics.{untrue, both}
@@ -18,8 +18,8 @@ use Rattle.constructor_sets.specs.Columns.{one, hits, IsOneSided, HasRoomFor}
 use Rattle.constructor_sets.proofs.Once.{once_of}
 use Rattle.constructor_sets.proofs.Whole.{made_pieces}
 use Rattle.witness_laws.proofs.Made.{AreMadeRows, expand_made, rests_made, column_made, special_made}
-use Rattle.witness_laws.specs.Covering.{some_takes, fit_count, AreValues, parts_by}
-use Rattle.witness_laws.specs.HeadRows.{AreTypes, first_or}
+use Rattle.witness_laws.specs.Covering.{some_takes, fit_count, AreValues}
+use Rattle.witness_laws.specs.HeadRows.{AreTypes}
 use Rattle.witness_laws.proofs.SpecialTyped.{AllTyped, head_fitted}
 use Rattle.witness_laws.proofs.Takes.{expand_takes}
 use Rattle.witness_laws.proofs.Specials.{IsSided, AreSidedRows, special_takes}
@@ -85,7 +85,7 @@ long_replicate zero = refl
 long_replicate (suc n) = ap suc (long_replicate n)
 
 count_wrapped : (p : MCtor) (named : List (List ℕ)) (n m : ℕ) (ws : List (List MWitness)) (v : MValue) (vs : List MValue) → (is_wild_ctor p || is_or_ctor p) ≡ false → ArityIs p n → AreLong (n + m) ws →
-    (builds named p v ≡ true → length (parts_by p v) ≡ n) → fit_count (map (wrapped p named n) ws) (v ∷ vs) ≡ when (builds named p v) (fit_count ws (parts_by p v ++ vs))
+    (builds named p v ≡ true → length (parts_under p v) ≡ n) → fit_count (map (wrapped p named n) ws) (v ∷ vs) ≡ when (builds named p v) (fit_count ws (parts_under p v ++ vs))
 count_wrapped p named n m [] v vs x a l f = go (builds named p v)
   where
     go : (b : Bool) → 0 ≡ when b 0
@@ -94,10 +94,10 @@ count_wrapped p named n m [] v vs x a l f = go (builds named p v)
 count_wrapped p named n m (w ∷ ws) v vs x a l f =
     let long : n ≤ length w = let k = l.0 in omega (arith, k) in
     ap (λ b. one b + fit_count (map (wrapped p named n) ws) (v ∷ vs)) (wrapped_fits p named n w v vs x a long f)
-    ∙ ap (λ k. one (builds named p v && all_fit (witnesses_of w) (parts_by p v ++ vs)) + k) (count_wrapped p named n m ws v vs x a l.1 f)
+    ∙ ap (λ k. one (builds named p v && all_fit (witnesses_of w) (parts_under p v ++ vs)) + k) (count_wrapped p named n m ws v vs x a l.1 f)
     ∙ go (builds named p v)
   where
-    go : (b : Bool) → one (b && all_fit (witnesses_of w) (parts_by p v ++ vs)) + when b (fit_count ws (parts_by p v ++ vs)) ≡ when b (one (all_fit (witnesses_of w) (parts_by p v ++ vs)) + fit_count ws (parts_by p v ++ vs))
+    go : (b : Bool) → one (b && all_fit (witnesses_of w) (parts_under p v ++ vs)) + when b (fit_count ws (parts_under p v ++ vs)) ≡ when b (one (all_fit (witnesses_of w) (parts_under p v ++ vs)) + fit_count ws (parts_under p v ++ vs))
     go true = refl
     go false = refl
 
@@ -190,7 +190,7 @@ module _ {T : Type 0} (IsType : T → Type 0) (IsValue : T → Bool → MValue �
   sided_rows o places named p ((Some (de_pat c t uid at subs binds) ∷ hs) ∷ hss) d b h k s r =
       go c h.0.0 k.0 s r (λ s r. sided_rows o places named p hss d b h.1 k.1 s r)
     where
-      go : (c : MCtor) → IsTyped cx o.type (de_pat c t uid at subs binds) → first_or (Some (de_pat c t uid at subs binds) ∷ hs) ≡ false →
+      go : (c : MCtor) → IsTyped cx o.type (de_pat c t uid at subs binds) → starts_or (Some (de_pat c t uid at subs binds) ∷ hs) ≡ false →
           All (IsOneSided named p) (column_of ((Some (de_pat c t uid at subs binds) ∷ hs) ∷ hss)) → All (λ c. IsTrue (has_piece c p) → HasRoomFor p c) (column_of ((Some (de_pat c t uid at subs binds) ∷ hs) ∷ hss)) →
           (All (IsOneSided named p) (column_of hss) → All (λ c. IsTrue (has_piece c p) → HasRoomFor p c) (column_of hss) → AreSidedRows named p (cx.arity p o.type) hss) →
           IsSided named p (cx.arity p o.type) c subs × AreSidedRows named p (cx.arity p o.type) hss
@@ -326,7 +326,7 @@ module _ {T : Type 0} (IsType : T → Type 0) (IsValue : T → Bool → MValue �
     fit_pieces named o places hss pieces ws (no_piece m q ps rows) d h g s v vs a = refl
     fit_pieces named o places hss pieces ws (with_value m q ps rows p rest xs us y k r) d h g s v vs a =
         let n = cx.arity p q.type in
-        let parts : builds m p v ≡ true → (length (parts_by p v) ≡ n) × AreValues IsValue (parts_open cx q p) (parts_by p v) =
+        let parts : builds m p v ≡ true → (length (parts_under p v) ≡ n) × AreValues IsValue (parts_open cx q p) (parts_under p v) =
         λ z. parts_values IsType IsValue cx values law q p m v (cx.set_of q.type) d.0 refl s.0.0 a.0 z in
         let long : AreLong (n + length ps) xs =
         subst (λ i. AreLong i xs) (length-append (parts_open cx q p) ps ∙ ap (λ i. i + length ps) (length-below (Rattle.match_model.specs.Rows.part_open cx q p) n))
@@ -334,9 +334,9 @@ module _ {T : Type 0} (IsType : T → Type 0) (IsValue : T → Bool → MValue �
         count-append (map (wrapped p m n) xs) us (v ∷ vs)
         ∙ ap (λ i. i + fit_count us (v ∷ vs)) (count_wrapped p m n (length ps) xs v vs (not_wild (cx.set_of q.type) p s.0.0) (law.arity q.type p d.0 s.0.0) long (λ z. (parts z).0))
         ∙ ap (λ i. i + fit_count us (v ∷ vs))
-        (on_true (builds m p v) (fit_count xs (parts_by p v ++ vs)) (one (not (some_takes rows (v ∷ vs))))
+        (on_true (builds m p v) (fit_count xs (parts_under p v ++ vs)) (one (not (some_takes rows (v ∷ vs))))
         (λ z. fit_stacks (parts_open cx q p ++ ps) (all_specialised p n rows) xs k (specials_types IsType IsValue cx law q ps p s.0.0 d) (specials_typed IsType IsValue cx law q ps p rows d.0 s.0.0 h) (special_made p n rows g)
-        (parts_by p v ++ vs) (values-append IsValue (parts_open cx q p) ps (parts_by p v) vs (parts z).1 a.1)
+        (parts_under p v ++ vs) (values-append IsValue (parts_open cx q p) ps (parts_under p v) vs (parts z).1 a.1)
         ∙ ap (λ x. one (not x)) (special_takes m p n v vs z (parts z).0 rows s.0.1)))
         ∙ ap (λ i. when (builds m p v) (one (not (some_takes rows (v ∷ vs)))) + i) (fit_pieces m q ps rows rest us r d h g s.1 v vs a)
     fit_pieces named o places hss pieces ws (without_value m q ps rows p rest us y r) d h g s v vs a =
@@ -372,12 +372,12 @@ module _ {T : Type 0} (IsType : T → Type 0) (IsValue : T → Bool → MValue �
       let s = values-split (parts_open cx o p) places n zs (length-below (Rattle.match_model.specs.Rows.part_open cx o p) n) a in
       let r = refill IsType IsValue cx values law o p named x (cx.set_of o.type) d refl b w f (take n zs) s.0 in
       let long : n ≤ length u = let e = l.0 in omega (arith, e) in
-      let count : length (parts_by p r.value) ≡ n = (parts_values IsType IsValue cx values law o p named r.value (cx.set_of o.type) d refl b r.is r.build).0 in (
+      let count : length (parts_under p r.value) ≡ n = (parts_values IsType IsValue cx values law o p named r.value (cx.set_of o.type) d refl b r.is r.build).0 in (
         (
           r.value ∷ drop n zs,
           (r.is, s.1),
           wrapped_fits p named n u r.value (drop n zs) (not_wild (cx.set_of o.type) p b) (law.arity o.type p d b) long (λ z. count)
-              ∙ ap (λ y. y && all_fit (witnesses_of u) (parts_by p r.value ++ drop n zs)) r.build ∙ ap (λ ys. all_fit (witnesses_of u) (ys ++ drop n zs)) r.parts ∙ ap (all_fit (witnesses_of u)) (take-append-drop n zs) ∙ g,
+              ∙ ap (λ y. y && all_fit (witnesses_of u) (parts_under p r.value ++ drop n zs)) r.build ∙ ap (λ ys. all_fit (witnesses_of u) (ys ++ drop n zs)) r.parts ∙ ap (all_fit (witnesses_of u)) (take-append-drop n zs) ∙ g,
         ),
         fitted_wrapped o places p named x us d b w f l.1 k,
       )
@@ -415,6 +415,6 @@ module _ {T : Type 0} (IsType : T → Type 0) (IsValue : T → Bool → MValue �
         fitted-append (q ∷ ps) (map (wrapped p m n) xs) ys
         (fitted_wrapped q ps p m x xs d.0 s.0.0 w f long
         (fitted_stacks (parts_open cx q p ++ ps) (all_specialised p n rows) xs k (specials_types IsType IsValue cx law q ps p s.0.0 d) (specials_typed IsType IsValue cx law q ps p rows d.0 s.0.0 h) (special_made p n rows g)
-        (parts_by p x ++ us) (values-append IsValue (parts_open cx q p) ps (parts_by p x) us parts.1 a)))
+        (parts_under p x ++ us) (values-append IsValue (parts_open cx q p) ps (parts_under p x) us parts.1 a)))
         (fitted_pieces m q ps rows rest ys r d h g s.1 us a)
     fitted_pieces named o places hss pieces ws (without_value m q ps rows p rest ys y r) d h g s us a = fitted_pieces m q ps rows rest ys r d h g s.1 us a

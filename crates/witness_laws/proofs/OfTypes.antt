@@ -9,7 +9,7 @@ use Rattle.match_model.specs.Matrices.{column_at}
 use Rattle.match_model.specs.OfType.{node_ctor, has_ctor, witness_is_of, witnesses_are_of}
 use Rattle.match_model.specs.Rows.{Head, is_wild_ctor, is_or_ctor, expand_row, row_rest, column_of, all_specialised, parts_open, part_open}
 use Rattle.match_model.specs.Witness.{MWitness, AnyOf, witnesses_of, witnesses_list}
-use Rattle.match_model.specs.WitnessList.{Witnesses, taken, covered, no_row, anything, by_pieces, PieceWitnesses, no_piece, with_value, without_value, witness_of, row_witness, wrapped, named_in}
+use Rattle.match_model.specs.WitnessList.{Witnesses, taken, covered, no_row, anything, by_pieces, PieceWitnesses, no_piece, with_value, without_value, witness_of, slice_witness, wrapped, named_in}
 use Rattle.match_model.proofs.Basics.{untrue, nat_itself, and_true, both}
 use Rattle.constructor_sets.proofs.Whole.{made_pieces}
 use Rattle.witness_laws.specs.HeadRows.{AreTypes}
@@ -58,29 +58,29 @@ module _ {T : Type 0} (cx : Context T) where
   of-split (p ∷ ps) qs (suc n) [] e a = absurd a
   of-split (p ∷ ps) qs (suc n) (w ∷ ws) e a = let r = of-split ps qs n ws (omega (arith, e)) a.1 in ((a.0, r.0), r.1)
 
-  to_types : (f : ℕ → Open T) (type_at : ℕ → T) → ((i : ℕ) → (f i).type ≡ type_at i) → (n i : ℕ) (ws : List MWitness) → AreOf (each_from f i n) ws → (length ws ≡ n) × (witnesses_are_of cx type_at i (witnesses_of ws) ≡ true)
+  to_types : (f : ℕ → Open T) (type_of_part : ℕ → T) → ((i : ℕ) → (f i).type ≡ type_of_part i) → (n i : ℕ) (ws : List MWitness) → AreOf (each_from f i n) ws → (length ws ≡ n) × (witnesses_are_of cx type_of_part i (witnesses_of ws) ≡ true)
   unfolding each_from
-  to_types f type_at e zero i [] a = (refl, refl)
-  to_types f type_at e zero i (w ∷ ws) a = absurd a
-  to_types f type_at e (suc n) i [] a = absurd a
-  to_types f type_at e (suc n) i (w ∷ ws) a =
-      let r = to_types f type_at e n (suc i) ws a.1 in
-      (ap suc r.0, and_true (witness_is_of cx (type_at i) w) (witnesses_are_of cx type_at (suc i) (witnesses_of ws)) (subst (λ t. witness_is_of cx t w ≡ true) (e i) a.0) r.1)
+  to_types f type_of_part e zero i [] a = (refl, refl)
+  to_types f type_of_part e zero i (w ∷ ws) a = absurd a
+  to_types f type_of_part e (suc n) i [] a = absurd a
+  to_types f type_of_part e (suc n) i (w ∷ ws) a =
+      let r = to_types f type_of_part e n (suc i) ws a.1 in
+      (ap suc r.0, and_true (witness_is_of cx (type_of_part i) w) (witnesses_are_of cx type_of_part (suc i) (witnesses_of ws)) (subst (λ t. witness_is_of cx t w ≡ true) (e i) a.0) r.1)
 
   parts_of_type : (o : Open T) (p : MCtor) (ws : List MWitness) → AreOf (parts_open cx o p) ws → (length ws ≡ cx.arity p o.type) × (witnesses_are_of cx (cx.sub p o.type) 0 (witnesses_of ws) ≡ true)
   parts_of_type o p ws a =
       to_types (part_open cx o p) (cx.sub p o.type) (λ i. refl) (cx.arity p o.type) 0 ws (subst (λ places. AreOf places ws) (below_from (part_open cx o p) (cx.arity p o.type)) a)
 
   -- witnesses in two parts
-  cut : (type_at : ℕ → T) (k i : ℕ) (ws : List MWitness) → k ≤ length ws → witnesses_are_of cx type_at i (witnesses_of ws) ≡ true →
-      (witnesses_are_of cx type_at i (witnesses_of (take k ws)) ≡ true) × (witnesses_are_of cx type_at (i + k) (witnesses_of (drop k ws)) ≡ true)
-  cut type_at zero i ws l h = let e : i + 0 ≡ i = omega arith in (refl, subst (λ j. witnesses_are_of cx type_at j (witnesses_of ws) ≡ true) (sym e) h)
-  cut type_at (suc k) i [] l h = absurd (omega (arith, l))
-  cut type_at (suc k) i (w ∷ ws) l h =
-      let b = both (witness_is_of cx (type_at i) w) (witnesses_are_of cx type_at (suc i) (witnesses_of ws)) h in
-      let r = cut type_at k (suc i) ws (omega (arith, l)) b.1 in
+  cut : (type_of_part : ℕ → T) (k i : ℕ) (ws : List MWitness) → k ≤ length ws → witnesses_are_of cx type_of_part i (witnesses_of ws) ≡ true →
+      (witnesses_are_of cx type_of_part i (witnesses_of (take k ws)) ≡ true) × (witnesses_are_of cx type_of_part (i + k) (witnesses_of (drop k ws)) ≡ true)
+  cut type_of_part zero i ws l h = let e : i + 0 ≡ i = omega arith in (refl, subst (λ j. witnesses_are_of cx type_of_part j (witnesses_of ws) ≡ true) (sym e) h)
+  cut type_of_part (suc k) i [] l h = absurd (omega (arith, l))
+  cut type_of_part (suc k) i (w ∷ ws) l h =
+      let b = both (witness_is_of cx (type_of_part i) w) (witnesses_are_of cx type_of_part (suc i) (witnesses_of ws)) h in
+      let r = cut type_of_part k (suc i) ws (omega (arith, l)) b.1 in
       let e : suc i + k ≡ i + suc k = omega arith in
-      (and_true (witness_is_of cx (type_at i) w) (witnesses_are_of cx type_at (suc i) (witnesses_of (take k ws))) b.0 r.0, subst (λ j. witnesses_are_of cx type_at j (witnesses_of (drop k ws)) ≡ true) e r.1)
+      (and_true (witness_is_of cx (type_of_part i) w) (witnesses_are_of cx type_of_part (suc i) (witnesses_of (take k ws))) b.0 r.0, subst (λ j. witnesses_are_of cx type_of_part j (witnesses_of (drop k ws)) ≡ true) e r.1)
 
   node_of : (t : T) (c d : MCtor) (ws : List MWitness) → d ≡ c → belongs (cx.set_of t) c ≡ true → length ws ≡ cx.arity c t → witnesses_are_of cx (cx.sub c t) 0 (witnesses_of ws) ≡ true →
       (has_ctor cx t d && (nat_eq (length (witnesses_list (witnesses_of ws))) (cx.arity d t) && witnesses_are_of cx (cx.sub d t) 0 (witnesses_of ws))) ≡ true
@@ -91,7 +91,7 @@ module _ {T : Type 0} (cx : Context T) where
       (ap (λ xs. nat_eq (length xs) (cx.arity c t)) (as_list ws) ∙ ap (λ n. nat_eq n (cx.arity c t)) l ∙ nat_itself (cx.arity c t)) h))
 
   row_of : (t : T) (s : MShape) (ws : List MWitness) → belongs (cx.set_of t) (RowCtor s) ≡ true → length ws ≡ least_length s → witnesses_are_of cx (cx.sub (RowCtor s) t) 0 (witnesses_of ws) ≡ true →
-      witness_is_of cx t (row_witness s ws) ≡ true
+      witness_is_of cx t (slice_witness s ws) ≡ true
   row_of t (FixedShape m) ws b l h =
       let e : length (witnesses_list (witnesses_of ws)) + 0 ≡ m = let x : length (witnesses_list (witnesses_of ws)) ≡ length ws = ap length (as_list ws) in omega (arith, x, l) in
       subst (λ k. (has_ctor cx t (RowCtor (FixedShape k)) && true && (witnesses_are_of cx (cx.sub (RowCtor (FixedShape k)) t) 0 (witnesses_of ws) && true)) ≡ true) (sym e)

@@ -4,12 +4,13 @@ use Rattle.std.proofs.lemmas.Bool.Decides.{nat_tests}
 use Rattle.std.proofs.lemmas.List.{take-append-drop}
 use Rattle.std.proofs.Math.Seq.{take-append_seam, drop-append-add}
 use Rattle.match_model.specs.Values.{MValue, Flag, Num, Text, Node, Point, Row, Thing, Later, Unseen, values_list, values_of, parts_of}
-use Rattle.match_model.specs.Constructors.{MShape, FixedShape, LongerShape, MCtor, SingleCtor, PointCtor, LaterCtor, OtherTextCtor, VariantCtor, FlagCtor, NumbersCtor, TextCtor, RowCtor, WildCtor, OrCtor, MSet, SingleSet, PointSet, VariantSet, FlagSet, NumberSet, TextSet, RowSet, Elementary, OneSingle, OnePoint, OneLater, OneVariant, OneFlag, OneNumber, OneText, OneLength, elementary_ctor, is_of_set, builds_one, allows_length, builds, covers, belongs, sure_inside, least_length}
+use Rattle.match_model.specs.Constructors.{MShape, FixedShape, LongerShape, MCtor, SingleCtor, PointCtor, LaterCtor, OtherTextCtor, VariantCtor, FlagCtor, NumbersCtor, TextCtor, RowCtor, WildCtor, OrCtor, MSet, SingleSet, PointSet, VariantSet, FlagSet, NumberSet, TextSet, RowSet, Elementary, OneSingle, OnePoint, OneLater, OneVariant, OneFlag, OneNumber, OneText, OneLength, elementary_ctor, is_of_set, builds_one, allows_length, builds, covers, belongs, sure_inside, least_length, parts_met}
+use Rattle.match_model.specs.Witness.{parts_under}
 use Rattle.match_model.specs.Contexts.{Context, Open}
 use Rattle.match_model.specs.ContextLaws.{PartsLaw, ValuesLaw, PartsAre, parts_count, ValueIs, BuiltOnce}
 use Rattle.match_model.specs.Rows.{part_open, parts_open}
 use Rattle.match_model.proofs.Basics.{untrue, nat_equal}
-use Rattle.witness_laws.specs.Covering.{AreValues, met, parts_by}
+use Rattle.witness_laws.specs.Covering.{AreValues}
 use Rattle.witness_laws.proofs.SpecialTyped.{each_from, below_from}
 
 at_least : (a b : ℕ) → nat_le a b ≡ true → a ≤ b
@@ -89,7 +90,7 @@ module _ {T : Type 0} (IsType : T → Type 0) (IsValue : T → Bool → MValue �
       same m = grind (arith, nat_tests)
 
   row_parts : (o : Open T) (s : MShape) (len : Option ℕ) (items : Rattle.match_model.specs.Values.MValues) → IsType o.type → cx.set_of o.type ≡ RowSet len → IsTrue (belongs (cx.set_of o.type) (RowCtor s)) →
-      IsValue o.type o.sure (Row items) → covers s (length (values_list items)) ≡ true → Parted o (RowCtor s) (met (RowCtor s) (values_list items))
+      IsValue o.type o.sure (Row items) → covers s (length (values_list items)) ≡ true → Parted o (RowCtor s) (parts_met (RowCtor s) (values_list items))
   row_parts o s len items d e k v c =
       let n = length (values_list items) in
       let allowed : IsTrue (allows_length len n) = length_is len o.sure items (subst (λ x. ValueIs x o.sure (Row items)) e (values.each o.type o.sure (Row items) d v)) in
@@ -106,7 +107,7 @@ module _ {T : Type 0} (IsType : T → Type 0) (IsValue : T → Bool → MValue �
       same m = grind (arith, nat_tests)
 
       go : (s : MShape) → covers s (length (values_list items)) ≡ true → AllValues (cx.sub (RowCtor (FixedShape (length (values_list items)))) o.type 0) o.sure (values_list items) →
-          ((j : ℕ) → cx.sub (RowCtor s) o.type j ≡ cx.sub (RowCtor (FixedShape (length (values_list items)))) o.type 0) → cx.arity (RowCtor s) o.type ≡ least_length s → Parted o (RowCtor s) (met (RowCtor s) (values_list items))
+          ((j : ℕ) → cx.sub (RowCtor s) o.type j ≡ cx.sub (RowCtor (FixedShape (length (values_list items)))) o.type 0) → cx.arity (RowCtor s) o.type ≡ least_length s → Parted o (RowCtor s) (parts_met (RowCtor s) (values_list items))
       go (FixedShape m) c all subs arity =
           parted o (RowCtor (FixedShape m)) (values_list items) (sym (nat_equal m (length (values_list items)) c) ∙ sym arity)
           (parts_all (cx.sub (RowCtor (FixedShape (length (values_list items)))) o.type 0) o.sure (cx.sub (RowCtor (FixedShape m)) o.type) subs 0 (values_list items) all)
@@ -126,7 +127,7 @@ module _ {T : Type 0} (IsType : T → Type 0) (IsValue : T → Bool → MValue �
 
   -- the parts that a piece has of a value that it builds are as many as the piece has parts, each a value of its place
   pub parts_values : (o : Open T) (piece : MCtor) (named : List (List ℕ)) (v : MValue) (set : MSet) → IsType o.type → cx.set_of o.type ≡ set → belongs set piece ≡ true → IsValue o.type o.sure v → builds named piece v ≡ true →
-      Parted o piece (parts_by piece v)
+      Parted o piece (parts_under piece v)
   parts_values o SingleCtor named (Node j parts) SingleSet d e k w b =
       let p = (law.parts o.type OneSingle o.sure (Node j parts) d (subst (λ x. IsTrue (is_of_set x OneSingle)) (sym e) refl) b (λ q. cc)).0 w in
       parted o SingleCtor (values_list parts) p.0 p.1
@@ -180,13 +181,13 @@ module _ {T : Type 0} (IsType : T → Type 0) (IsValue : T → Bool → MValue �
     pub value : MValue
     pub is : IsValue o.type o.sure value
     pub build : builds named piece value ≡ true
-    pub parts : parts_by piece value ≡ ys
+    pub parts : parts_under piece value ≡ ys
 
   nothing : (xs : List MValue) → length xs ≡ 0 → [] ≡ xs
   nothing [] e = refl
   nothing (x ∷ xs) e = absurd (omega (arith, e))
 
-  kept : (o : Open T) (named : List (List ℕ)) (piece : MCtor) (x : MValue) (ys : List MValue) → IsValue o.type o.sure x → builds named piece x ≡ true → parts_by piece x ≡ [] → cx.arity piece o.type ≡ 0 →
+  kept : (o : Open T) (named : List (List ℕ)) (piece : MCtor) (x : MValue) (ys : List MValue) → IsValue o.type o.sure x → builds named piece x ≡ true → parts_under piece x ≡ [] → cx.arity piece o.type ≡ 0 →
       AreValues IsValue (parts_open cx o piece) ys → IsRefilled o named piece ys
   kept o named piece x ys w b e z a = record { value = x; is = w; build = b; parts = e ∙ nothing ys ((unparted o piece ys a).0 ∙ z) }
 
@@ -259,7 +260,7 @@ module _ {T : Type 0} (IsType : T → Type 0) (IsValue : T → Bool → MValue �
             value = Row (values_of zs);
             is = row_filled o len items zs d e w lz (all-append t o.sure front (middle ++ back) (all-take t o.sure f ys mine) (all-append t o.sure middle back (all-take t o.sure m (drop f xs) (all-drop t o.sure f xs all)) (all-drop t o.sure f ys mine)));
             build = ap (λ ws. nat_le (f + b) (length ws)) (listed zs) ∙ ap (nat_le (f + b)) lz ∙ c;
-            parts = ap (met (RowCtor (LongerShape f b))) (listed zs) ∙ ap (λ ws. ws ++ drop (length zs - b) zs) head ∙ ap (λ ws. front ++ ws) tail ∙ take-append-drop f ys;
+            parts = ap (parts_met (RowCtor (LongerShape f b))) (listed zs) ∙ ap (λ ws. ws ++ drop (length zs - b) zs) head ∙ ap (λ ws. front ++ ws) tail ∙ take-append-drop f ys;
           }
 
   pub refill : (o : Open T) (piece : MCtor) (named : List (List ℕ)) (x : MValue) (set : MSet) → IsType o.type → cx.set_of o.type ≡ set → belongs set piece ≡ true → IsValue o.type o.sure x → builds named piece x ≡ true →

@@ -8,14 +8,14 @@ use Rattle.match_model.specs.ContextLaws.{PartsLaw}
 use Rattle.match_model.specs.ArenaPatterns.{de_pat}
 use Rattle.match_model.specs.ArenaWays.{chosen_of, arena_alternatives_ways}
 use Rattle.match_model.specs.Pieces.{each_below}
-use Rattle.match_model.specs.Rows.{Head, is_wild_ctor, is_wild, expand_row, starts_wild, row_rest, column_of, all_specialised, parts_open}
+use Rattle.match_model.specs.Rows.{Head, is_wild_ctor, is_wild, expand_row, starts_wild, row_rest, column_of, all_specialised, parts_open, starts_or}
 use Rattle.match_model.specs.Matrices.{MColumn, MRow, open_of, column_at, expand_rows, specialised_rows, part_columns}
 use Rattle.match_model.specs.WellTyped.{is_written, IsTyped, AreHeadsTyped}
 use Rattle.match_model.specs.WitnessList.{are_wild}
 use Rattle.match_model.proofs.Basics.{untrue, both}
 use Rattle.constructor_sets.specs.Columns.{is_head}
 use Rattle.witness_laws.specs.Covering.{is_some_there, head_takes, row_takes, some_takes, AreValues}
-use Rattle.witness_laws.specs.HeadRows.{AreTypes, AreRowsTyped, first_or, AreNoneOr, opens, all_heads}
+use Rattle.witness_laws.specs.HeadRows.{AreTypes, AreRowsTyped, AreNoneOr, opens, all_heads}
 use Rattle.witness_laws.proofs.Takes.{pat_takes, taken_by}
 use Rattle.witness_laws.proofs.Typed.{expand_good, column_good}
 use Rattle.witness_laws.proofs.SpecialTyped.{AllTyped, special_good, special_types}
@@ -126,7 +126,7 @@ module _ {T : Type 0} (cx : Context T) where
 
   abbrev pub NoneOr : List (List (Head T)) → Type 0
   NoneOr [] = Unit {0}
-  NoneOr (hs ∷ hss) = (first_or hs ≡ false) × NoneOr hss
+  NoneOr (hs ∷ hss) = (starts_or hs ≡ false) × NoneOr hss
 
   none_heads : (rows : List (MRow T)) → AreNoneOr rows → NoneOr (all_heads rows)
   none_heads [] h = tt
@@ -163,7 +163,7 @@ module _ {T : Type 0} (cx : Context T) where
       no : (d : MCtor) → IsTrue (belongs (cx.set_of c.type) d && is_written d) → is_wild_ctor d ≡ true
       no d b = untrue (sym (ap (λ x. x && is_written d) (f d)) ∙ b)
 
-      go : (d : MCtor) → first_or (Some (de_pat d t uid at subs binds) ∷ hs) ≡ false → IsTyped cx c.type (de_pat d t uid at subs binds) → is_wild_ctor d ≡ true
+      go : (d : MCtor) → starts_or (Some (de_pat d t uid at subs binds) ∷ hs) ≡ false → IsTyped cx c.type (de_pat d t uid at subs binds) → is_wild_ctor d ≡ true
       go WildCtor e p = refl
       go OrCtor e p = untrue (sym e)
       go SingleCtor e p = no SingleCtor p.2.0

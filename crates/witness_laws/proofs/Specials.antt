@@ -5,13 +5,14 @@ use Rattle.std.proofs.lemmas.Bool.Decides.{nat_tests}
 use Rattle.std.proofs.lemmas.List.{take-append-drop, take-append-le}
 use Rattle.std.proofs.Math.Seq.{drop-append-add}
 use Rattle.match_model.specs.Values.{MValue, Row, values_list, parts_of}
-use Rattle.match_model.specs.Constructors.{FixedShape, LongerShape, MCtor, SingleCtor, PointCtor, LaterCtor, OtherTextCtor, VariantCtor, FlagCtor, NumbersCtor, TextCtor, RowCtor, WildCtor, OrCtor, builds, has_piece}
+use Rattle.match_model.specs.Constructors.{FixedShape, LongerShape, MCtor, SingleCtor, PointCtor, LaterCtor, OtherTextCtor, VariantCtor, FlagCtor, NumbersCtor, TextCtor, RowCtor, WildCtor, OrCtor, builds, has_piece, parts_met}
 use Rattle.match_model.specs.ArenaPatterns.{de_pat, MDePats, de_pats_list}
 use Rattle.match_model.specs.ArenaWays.{chosen_of, arena_alternatives_ways}
+use Rattle.match_model.specs.Witness.{parts_under}
 use Rattle.match_model.specs.Rows.{is_or_ctor, Head, is_wild_ctor, wildcards, heads_of, specialised_heads}
 use Rattle.match_model.proofs.Basics.{untrue, nat_equal}
 use Rattle.constructor_sets.specs.Columns.{HasRoomFor}
-use Rattle.witness_laws.specs.Covering.{is_some_there, head_takes, row_takes, some_takes, met, parts_by}
+use Rattle.witness_laws.specs.Covering.{is_some_there, head_takes, row_takes, some_takes}
 use Rattle.witness_laws.proofs.Takes.{pat_takes, taken_by, any-append}
 
 -- lists
@@ -86,9 +87,9 @@ at_least a b h = grind (arith, nat_tests)
 
 -- the heads of a pattern's parts take the parts of the piece where the pattern takes the value
 heads_take : {T : Type 0} (c piece : MCtor) (subs : MDePats T) (n : ℕ) (v : MValue) (named : List (List ℕ)) (other : Bool) → is_or_ctor c ≡ false → has_piece c piece ≡ true → HasRoomFor piece c →
-    builds named piece v ≡ true → (is_wild_ctor c || builds [] c v) ≡ true → length (parts_by piece v) ≡ n → ((f b : ℕ) → c ≡ RowCtor (LongerShape f b) → length (map Some (de_pats_list subs)) ≡ f + b) →
-    row_takes (heads_of c (map Some (de_pats_list subs)) n) (parts_by piece v) ≡ taken_by c subs v other
-heads_take {T} WildCtor piece subs n v named other o h r b k l g = wilds_take T n (parts_by piece v) l
+    builds named piece v ≡ true → (is_wild_ctor c || builds [] c v) ≡ true → length (parts_under piece v) ≡ n → ((f b : ℕ) → c ≡ RowCtor (LongerShape f b) → length (map Some (de_pats_list subs)) ≡ f + b) →
+    row_takes (heads_of c (map Some (de_pats_list subs)) n) (parts_under piece v) ≡ taken_by c subs v other
+heads_take {T} WildCtor piece subs n v named other o h r b k l g = wilds_take T n (parts_under piece v) l
 heads_take OrCtor piece subs n v named other o h r b k l g = untrue (sym o)
 heads_take SingleCtor SingleCtor subs n v named other o h r b k l g = ap (λ x. x && row_takes (map Some (de_pats_list subs)) (parts_of v)) (sym k)
 heads_take SingleCtor _ subs n v named other o h r b k l g = untrue h
@@ -126,8 +127,8 @@ heads_take (RowCtor (LongerShape f e)) (RowCtor (LongerShape front back)) subs n
     let ld = length-drop (length xs - back) xs in
     let la = length-append (take front xs) (drop (length xs - back) xs) in
     let count : n ≡ front + back = omega (arith, l, la, lt, ld, enough) in
-    ends_take f e n hs (parts_by (RowCtor (LongerShape front back)) v) (g f e refl) l (omega (arith, count, r.0, r.1))
-    ∙ ap (λ i. row_takes hs (take f (parts_by (RowCtor (LongerShape front back)) v) ++ drop (i - e) (parts_by (RowCtor (LongerShape front back)) v))) count
+    ends_take f e n hs (parts_under (RowCtor (LongerShape front back)) v) (g f e refl) l (omega (arith, count, r.0, r.1))
+    ∙ ap (λ i. row_takes hs (take f (parts_under (RowCtor (LongerShape front back)) v) ++ drop (i - e) (parts_under (RowCtor (LongerShape front back)) v))) count
     ∙ ap (row_takes hs) (ends_met f e front back xs r.0 r.1 enough)
     ∙ ap (λ x. x && row_takes hs (take f xs ++ drop (length xs - e) xs)) (sym k)
   where
@@ -150,7 +151,7 @@ none_take (VariantCtor i) subs v other o k = ap (λ b. b && row_takes (map Some 
 none_take (FlagCtor i) subs v other o k = ap (λ b. b && row_takes (map Some (de_pats_list subs)) (parts_of v)) k
 none_take (NumbersCtor i) subs v other o k = ap (λ b. b && row_takes (map Some (de_pats_list subs)) (parts_of v)) k
 none_take (TextCtor i) subs v other o k = ap (λ b. b && row_takes (map Some (de_pats_list subs)) (parts_of v)) k
-none_take (RowCtor s) subs v other o k = ap (λ b. b && row_takes (map Some (de_pats_list subs)) (met (RowCtor s) (parts_of v))) k
+none_take (RowCtor s) subs v other o k = ap (λ b. b && row_takes (map Some (de_pats_list subs)) (parts_met (RowCtor s) (parts_of v))) k
 
 -- what the first head of a row is for a piece of so many parts: no or-pattern, with all of the piece or nothing, and with
 -- as many heads for its parts
@@ -170,19 +171,19 @@ or_false : (b : Bool) → (b || false) ≡ b
 or_false true = refl
 or_false false = refl
 
-special_one : {T : Type 0} (named : List (List ℕ)) (piece : MCtor) (n : ℕ) (v : MValue) (vs : List MValue) → builds named piece v ≡ true → length (parts_by piece v) ≡ n → (row : List (Head T)) → IsSidedRow named piece n row →
-    some_takes (specialised_heads piece n row) (parts_by piece v ++ vs) ≡ row_takes row (v ∷ vs)
+special_one : {T : Type 0} (named : List (List ℕ)) (piece : MCtor) (n : ℕ) (v : MValue) (vs : List MValue) → builds named piece v ≡ true → length (parts_under piece v) ≡ n → (row : List (Head T)) → IsSidedRow named piece n row →
+    some_takes (specialised_heads piece n row) (parts_under piece v ++ vs) ≡ row_takes row (v ∷ vs)
 special_one named piece n v vs b l [] s = refl
 special_one {T} named piece n v vs b l (None ∷ rest) s =
-    or_false (row_takes (wildcards n ++ rest) (parts_by piece v ++ vs)) ∙ row-append (wildcards n) rest (parts_by piece v) vs (wilds_length T n ∙ sym l)
-    ∙ ap (λ c. c && row_takes rest vs) (wilds_take T n (parts_by piece v) l)
+    or_false (row_takes (wildcards n ++ rest) (parts_under piece v ++ vs)) ∙ row-append (wildcards n) rest (parts_under piece v) vs (wilds_length T n ∙ sym l)
+    ∙ ap (λ c. c && row_takes rest vs) (wilds_take T n (parts_under piece v) l)
 special_one {T} named piece n v vs b l (Some (de_pat c t uid at subs binds) ∷ rest) s = go (has_piece c piece) refl
   where
     go : (has : Bool) → has_piece c piece ≡ has →
-        some_takes (cond has ((heads_of c (map Some (de_pats_list subs)) n ++ rest) ∷ []) []) (parts_by piece v ++ vs) ≡ (head_takes (Some (de_pat c t uid at subs binds)) v && row_takes rest vs)
+        some_takes (cond has ((heads_of c (map Some (de_pats_list subs)) n ++ rest) ∷ []) []) (parts_under piece v ++ vs) ≡ (head_takes (Some (de_pat c t uid at subs binds)) v && row_takes rest vs)
     go true e =
-        or_false (row_takes (heads_of c (map Some (de_pats_list subs)) n ++ rest) (parts_by piece v ++ vs))
-        ∙ row-append (heads_of c (map Some (de_pats_list subs)) n) rest (parts_by piece v) vs (s.count e ∙ sym l)
+        or_false (row_takes (heads_of c (map Some (de_pats_list subs)) n ++ rest) (parts_under piece v ++ vs))
+        ∙ row-append (heads_of c (map Some (de_pats_list subs)) n) rest (parts_under piece v) vs (s.count e ∙ sym l)
         ∙ ap (λ x. x && row_takes rest vs)
         (heads_take c piece subs n v named (is_some_there (arena_alternatives_ways (chosen_of subs) subs v)) s.plain e (s.room e) b (s.sided v b ∙ e) l s.ends ∙ sym (pat_takes c t uid at subs binds v))
     go false e =
@@ -194,10 +195,10 @@ AreSidedRows named piece n [] = Unit {0}
 AreSidedRows named piece n (row ∷ rows) = IsSidedRow named piece n row × AreSidedRows named piece n rows
 
 -- the rows of a piece take the parts of a value that it builds where the rows take the value
-pub special_takes : {T : Type 0} (named : List (List ℕ)) (piece : MCtor) (n : ℕ) (v : MValue) (vs : List MValue) → builds named piece v ≡ true → length (parts_by piece v) ≡ n → (rows : List (List (Head T))) → AreSidedRows named piece n rows →
-    some_takes (flat_map (specialised_heads piece n) rows) (parts_by piece v ++ vs) ≡ some_takes rows (v ∷ vs)
+pub special_takes : {T : Type 0} (named : List (List ℕ)) (piece : MCtor) (n : ℕ) (v : MValue) (vs : List MValue) → builds named piece v ≡ true → length (parts_under piece v) ≡ n → (rows : List (List (Head T))) → AreSidedRows named piece n rows →
+    some_takes (flat_map (specialised_heads piece n) rows) (parts_under piece v ++ vs) ≡ some_takes rows (v ∷ vs)
 special_takes named piece n v vs b l [] s = refl
 special_takes named piece n v vs b l (row ∷ rows) s =
-    any-append (λ r. row_takes r (parts_by piece v ++ vs)) (specialised_heads piece n row) (flat_map (specialised_heads piece n) rows)
-    ∙ ap (λ x. x || some_takes (flat_map (specialised_heads piece n) rows) (parts_by piece v ++ vs)) (special_one named piece n v vs b l row s.0)
+    any-append (λ r. row_takes r (parts_under piece v ++ vs)) (specialised_heads piece n row) (flat_map (specialised_heads piece n) rows)
+    ∙ ap (λ x. x || some_takes (flat_map (specialised_heads piece n) rows) (parts_under piece v ++ vs)) (special_one named piece n v vs b l row s.0)
     ∙ ap (λ x. row_takes row (v ∷ vs) || x) (special_takes named piece n v vs b l rows s.1)

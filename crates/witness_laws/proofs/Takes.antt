@@ -6,11 +6,11 @@ use Rattle.match_model.specs.Values.{MValue, parts_of}
 use Rattle.match_model.specs.Ways.{Way, combine, under}
 use Rattle.match_model.specs.Places.{some_if}
 use Rattle.match_model.specs.Matching.{span_way}
-use Rattle.match_model.specs.Constructors.{FixedShape, LongerShape, MCtor, SingleCtor, PointCtor, LaterCtor, OtherTextCtor, VariantCtor, FlagCtor, NumbersCtor, TextCtor, RowCtor, WildCtor, OrCtor, builds}
+use Rattle.match_model.specs.Constructors.{FixedShape, LongerShape, MCtor, SingleCtor, PointCtor, LaterCtor, OtherTextCtor, VariantCtor, FlagCtor, NumbersCtor, TextCtor, RowCtor, WildCtor, OrCtor, builds, parts_met}
 use Rattle.match_model.specs.ArenaPatterns.{MBound, MDePat, de_pat, MDePats, no_de_pats, more_de_pats, de_pats_list, uid_of}
-use Rattle.match_model.specs.ArenaWays.{NumberedPart, numbered_from, parts_met, parts_built, ways_where, with_bounds, with_spans_of, ways_by_ctor, chosen_of, arena_ways, subs_ways, arena_alternatives_ways}
+use Rattle.match_model.specs.ArenaWays.{NumberedPart, numbered_from, parts_built, ways_where, with_bounds, with_spans_of, ways_by_ctor, chosen_of, arena_ways, subs_ways, arena_alternatives_ways}
 use Rattle.match_model.specs.Rows.{Head, Choice, choices_of, all_choices_of, choice_among, with_binds, choices_by, expand_row}
-use Rattle.witness_laws.specs.Covering.{is_some_there, head_takes, row_takes, some_takes, met}
+use Rattle.witness_laws.specs.Covering.{is_some_there, head_takes, row_takes, some_takes}
 
 pub some-map : {A B : Type 0} (f : A → B) (xs : List A) → is_some_there (map f xs) ≡ is_some_there xs
 some-map f [] = refl
@@ -54,7 +54,7 @@ map-drop f zero xs = refl
 map-drop f (suc n) [] = refl
 map-drop f (suc n) (x ∷ xs) = map-drop f n xs
 
-pub met_parts : (c : MCtor) (i : ℕ) (vs : List MValue) → map (λ n. n.part) (parts_met c (numbered_from i vs)) ≡ met c vs
+pub met_parts : (c : MCtor) (i : ℕ) (vs : List MValue) → map (λ n. n.part) (parts_met c (numbered_from i vs)) ≡ parts_met c vs
 met_parts (RowCtor (LongerShape f b)) i vs =
     let ns = numbered_from i vs in
     let part : NumberedPart → MValue = λ n. n.part in
@@ -77,12 +77,12 @@ met_parts (TextCtor t) i vs = numbered_parts i vs
 
 -- what a pattern of a constructor takes: a value that the constructor builds, whose parts its patterns take
 abbrev pub ctor_takes : {T : Type 0} → MCtor → MDePats T → MValue → Bool
-ctor_takes c subs v = builds [] c v && row_takes (map Some (de_pats_list subs)) (met c (parts_of v))
+ctor_takes c subs v = builds [] c v && row_takes (map Some (de_pats_list subs)) (parts_met c (parts_of v))
 
 built_takes : {T : Type 0} (c : MCtor) (subs : MDePats T) (v : MValue) → is_some_there (ways_where (parts_built c v) (λ parts. subs_ways subs parts)) ≡ ctor_takes c subs v
 built_takes c subs v = go (builds [] c v)
   where
-    go : (b : Bool) → is_some_there (ways_where (some_if b (parts_met c (numbered_from 0 (parts_of v)))) (λ parts. subs_ways subs parts)) ≡ (b && row_takes (map Some (de_pats_list subs)) (met c (parts_of v)))
+    go : (b : Bool) → is_some_there (ways_where (some_if b (parts_met c (numbered_from 0 (parts_of v)))) (λ parts. subs_ways subs parts)) ≡ (b && row_takes (map Some (de_pats_list subs)) (parts_met c (parts_of v)))
     go true = subs_take subs (parts_met c (numbered_from 0 (parts_of v))) ∙ ap (row_takes (map Some (de_pats_list subs))) (met_parts c 0 (parts_of v))
     go false = refl
 

@@ -6,12 +6,12 @@ use Rattle.match_model.specs.Constructors.{MCtor, SingleCtor, PointCtor, LaterCt
 use Rattle.match_model.specs.Contexts.{Context}
 use Rattle.match_model.specs.ArenaPatterns.{MDePat, de_pat, MDePats, no_de_pats, more_de_pats, uid_of}
 use Rattle.match_model.specs.Places.{MStep}
-use Rattle.match_model.specs.Rows.{is_or_ctor, Head, Choice, choices_of, all_choices_of, choice_among, with_binds, choices_by, is_wild_ctor, row_rest, first_ctor, column_of, ctor_unless_wild}
+use Rattle.match_model.specs.Rows.{is_or_ctor, Head, Choice, choices_of, all_choices_of, choice_among, with_binds, choices_by, is_wild_ctor, row_rest, first_ctor, column_of, ctor_unless_wild, starts_or}
 use Rattle.match_model.specs.Matrices.{MColumn, MRow, row_with, bind_at, expand_first, expand_rows, default_rows, first_wild, first_binds}
 use Rattle.match_model.specs.WellTyped.{is_written, IsTyped, AreAllTyped, AreHeadsTyped}
 use Rattle.match_model.proofs.Basics.{untrue}
 use Rattle.constructor_sets.specs.Columns.{is_head}
-use Rattle.witness_laws.specs.HeadRows.{AreRowsTyped, first_or, AreNoneOr, all_heads}
+use Rattle.witness_laws.specs.HeadRows.{AreRowsTyped, AreNoneOr, all_heads}
 
 module _ {T : Type 0} (cx : Context T) where
   -- choices: typed as the pattern, and none an or-pattern
@@ -34,7 +34,7 @@ module _ {T : Type 0} (cx : Context T) where
   keeps_pat (more_de_pats p (more_de_pats q qs)) uid c = refl
 
   abbrev GoodChoice : T → MDePat T → Type 0
-  GoodChoice t p = IsTyped cx t p × (first_or (Some p ∷ []) ≡ false)
+  GoodChoice t p = IsTyped cx t p × (starts_or (Some p ∷ []) ≡ false)
 
   mutual
     choices_good : (t : T) (p : MDePat T) → IsTyped cx t p → EachPat (GoodChoice t) (choices_of p)
@@ -69,13 +69,13 @@ module _ {T : Type 0} (cx : Context T) where
       let s = spread_good c columns place r rest h ds g.1 in
       (((g.0.0, h), s.0), (not_or d.pat g.0.1, s.1))
     where
-      not_or : (p : MDePat T) → first_or (Some p ∷ []) ≡ false → first_or (Some p ∷ rest) ≡ false
+      not_or : (p : MDePat T) → starts_or (Some p ∷ []) ≡ false → starts_or (Some p ∷ rest) ≡ false
       not_or (de_pat c t uid at subs binds) e = e
 
   expand_row_good : (c : MColumn T) (columns : List (MColumn T)) (place : List MStep) (r : MRow T) (hs : List (Head T)) → r.heads ≡ hs → AreHeadsTyped cx (c ∷ columns) hs →
       AreRowsTyped cx (c ∷ columns) (expand_first place r hs) × AreNoneOr (expand_first place r hs)
   expand_row_good c columns place r [] e h = absurd h
-  expand_row_good c columns place r (None ∷ rest) e h = ((subst (AreHeadsTyped cx (c ∷ columns)) (sym e) h, tt), (ap first_or e, tt))
+  expand_row_good c columns place r (None ∷ rest) e h = ((subst (AreHeadsTyped cx (c ∷ columns)) (sym e) h, tt), (ap starts_or e, tt))
   expand_row_good c columns place r (Some p ∷ rest) e h = spread_good c columns place r rest h.1 (choices_of p) (choices_good c.type p h.0)
 
   pub expand_good : (c : MColumn T) (columns : List (MColumn T)) (place : List MStep) (rows : List (MRow T)) → AreRowsTyped cx (c ∷ columns) rows →
@@ -100,7 +100,7 @@ module _ {T : Type 0} (cx : Context T) where
 
   -- the constructors of the column are heads of the set
 
-  ctor_good : (t : T) (p : MDePat T) (c : MCtor) → IsTyped cx t p → first_or (Some p ∷ []) ≡ false → first_ctor (Some p ∷ []) ≡ Some c → is_head (cx.set_of t) c ≡ true
+  ctor_good : (t : T) (p : MDePat T) (c : MCtor) → IsTyped cx t p → starts_or (Some p ∷ []) ≡ false → first_ctor (Some p ∷ []) ≡ Some c → is_head (cx.set_of t) c ≡ true
   ctor_good t (de_pat d u uid at subs binds) c h o e = go d c h o e
     where
       same : (d c : MCtor) → Some d ≡ Some c → IsTrue (belongs (cx.set_of t) d && is_written d) → is_wild_ctor d ≡ false → is_head (cx.set_of t) c ≡ true
@@ -129,7 +129,7 @@ module _ {T : Type 0} (cx : Context T) where
       add None f k = k
       add (Some d) f k = All-cons (λ x. IsTrue (is_head (cx.set_of c.type) x)) d (column_of (all_heads rows)) (f d refl) k
 
-      go : (hs : List (Head T)) → AreHeadsTyped cx (c ∷ columns) hs → first_or hs ≡ false → All (λ x. IsTrue (is_head (cx.set_of c.type) x)) (column_of (all_heads rows)) →
+      go : (hs : List (Head T)) → AreHeadsTyped cx (c ∷ columns) hs → starts_or hs ≡ false → All (λ x. IsTrue (is_head (cx.set_of c.type) x)) (column_of (all_heads rows)) →
           All (λ x. IsTrue (is_head (cx.set_of c.type) x)) (column_of (hs ∷ all_heads rows))
       go [] t o k = absurd t
       go (None ∷ rest) t o k = k

@@ -6,11 +6,10 @@ use Rattle.std.proofs.Math.Seq.{take-length}
 use Rattle.match_model.specs.Values.{MValue, Flag, Num, Text, Node, Point, Row, Later, values_list, parts_of}
 use Rattle.match_model.specs.Constructors.{FixedShape, LongerShape, MCtor, SingleCtor, PointCtor, LaterCtor, OtherTextCtor, VariantCtor, FlagCtor, NumbersCtor, TextCtor, RowCtor, WildCtor, OrCtor, builds}
 use Rattle.match_model.specs.ContextLaws.{ArityIs}
-use Rattle.match_model.specs.Witness.{MWitness, no_witnesses, witnesses_list, witnesses_of, fits, all_fit}
+use Rattle.match_model.specs.Witness.{MWitness, no_witnesses, witnesses_list, witnesses_of, fits, all_fit, parts_under}
 use Rattle.match_model.specs.WitnessList.{first_witness, wrapped}
 use Rattle.match_model.specs.Rows.{is_or_ctor, is_wild_ctor}
 use Rattle.match_model.proofs.Basics.{untrue, nat_equal}
-use Rattle.witness_laws.specs.Covering.{parts_by}
 
 and-assoc : (a b c : Bool) → ((a && b) && c) ≡ (a && (b && c))
 and-assoc true b c = refl
@@ -92,8 +91,8 @@ row_longer k j g c n ws items vs e d f =
     ∙ split_fits n ws (take g items ++ drop (length items - c) items) vs (f h))
 
 -- a stack wrapped in a piece fits where the piece builds the value and the stack fits its parts
-pub wrapped_fits : (piece : MCtor) (named : List (List ℕ)) (n : ℕ) (ws : List MWitness) (v : MValue) (vs : List MValue) → (is_wild_ctor piece || is_or_ctor piece) ≡ false → ArityIs piece n → n ≤ length ws → (builds named piece v ≡ true → length (parts_by piece v) ≡ n) →
-    all_fit (witnesses_of (wrapped piece named n ws)) (v ∷ vs) ≡ (builds named piece v && all_fit (witnesses_of ws) (parts_by piece v ++ vs))
+pub wrapped_fits : (piece : MCtor) (named : List (List ℕ)) (n : ℕ) (ws : List MWitness) (v : MValue) (vs : List MValue) → (is_wild_ctor piece || is_or_ctor piece) ≡ false → ArityIs piece n → n ≤ length ws → (builds named piece v ≡ true → length (parts_under piece v) ≡ n) →
+    all_fit (witnesses_of (wrapped piece named n ws)) (v ∷ vs) ≡ (builds named piece v && all_fit (witnesses_of ws) (parts_under piece v ++ vs))
 wrapped_fits SingleCtor named n ws (Node k parts) vs x a l f = node (nat_eq k 0) (nat_eq 0 k) n ws (values_list parts) vs (eq-flip 0 k) f
 wrapped_fits SingleCtor named n ws _ vs x a l f = refl
 wrapped_fits (VariantCtor j) named n ws (Node k parts) vs x a l f = node (nat_eq k j) (nat_eq j k) n ws (values_list parts) vs (eq-flip j k) f

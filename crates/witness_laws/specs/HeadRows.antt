@@ -1,8 +1,7 @@
 -- Matrices and rows of heads: their types, their heads, their or-patterns.
 use Rattle.std.specs.Prelude.{◌≡◌, Bool, false, List, [], ◌∷◌, ⊤, Some, map}
-use Rattle.match_model.specs.ArenaPatterns.{de_pat}
 use Rattle.match_model.specs.Contexts.{Context, Open}
-use Rattle.match_model.specs.Rows.{Head, is_or_ctor}
+use Rattle.match_model.specs.Rows.{Head, starts_or}
 use Rattle.match_model.specs.Matrices.{MColumn, MRow, open_of}
 use Rattle.match_model.specs.WellTyped.{AreHeadsTyped}
 
@@ -16,15 +15,10 @@ abbrev pub AreRowsTyped : {T : Type 0} → Context T → List (MColumn T) → Li
 AreRowsTyped cx columns [] = ⊤
 AreRowsTyped cx columns (r ∷ rows) = AreHeadsTyped cx columns r.heads × AreRowsTyped cx columns rows
 
--- the first head is an or-pattern
-abbrev pub first_or : {T : Type 0} → List (Head T) → Bool
-first_or (Some (de_pat c t uid at subs binds) ∷ rest) = is_or_ctor c
-first_or _ = false
-
 -- no first head is an or-pattern
 abbrev pub AreNoneOr : {T : Type 0} → List (MRow T) → Type 0
 AreNoneOr [] = ⊤
-AreNoneOr (r ∷ rows) = (first_or r.heads ≡ false) × AreNoneOr rows
+AreNoneOr (r ∷ rows) = (starts_or r.heads ≡ false) × AreNoneOr rows
 
 -- the open places of columns, and the heads of rows
 abbrev pub opens : {T : Type 0} → List (MColumn T) → List (Open T)
