@@ -1,0 +1,17 @@
+pub mod ArmWays
+pub mod Bindings
+pub mod Canonical
+pub mod Dividing
+pub mod ExpandKeeps
+pub mod Expanding
+pub mod FirstRow
+pub mod Leaf
+pub mod Lists
+pub mod Parting
+pub mod PartsDone
+pub mod Picking
+pub mod PieceKeeps
+pub mod PullOut
+pub mod RowOrder
+pub mod StepSame
+pub mod Steps
