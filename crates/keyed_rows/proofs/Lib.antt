@@ -1,3 +1,4 @@
+pub mod ArmNumbers
 pub mod ArmWays
 pub mod Bindings
 pub mod Canonical
@@ -7,6 +8,7 @@ pub mod Expanding
 pub mod FirstRow
 pub mod Leaf
 pub mod Lists
+pub mod Members
 pub mod Parting
 pub mod PartsDone
 pub mod Picking

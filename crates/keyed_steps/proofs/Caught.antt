@@ -52,8 +52,8 @@ pub places-append : (v : MValue) (xs ys : List MBind) → places_are v xs ≡ tr
 places-append v [] ys p q = q
 places-append v (x ∷ xs) ys p q = let s = both (is_some (part_at x.place v)) (places_are v xs) p in and_true (is_some (part_at x.place v)) (places_are v (xs ++ ys)) s.0 (places-append v xs ys s.1 q)
 
-module _ {T : Type 0} (IsType : T → Type 0) (Made : MCtor → Type 0) (cx : Context T) (V : T → Bool → MValue → Type 0) (decides : ℕ → Decision) (i : ℕ) (c : MColumn T) (columns : List (MColumn T)) (there : slice_get columns i ≡ Some c) where
-  caught-step : (f : Head T → List (Replacement T)) (v : MValue) (rows next : List (MRow T)) → Every (IsGoodRow Made cx decides columns) rows →
+module _ {T : Type 0} (IsType : T → Type 0) (cx : Context T) (V : T → Bool → MValue → Type 0) (decides : ℕ → Decision) (i : ℕ) (c : MColumn T) (columns : List (MColumn T)) (there : slice_get columns i ≡ Some c) where
+  caught-step : (f : Head T → List (Replacement T)) (v : MValue) (rows next : List (MRow T)) → Every (IsGoodRow cx decides columns) rows →
       ((r : MRow T) (h : Head T) (y : Replacement T) → Among r rows → slice_get r.heads i ≡ Some h → IsHeadTyped cx c.type h → Among y (f h) → places_are v (map (bind_at c.place) y.binds) ≡ true) →
       AreInOrder decides (rows_at f c.place i rows) next → AreCaught v rows → AreCaught v next
   caught-step f v rows next good each order caught = every-among (λ r. IsTrue (places_are v r.caught)) next (λ r j. one r (order.same.back r j))
@@ -66,13 +66,13 @@ module _ {T : Type 0} (IsType : T → Type 0) (Made : MCtor → Type 0) (cx : Co
           let a = among-flat (λ x. map (row_replaced c.place x) (replacements_at f i x.heads)) rows r j in
           let b = among-map (row_replaced c.place a.0) (replacements_at f i a.0.heads) r a.2 in
           let m : IsMadeAt f i a.0.heads b.0 = made-at f i a.0.heads b.0 b.1 in
-          let g : IsGoodRow Made cx decides columns a.0 = among-every (IsGoodRow Made cx decides columns) rows a.0 good a.1 in
+          let g : IsGoodRow cx decides columns a.0 = among-every (IsGoodRow cx decides columns) rows a.0 good a.1 in
           let h = head-at cx columns a.0.heads i c g.typed there in
           let typed : IsHeadTyped cx c.type m.head = subst (IsHeadTyped cx c.type) (some h.0 m.head (sym h.1 ∙ m.there)) h.2 in
           let new : places_are v (map (bind_at c.place) b.0.binds) ≡ true = subst (λ (l : List MBound). places_are v (map (bind_at c.place) l) ≡ true) (sym m.binds) (each a.0 m.head m.by a.1 m.there typed m.of) in
           subst (λ (x : MRow T). places_are v x.caught ≡ true) (sym b.2) (places-append v a.0.caught (map (bind_at c.place) b.0.binds) (among-every (λ x. IsTrue (places_are v x.caught)) rows a.0 caught a.1) new)
 
-  pub expanded-caught : (rows next : List (MRow T)) (v : MValue) → IsGood IsType Made cx decides columns rows → AreInOrder decides (rows_at expand_head c.place i rows) next → IsHeld V columns v → AreCaught v rows → AreCaught v next
+  pub expanded-caught : (rows next : List (MRow T)) (v : MValue) → IsGood IsType cx decides columns rows → AreInOrder decides (rows_at expand_head c.place i rows) next → IsHeld V columns v → AreCaught v rows → AreCaught v next
   expanded-caught rows next v good order held caught =
       let u = held-at V columns held.0 v i c held.1 held.2 there in
       caught-step expand_head v rows next good.rows_are (λ r h y a e t j. places-bound v c.place u.0 y.binds u.1 (whole h y t j)) order caught
@@ -84,7 +84,7 @@ module _ {T : Type 0} (IsType : T → Type 0) (Made : MCtor → Type 0) (cx : Co
           let m = among-map (λ x. record { heads = Some x.pat ∷ []; chosen = x.chosen; binds = x.binds }) (choices_of p) y j in
           subst (λ (x : Replacement T). AreWhole x.binds) (sym m.2) (among-every (λ (x : Choice T). AreWhole x.binds) (choices_of p) m.0 (choices-whole cx c.type p t) m.1)
 
-  pub dropped-caught : (rows next : List (MRow T)) (v : MValue) → IsReady IsType Made cx decides i columns rows → AreInOrder decides (rows_at default_head c.place i rows) next → IsHeld V columns v → AreCaught v rows → AreCaught v next
+  pub dropped-caught : (rows next : List (MRow T)) (v : MValue) → IsReady IsType cx decides i columns rows → AreInOrder decides (rows_at default_head c.place i rows) next → IsHeld V columns v → AreCaught v rows → AreCaught v next
   dropped-caught rows next v ready order held caught =
       let u = held-at V columns held.0 v i c held.1 held.2 there in
       caught-step default_head v rows next ready.good.rows_are (λ r h y a e t j. places-bound v c.place u.0 y.binds u.1 (whole h y t j)) order caught
@@ -107,7 +107,7 @@ module _ {T : Type 0} (IsType : T → Type 0) (Made : MCtor → Type 0) (cx : Co
           go true q = elim (subst (λ x. Among y (cond x (Y ∷ []) [])) q j) [ inl e ↦ subst (λ (x : Replacement T). AreWhole x.binds) (sym e) (own h t q) | inr e ↦ absurd e ]
           go false q = absurd (subst (λ x. Among y (cond x (Y ∷ []) [])) q j)
 
-  pub entered-caught : PiecesFit IsType Made cx decides → (rows next : List (MRow T)) (pieces : List MCtor) (p : MCtor) (v u : MValue) → IsReady IsType Made cx decides i columns rows → ArePieces (cx.set_of c.type) (ctors_at i rows) pieces → Among p pieces →
+  pub entered-caught : PiecesFit IsType cx decides → (rows next : List (MRow T)) (pieces : List MCtor) (p : MCtor) (v u : MValue) → IsReady IsType cx decides i columns rows → ArePieces (cx.set_of c.type) (ctors_at i rows) pieces → Among p pieces →
       AreInOrder decides (rows_at (specialise_head p (cx.arity p c.type)) c.place i rows) next → part_at c.place v ≡ Some u → builds (named_in pieces) p u ≡ true → AreCaught v rows → AreCaught v next
   entered-caught fit rows next pieces p v u ready are a order part built caught =
       let f : IsFit cx i c rows pieces p = fit i c columns rows pieces p ready there are a in

@@ -13,15 +13,16 @@ use Rattle.match_model.specs.Steps.{Replacement, expand_head, specialise_head, d
 use Rattle.keyed_rows.proofs.Lists.{every-append, every-map}
 use Rattle.keyed_rows.proofs.Parting.{among-map, among-every}
 use Rattle.keyed_steps.specs.Fits.{IsPlain, HeadFits}
-use Rattle.keyed_steps.specs.Good.{IsMadePat, AreMadePats, IsMadeHead, IsPlainHead}
+use Rattle.match_model.specs.Made.{IsMadePat, AreMadePats}
+use Rattle.keyed_steps.specs.Good.{IsMadeHead, IsPlainHead}
 use Rattle.keyed_steps.proofs.HeadCounts.{IsWritten, written, head-count}
 use Rattle.keyed_steps.proofs.PartTypes.{TypedFrom, piece-typed, meets-from, ends-from, from-wild}
 
-module _ {T : Type 0} (Made : MCtor → Type 0) (cx : Context T) where
+module _ {T : Type 0} (cx : Context T) where
   -- a choice: typed as the pattern, of its constructors, and no or-pattern
   pub record IsGoodChoice (t : T) (c : Choice T) : Type 0 where
     pub typed : IsTyped cx t c.pat
-    pub made : IsMadePat Made c.pat
+    pub made : IsMadePat c.pat
     pub plain : IsPlainHead (Some c.pat)
 
   through-good : (t : T) (subs : MDePats T) (uid : ℕ) (c : Choice T) → IsGoodChoice t c → IsGoodChoice t (choice_among subs uid c)
@@ -30,15 +31,15 @@ module _ {T : Type 0} (Made : MCtor → Type 0) (cx : Context T) where
   through-good t (more_de_pats p (more_de_pats q qs)) uid c g = record { typed = g.typed; made = g.made; plain = g.plain }
 
   mutual
-    choices-good : (t : T) (p : MDePat T) → IsTyped cx t p → IsMadePat Made p → Every (IsGoodChoice t) (choices_of p)
+    choices-good : (t : T) (p : MDePat T) → IsTyped cx t p → IsMadePat p → Every (IsGoodChoice t) (choices_of p)
     choices-good t (de_pat c u uid at subs binds) h m = go c h m (λ k. all-good t (choice_among subs) (through-good t subs) subs k m.1)
       where
-        go : (c : MCtor) → IsTyped cx t (de_pat c u uid at subs binds) → IsMadePat Made (de_pat c u uid at subs binds) → (AreAllTyped cx t subs → Every (IsGoodChoice t) (all_choices_of (choice_among subs) subs)) →
+        go : (c : MCtor) → IsTyped cx t (de_pat c u uid at subs binds) → IsMadePat (de_pat c u uid at subs binds) → (AreAllTyped cx t subs → Every (IsGoodChoice t) (all_choices_of (choice_among subs) subs)) →
             Every (IsGoodChoice t) (choices_by c (map (with_binds binds) (all_choices_of (choice_among subs) subs)) (record { pat = de_pat c u uid at subs binds; chosen = []; binds = [] } ∷ []))
         go OrCtor h m f = every-map (IsGoodChoice t) (IsGoodChoice t) (with_binds binds) (all_choices_of (choice_among subs) subs) (λ d g. record { typed = g.typed; made = g.made; plain = g.plain }) (f h.2)
         go _ h m f = (record { typed = h; made = m; plain = tt }, tt)
 
-    all-good : (t : T) (choose : ℕ → Choice T → Choice T) → ((u : ℕ) (d : Choice T) → IsGoodChoice t d → IsGoodChoice t (choose u d)) → (ps : MDePats T) → AreAllTyped cx t ps → AreMadePats Made ps → Every (IsGoodChoice t) (all_choices_of choose ps)
+    all-good : (t : T) (choose : ℕ → Choice T → Choice T) → ((u : ℕ) (d : Choice T) → IsGoodChoice t d → IsGoodChoice t (choose u d)) → (ps : MDePats T) → AreAllTyped cx t ps → AreMadePats ps → Every (IsGoodChoice t) (all_choices_of choose ps)
     all-good t choose k no_de_pats h m = tt
     all-good t choose k (more_de_pats p ps) h m =
         every-append (IsGoodChoice t) (map (choose (uid_of p)) (choices_of p)) (all_choices_of choose ps)
@@ -49,10 +50,10 @@ module _ {T : Type 0} (Made : MCtor → Type 0) (cx : Context T) where
     pub head : Head T
     pub only : y.heads ≡ head ∷ []
     pub typed : IsHeadTyped cx t head
-    pub made : IsMadeHead Made head
+    pub made : IsMadeHead head
     pub plain : IsPlainHead head
 
-  pub expand-after : (t : T) (h : Head T) (y : Replacement T) → IsHeadTyped cx t h → IsMadeHead Made h → Among y (expand_head h) → IsOneHead t y
+  pub expand-after : (t : T) (h : Head T) (y : Replacement T) → IsHeadTyped cx t h → IsMadeHead h → Among y (expand_head h) → IsOneHead t y
   expand-after t None y a m (inl e) = record { head = None; only = ap (λ x. x.heads) e; typed = tt; made = tt; plain = tt }
   expand-after t None y a m (inr e) = absurd e
   expand-after t (Some p) y a m j =
@@ -71,24 +72,24 @@ module _ {T : Type 0} (Made : MCtor → Type 0) (cx : Context T) where
       go false q = absurd (subst (λ x. Among y (cond x (Y ∷ []) [])) q j)
 
   -- heads of parts are made
-  wild-made : (m : ℕ) (hs : List (Head T)) → Every (IsMadeHead Made) hs → Every (IsMadeHead Made) (wildcards m ++ hs)
+  wild-made : (m : ℕ) (hs : List (Head T)) → Every (IsMadeHead) hs → Every (IsMadeHead) (wildcards m ++ hs)
   wild-made zero hs h = h
   wild-made (suc m) hs h = (tt, wild-made m hs h)
 
-  only-wild-made : (m : ℕ) → Every (IsMadeHead {T = T} Made) (wildcards m)
+  only-wild-made : (m : ℕ) → Every (IsMadeHead {T = T}) (wildcards m)
   only-wild-made zero = tt
   only-wild-made (suc m) = (tt, only-wild-made m)
 
-  put-made : (f m : ℕ) (hs : List (Head T)) → Every (IsMadeHead Made) hs → Every (IsMadeHead Made) (take f hs ++ (wildcards m ++ drop f hs))
+  put-made : (f m : ℕ) (hs : List (Head T)) → Every (IsMadeHead) hs → Every (IsMadeHead) (take f hs ++ (wildcards m ++ drop f hs))
   put-made zero m hs h = wild-made m hs h
   put-made (suc f) m [] h = wild-made m [] h
   put-made (suc f) m (x ∷ hs) h = (h.0, put-made f m hs h.1)
 
-  subs-made : (ps : MDePats T) → AreMadePats Made ps → Every (IsMadeHead Made) (map Some (de_pats_list ps))
+  subs-made : (ps : MDePats T) → AreMadePats ps → Every (IsMadeHead) (map Some (de_pats_list ps))
   subs-made no_de_pats h = tt
   subs-made (more_de_pats p ps) h = (h.0, subs-made ps h.1)
 
-  heads-made : (k : MCtor) (n : ℕ) (subs : MDePats T) → AreMadePats Made subs → Every (IsMadeHead Made) (heads_of k (map Some (de_pats_list subs)) n)
+  heads-made : (k : MCtor) (n : ℕ) (subs : MDePats T) → AreMadePats subs → Every (IsMadeHead) (heads_of k (map Some (de_pats_list subs)) n)
   heads-made (RowCtor (LongerShape f b)) n subs h = put-made f (n - (f + b)) (map Some (de_pats_list subs)) (subs-made subs h)
   heads-made WildCtor n subs h = only-wild-made n
   heads-made (RowCtor (FixedShape k)) n subs h = subs-made subs h
@@ -102,16 +103,16 @@ module _ {T : Type 0} (Made : MCtor → Type 0) (cx : Context T) where
   heads-made (NumbersCtor k) n subs h = subs-made subs h
   heads-made (TextCtor k) n subs h = subs-made subs h
 
-  pub piece-made : (p : MCtor) (n : ℕ) (h : Head T) (y : Replacement T) → IsMadeHead Made h → Among y (specialise_head p n h) → Every (IsMadeHead Made) y.heads
-  piece-made p n None y m (inl e) = subst (λ (x : Replacement T). Every (IsMadeHead Made) x.heads) (sym e) (only-wild-made n)
+  pub piece-made : (p : MCtor) (n : ℕ) (h : Head T) (y : Replacement T) → IsMadeHead h → Among y (specialise_head p n h) → Every (IsMadeHead) y.heads
+  piece-made p n None y m (inl e) = subst (λ (x : Replacement T). Every (IsMadeHead) x.heads) (sym e) (only-wild-made n)
   piece-made p n None y m (inr e) = absurd e
   piece-made p n (Some (de_pat k u uid at subs binds)) y m j = go (has_piece k p) refl
     where
       Y : Replacement T
       Y = record { heads = heads_of k (map Some (de_pats_list subs)) n; chosen = []; binds = binds }
 
-      go : (b : Bool) → has_piece k p ≡ b → Every (IsMadeHead Made) y.heads
-      go true q = elim (subst (λ x. Among y (cond x (Y ∷ []) [])) q j) [ inl e ↦ subst (λ (x : Replacement T). Every (IsMadeHead Made) x.heads) (sym e) (heads-made k n subs m.1) | inr e ↦ absurd e ]
+      go : (b : Bool) → has_piece k p ≡ b → Every (IsMadeHead) y.heads
+      go true q = elim (subst (λ x. Among y (cond x (Y ∷ []) [])) q j) [ inl e ↦ subst (λ (x : Replacement T). Every (IsMadeHead) x.heads) (sym e) (heads-made k n subs m.1) | inr e ↦ absurd e ]
       go false q = absurd (subst (λ x. Among y (cond x (Y ∷ []) [])) q j)
 
 -- the heads of the parts are well typed at the piece's columns

@@ -83,15 +83,15 @@ module _ {T : Type 0} (cx : Context T) where
       let m = among-map (with_head h) (replacements_at f i hs) y a in
       subst (λ (z : Replacement T). GoodAt P (suc i) z.heads) (sym m.2) (plain-step P f i hs m.0 g m.1)
 
-module _ {T : Type 0} (IsType : T → Type 0) (Made : MCtor → Type 0) (cx : Context T) (V : T → Bool → MValue → Type 0) (law : PartsLaw IsType V cx) (values : ValuesLaw IsType V cx) (decides : ℕ → Decision) (fit : PiecesFit IsType Made cx decides) where
+module _ {T : Type 0} (IsType : T → Type 0) (cx : Context T) (V : T → Bool → MValue → Type 0) (law : PartsLaw IsType V cx) (values : ValuesLaw IsType V cx) (decides : ℕ → Decision) (fit : PiecesFit IsType cx decides) where
   abbrev Row : List (MColumn T) → MRow T → Type 0
-  Row columns r = IsGoodRow Made cx decides columns r
+  Row columns r = IsGoodRow cx decides columns r
 
   module _ (f : Head T → List (Replacement T)) (fine : (h : Head T) (y : Replacement T) → Among y (f h) → IsFineReplacement h y) (Good : Head T → Type 0) (width : ℕ) (divides : Divides decides Good width f)
       (i : ℕ) (c : MColumn T) (columns new : List (MColumn T)) (there : slice_get columns i ≡ Some c) where
     rows-kept : (rows next : List (MRow T)) → Every (Row columns) rows → Every (λ r. GoodAt Good i r.heads) rows →
         ((r : MRow T) (h : Head T) (y : Replacement T) → Among r rows → slice_get r.heads i ≡ Some h → IsHeadTyped cx c.type h → Among y (f h) → AreHeadsTyped cx new y.heads) →
-        ((h : Head T) (y : Replacement T) → (t : IsMadeHead Made h) → (r : MRow T) → Among r rows → slice_get r.heads i ≡ Some h → Among y (f h) → Every (IsMadeHead Made) y.heads) →
+        ((h : Head T) (y : Replacement T) → (t : IsMadeHead h) → (r : MRow T) → Among r rows → slice_get r.heads i ≡ Some h → Among y (f h) → Every (IsMadeHead) y.heads) →
         AreInOrder decides (rows_at f c.place i rows) next → Every (Row (replaced_at i columns new)) next
     rows-kept rows next good at typed made order = every-among (Row (replaced_at i columns new)) next (λ r j. one r (order.same.back r j))
       where
@@ -111,7 +111,7 @@ module _ {T : Type 0} (IsType : T → Type 0) (Made : MCtor → Type 0) (cx : Co
               names = subst (λ (x : MRow T). heads_names_differ (map (λ q. q.name) x.caught) x.heads ≡ true) (sym b.2)
                   (subst (λ (l : List (List ℕ)). heads_names_differ l b.0.heads ≡ true) (sym same) (fine-from (map (λ x. x.name) a.0.caught ++ bound_names b.0.binds) b.0.heads names));
               free = rows-free decides Good width f divides c.place i rows free at r j;
-              made = subst (λ (x : MRow T). Every (IsMadeHead Made) x.heads) (sym b.2) (every-step cx (IsMadeHead Made) f i a.0.heads b.0 g.made (λ h z e t k. made h z t a.0 a.1 e k) b.1);
+              made = subst (λ (x : MRow T). Every (IsMadeHead) x.heads) (sym b.2) (every-step cx (IsMadeHead) f i a.0.heads b.0 g.made (λ h z e t k. made h z t a.0 a.1 e k) b.1);
             }
 
   any-good : (i : ℕ) (rows : List (MRow T)) → Every (λ r. GoodAt (λ (h : Head T). Unit {0}) i r.heads) rows
@@ -124,14 +124,14 @@ module _ {T : Type 0} (IsType : T → Type 0) (Made : MCtor → Type 0) (cx : Co
   same-column c (d ∷ cs) (suc j) e = ap (λ l. d ∷ l) (same-column c cs j e)
 
   -- alternatives in order
-  pub expanded : (i : ℕ) (c : MColumn T) (columns : List (MColumn T)) (rows next : List (MRow T)) → IsGood IsType Made cx decides columns rows → slice_get columns i ≡ Some c → AreInOrder decides (rows_at expand_head c.place i rows) next → IsReady IsType Made cx decides i columns next
+  pub expanded : (i : ℕ) (c : MColumn T) (columns : List (MColumn T)) (rows next : List (MRow T)) → IsGood IsType cx decides columns rows → slice_get columns i ≡ Some c → AreInOrder decides (rows_at expand_head c.place i rows) next → IsReady IsType cx decides i columns next
   expanded i c columns rows next good there order = record {
     good = record {
       columns_are = good.columns_are;
       rows_are = subst (λ cs. Every (Row cs) next) (same-column c columns i there)
           (rows-kept expand_head expand-fine (λ h. Unit {0}) 1 (expand-divides decides) i c columns (c ∷ []) there rows next good.rows_are (any-good i rows)
-          (λ r h y a e t k. (let o : IsOneHead Made cx c.type y = expand-after Made cx c.type h y t (head-made r h a e) k in subst (AreHeadsTyped cx (c ∷ [])) (sym o.only) (o.typed, tt)))
-          (λ h y m r a e k. (let o : IsOneHead Made cx c.type y = expand-after Made cx c.type h y (head-typed r h a e) m k in subst (Every (IsMadeHead Made)) (sym o.only) (o.made, tt))) order);
+          (λ r h y a e t k. (let o : IsOneHead cx c.type y = expand-after cx c.type h y t (head-made r h a e) k in subst (AreHeadsTyped cx (c ∷ [])) (sym o.only) (o.typed, tt)))
+          (λ h y m r a e k. (let o : IsOneHead cx c.type y = expand-after cx c.type h y (head-typed r h a e) m k in subst (Every (IsMadeHead)) (sym o.only) (o.made, tt))) order);
     };
     plain = every-among (λ r. GoodAt IsPlainHead i r.heads) next (λ r j. plain r (order.same.back r j));
   }
@@ -150,8 +150,8 @@ module _ {T : Type 0} (IsType : T → Type 0) (Made : MCtor → Type 0) (cx : Co
           subst (λ z. IsHeadTyped cx c.type z) head (subst (λ (z : MColumn T). IsHeadTyped cx z.type x) same t.0)
       typed-at (d ∷ cs) (suc j) (x ∷ hs) h t e k = typed-at cs j hs h t.1 e k
 
-      head-made : (r : MRow T) (h : Head T) → Among r rows → slice_get r.heads i ≡ Some h → IsMadeHead Made h
-      head-made r h a e = let g : Row columns r = among-every (Row columns) rows r good.rows_are a in every-at (IsMadeHead Made) i r.heads h g.made e
+      head-made : (r : MRow T) (h : Head T) → Among r rows → slice_get r.heads i ≡ Some h → IsMadeHead h
+      head-made r h a e = let g : Row columns r = among-every (Row columns) rows r good.rows_are a in every-at (IsMadeHead) i r.heads h g.made e
 
       head-typed : (r : MRow T) (h : Head T) → Among r rows → slice_get r.heads i ≡ Some h → IsHeadTyped cx c.type h
       head-typed r h a e = let g : Row columns r = among-every (Row columns) rows r good.rows_are a in typed-at columns i r.heads h g.typed there e
@@ -161,26 +161,26 @@ module _ {T : Type 0} (IsType : T → Type 0) (Made : MCtor → Type 0) (cx : Co
           let a = among-flat (λ x. map (row_replaced c.place x) (replacements_at expand_head i x.heads)) rows r j in
           let b = among-map (row_replaced c.place a.0) (replacements_at expand_head i a.0.heads) r a.2 in
           subst (λ (x : MRow T). GoodAt IsPlainHead i x.heads) (sym b.2) (plain-step cx IsPlainHead expand_head i a.0.heads b.0
-          (λ h z e k. (let o : IsOneHead Made cx c.type z = expand-after Made cx c.type h z (head-typed a.0 h a.1 e) (head-made a.0 h a.1 e) k in (o.head, o.only, o.plain))) b.1)
+          (λ h z e k. (let o : IsOneHead cx c.type z = expand-after cx c.type h z (head-typed a.0 h a.1 e) (head-made a.0 h a.1 e) k in (o.head, o.only, o.plain))) b.1)
 
   -- a column dropped
-  pub dropped : (i : ℕ) (c : MColumn T) (columns : List (MColumn T)) (rows next : List (MRow T)) → IsReady IsType Made cx decides i columns rows → slice_get columns i ≡ Some c → AreInOrder decides (rows_at default_head c.place i rows) next → IsGood IsType Made cx decides (replaced_at i columns []) next
+  pub dropped : (i : ℕ) (c : MColumn T) (columns : List (MColumn T)) (rows next : List (MRow T)) → IsReady IsType cx decides i columns rows → slice_get columns i ≡ Some c → AreInOrder decides (rows_at default_head c.place i rows) next → IsGood IsType cx decides (replaced_at i columns []) next
   dropped i c columns rows next ready there order = record {
     columns_are = replaced-every (IsGoodColumn IsType) i columns [] ready.good.columns_are tt;
     rows_are = rows-kept default_head drop-fine (λ h. Unit {0}) 0 (drop-divides decides) i c columns [] there rows next ready.good.rows_are (any-good i rows)
-        (λ r h y a e t k. subst (AreHeadsTyped cx []) (sym (drop-after Made cx h y k)) tt) (λ h y m r a e k. subst (Every (IsMadeHead Made)) (sym (drop-after Made cx h y k)) tt) order;
+        (λ r h y a e t k. subst (AreHeadsTyped cx []) (sym (drop-after cx h y k)) tt) (λ h y m r a e k. subst (Every (IsMadeHead)) (sym (drop-after cx h y k)) tt) order;
   }
 
   -- a piece entered
-  pub entered : (i : ℕ) (c : MColumn T) (columns : List (MColumn T)) (rows next : List (MRow T)) (pieces : List MCtor) (p : MCtor) → IsReady IsType Made cx decides i columns rows → slice_get columns i ≡ Some c → ArePieces (cx.set_of c.type) (ctors_at i rows) pieces → Among p pieces →
-      AreInOrder decides (rows_at (specialise_head p (cx.arity p c.type)) c.place i rows) next → IsGood IsType Made cx decides (replaced_at i columns (part_columns cx c p)) next
+  pub entered : (i : ℕ) (c : MColumn T) (columns : List (MColumn T)) (rows next : List (MRow T)) (pieces : List MCtor) (p : MCtor) → IsReady IsType cx decides i columns rows → slice_get columns i ≡ Some c → ArePieces (cx.set_of c.type) (ctors_at i rows) pieces → Among p pieces →
+      AreInOrder decides (rows_at (specialise_head p (cx.arity p c.type)) c.place i rows) next → IsGood IsType cx decides (replaced_at i columns (part_columns cx c p)) next
   entered i c columns rows next pieces p ready there are a order =
       let column : IsGoodColumn IsType c = column-at (IsGoodColumn IsType) columns i c ready.good.columns_are there in
       let f : IsFit cx i c rows pieces p = fit i c columns rows pieces p ready there are a in
       record {
         columns_are = replaced-every (IsGoodColumn IsType) i columns (part_columns cx c p) ready.good.columns_are (columns-good IsType cx V law c.type column.type c p refl f.belong column.straight);
         rows_are = rows-kept (specialise_head p (cx.arity p c.type)) (piece-fine p (cx.arity p c.type)) (HasCount p (cx.arity p c.type)) (cx.arity p c.type) (piece-divides decides p (cx.arity p c.type)) i c columns (part_columns cx c p) there rows next ready.good.rows_are
-            (counted IsType Made cx V law values decides fit i c columns rows pieces p ready there are a)
+            (counted IsType cx V law values decides fit i c columns rows pieces p ready there are a)
             (λ r h y j e t k. piece-after IsType cx V law c column.type (named_in pieces) p f.belong h y t (good-at (HeadFits (named_in pieces) p) i r.heads h (among-every (λ x. GoodAt (HeadFits (named_in pieces) p) i x.heads) rows r f.fits j) e) k)
-            (λ h y m r j e k. piece-made Made cx p (cx.arity p c.type) h y m k) order;
+            (λ h y m r j e k. piece-made cx p (cx.arity p c.type) h y m k) order;
       }

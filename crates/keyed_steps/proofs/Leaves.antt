@@ -45,7 +45,7 @@ module _ (v : MValue) where
       let s = both (is_some (part_at b.place v)) (places_are v bs) h in
       put-places b (by_name bs) (and_true (is_some (part_at b.place v)) (places_are v (by_name bs)) s.0 (named-places bs s.1))
 
-module _ {T : Type 0} (IsType : T → Type 0) (Made : MCtor → Type 0) (cx : Context T) (V : T → Bool → MValue → Type 0) (decides : ℕ → Decision) where
+module _ {T : Type 0} (IsType : T → Type 0) (cx : Context T) (V : T → Bool → MValue → Type 0) (decides : ℕ → Decision) where
   all-there : (columns : List (MColumn T)) (us : List MValue) (v : MValue) → Every (IsGoodColumn IsType) columns → ArePartsAt v columns us → AreThere v columns
   all-there [] us v g a = tt
   all-there (c ∷ columns) [] v g a = elim a [ ]
@@ -70,14 +70,14 @@ module _ {T : Type 0} (IsType : T → Type 0) (Made : MCtor → Type 0) (cx : Co
       let s = both (is_wild h) (list_all is_wild hs) w in
       places-append v (head_binds c.place h) (all_head_binds columns hs) (one-places c h v u a.0 s.0 t.0) (heads-places columns hs us v a.1 s.1 t.1)
 
-  pub leaf : (columns : List (MColumn T)) (r : MRow T) (rows : List (MRow T)) (v : MValue) → IsGood IsType Made cx decides columns (r ∷ rows) → IsTrue (all_wild r) → IsHeld V columns v → IsTrue (places_are v r.caught) →
+  pub leaf : (columns : List (MColumn T)) (r : MRow T) (rows : List (MRow T)) (v : MValue) → IsGood IsType cx decides columns (r ∷ rows) → IsTrue (all_wild r) → IsHeld V columns v → IsTrue (places_are v r.caught) →
       (row_keyed_tries decides columns v r ≡ record { arm = r.arm; guarded = r.guarded; key = row_key decides r; bindings = bindings_in v (row_binds columns r) } ∷ [])
       × IsTrue (places_are v (row_binds columns r))
   leaf columns r rows v good w held caught =
-      let g : IsGoodRow Made cx decides columns r = good.rows_are.0 in (
+      let g : IsGoodRow cx decides columns r = good.rows_are.0 in (
         leaf-way cx v decides columns r (all-there columns held.0 v good.columns_are held.2) w g.typed,
         named-places v (r.caught ++ all_head_binds columns r.heads) (places-append v r.caught (all_head_binds columns r.heads) caught (heads-places columns r.heads held.0 v held.2 w g.typed)),
       )
 
-  pub others : (columns : List (MColumn T)) (r : MRow T) (rows : List (MRow T)) → IsGood IsType Made cx decides columns (r ∷ rows) → IsGood IsType Made cx decides columns rows
+  pub others : (columns : List (MColumn T)) (r : MRow T) (rows : List (MRow T)) → IsGood IsType cx decides columns (r ∷ rows) → IsGood IsType cx decides columns rows
   others columns r rows good = record { columns_are = good.columns_are; rows_are = good.rows_are.1 }

@@ -105,11 +105,11 @@ wild-head {T} i (x ∷ rows) r h a e w = elim a [
     first zero (y ∷ hs) k s = let same : y ≡ h = cc in subst (λ z. is_wild z ≡ true) same s
     first (suc j) (y ∷ hs) k s = first j hs k s
 
-module _ {T : Type 0} (IsType : T → Type 0) (Made : MCtor → Type 0) (cx : Context T) (V : T → Bool → MValue → Type 0) (law : PartsLaw IsType V cx) (values : ValuesLaw IsType V cx) (decides : ℕ → Decision) (fit : PiecesFit IsType Made cx decides) where
+module _ {T : Type 0} (IsType : T → Type 0) (cx : Context T) (V : T → Bool → MValue → Type 0) (law : PartsLaw IsType V cx) (values : ValuesLaw IsType V cx) (decides : ℕ → Decision) (fit : PiecesFit IsType cx decides) where
   -- a step whose yields keep the ways of each head there
   module _ (f : Head T → List (Replacement T)) (fine : (h : Head T) (y : Replacement T) → Among y (f h) → IsFineReplacement h y) (Good : Head T → Type 0) (width : ℕ) (divides : Divides decides Good width f)
       (i : ℕ) (c : MColumn T) (columns new : List (MColumn T)) (v : MValue) (there : slice_get columns i ≡ Some c) where
-    step-kept : (rows next : List (MRow T)) → Every (IsGoodRow Made cx decides columns) rows → Every (λ r. GoodAt Good i r.heads) rows →
+    step-kept : (rows next : List (MRow T)) → Every (IsGoodRow cx decides columns) rows → Every (λ r. GoodAt Good i r.heads) rows →
         ((r : MRow T) (h : Head T) → Among r rows → slice_get r.heads i ≡ Some h → IsHeadTyped cx c.type h → HeadKeeps decides f c new v h) → AreInOrder decides (rows_at f c.place i rows) next →
         SameMembers (keyed_tries decides columns v rows) (keyed_tries decides (replaced_at i columns new) v next)
     step-kept rows next good at keeps order =
@@ -117,7 +117,7 @@ module _ {T : Type 0} (IsType : T → Type 0) (Made : MCtor → Type 0) (cx : Co
       where
         one : (r : MRow T) → Among r rows → StepsAt decides f c new v i columns r.heads
         one r a =
-            let g : IsGoodRow Made cx decides columns r = among-every (IsGoodRow Made cx decides columns) rows r good a in
+            let g : IsGoodRow cx decides columns r = among-every (IsGoodRow cx decides columns) rows r good a in
             let h = head-at cx columns r.heads i c g.typed there in
             steps-at decides Good width f divides (own-by decides f fine) c new v (row_key decides r) 0 i columns r.heads (map (λ b. b.name) r.caught) there g.free (among-every (λ x. GoodAt Good i x.heads) rows r at a) g.names h.0 h.1 (keeps r h.0 a h.1 h.2)
 
@@ -126,7 +126,7 @@ module _ {T : Type 0} (IsType : T → Type 0) (Made : MCtor → Type 0) (cx : Co
   any-good i (r ∷ rows) = (good-from (λ (h : Head T). Unit {0}) i r.heads (λ h e. tt), any-good i rows)
 
   -- or-patterns taken apart
-  pub expanded-same : (i : ℕ) (c : MColumn T) (columns : List (MColumn T)) (rows next : List (MRow T)) (v : MValue) → IsGood IsType Made cx decides columns rows → slice_get columns i ≡ Some c → AreInOrder decides (rows_at expand_head c.place i rows) next → IsHeld V columns v →
+  pub expanded-same : (i : ℕ) (c : MColumn T) (columns : List (MColumn T)) (rows next : List (MRow T)) (v : MValue) → IsGood IsType cx decides columns rows → slice_get columns i ≡ Some c → AreInOrder decides (rows_at expand_head c.place i rows) next → IsHeld V columns v →
       SameMembers (keyed_tries decides columns v rows) (keyed_tries decides columns v next)
   expanded-same i c columns rows next v good there order held =
       let u = held-at V columns held.0 v i c held.1 held.2 there in
@@ -141,7 +141,7 @@ module _ {T : Type 0} (IsType : T → Type 0) (Made : MCtor → Type 0) (cx : Co
       same-column (d ∷ cs) (suc j) e = ap (λ l. d ∷ l) (same-column cs j e)
 
   -- a column passed by
-  pub dropped-same : (i : ℕ) (c : MColumn T) (columns : List (MColumn T)) (rows next : List (MRow T)) (pieces : List MCtor) (v u : MValue) → IsReady IsType Made cx decides i columns rows → slice_get columns i ≡ Some c → AreInOrder decides (rows_at default_head c.place i rows) next → IsHeld V columns v →
+  pub dropped-same : (i : ℕ) (c : MColumn T) (columns : List (MColumn T)) (rows next : List (MRow T)) (pieces : List MCtor) (v u : MValue) → IsReady IsType cx decides i columns rows → slice_get columns i ≡ Some c → AreInOrder decides (rows_at default_head c.place i rows) next → IsHeld V columns v →
       part_at c.place v ≡ Some u → IsPassed (cx.set_of c.type) i rows pieces u → SameMembers (keyed_tries decides columns v rows) (keyed_tries decides (replaced_at i columns []) v next)
   dropped-same i c columns rows next pieces v u ready there order held part passed =
       let column : IsGoodColumn IsType c = column-at (IsGoodColumn IsType) columns i c ready.good.columns_are there in
@@ -165,13 +165,13 @@ module _ {T : Type 0} (IsType : T → Type 0) (Made : MCtor → Type 0) (cx : Co
               or-second (is_wild_ctor k) (builds [] k u) (g.sided u q.4 ∙ absent-head q.1 i rows r k t uid at subs binds a e n q.3)
 
   -- a piece has as many parts in each head that has it
-  pub counted : (i : ℕ) (c : MColumn T) (columns : List (MColumn T)) (rows : List (MRow T)) (pieces : List MCtor) (p : MCtor) → IsReady IsType Made cx decides i columns rows → slice_get columns i ≡ Some c → ArePieces (cx.set_of c.type) (ctors_at i rows) pieces → Among p pieces →
+  pub counted : (i : ℕ) (c : MColumn T) (columns : List (MColumn T)) (rows : List (MRow T)) (pieces : List MCtor) (p : MCtor) → IsReady IsType cx decides i columns rows → slice_get columns i ≡ Some c → ArePieces (cx.set_of c.type) (ctors_at i rows) pieces → Among p pieces →
       Every (λ r. GoodAt (HasCount p (cx.arity p c.type)) i r.heads) rows
   counted i c columns rows pieces p ready there are a =
       every-among (λ r. GoodAt (HasCount p (cx.arity p c.type)) i r.heads) rows (λ r j.
       good-from (HasCount p (cx.arity p c.type)) i r.heads (λ h e.
       (let f : IsFit cx i c rows pieces p = fit i c columns rows pieces p ready there are a in
-      let g : IsGoodRow Made cx decides columns r = among-every (IsGoodRow Made cx decides columns) rows r ready.good.rows_are j in
+      let g : IsGoodRow cx decides columns r = among-every (IsGoodRow cx decides columns) rows r ready.good.rows_are j in
       let k = head-at cx columns r.heads i c g.typed there in
       let column : IsGoodColumn IsType c = column-at (IsGoodColumn IsType) columns i c ready.good.columns_are there in
       let same : k.0 ≡ h = one k.0 h (sym k.1 ∙ e) in
@@ -181,7 +181,7 @@ module _ {T : Type 0} (IsType : T → Type 0) (Made : MCtor → Type 0) (cx : Co
       one x y e = cc
 
   -- a piece entered
-  pub entered-same : (i : ℕ) (c : MColumn T) (columns : List (MColumn T)) (rows next : List (MRow T)) (pieces : List MCtor) (p : MCtor) (v u : MValue) → IsReady IsType Made cx decides i columns rows → slice_get columns i ≡ Some c → ArePieces (cx.set_of c.type) (ctors_at i rows) pieces → Among p pieces →
+  pub entered-same : (i : ℕ) (c : MColumn T) (columns : List (MColumn T)) (rows next : List (MRow T)) (pieces : List MCtor) (p : MCtor) (v u : MValue) → IsReady IsType cx decides i columns rows → slice_get columns i ≡ Some c → ArePieces (cx.set_of c.type) (ctors_at i rows) pieces → Among p pieces →
       AreInOrder decides (rows_at (specialise_head p (cx.arity p c.type)) c.place i rows) next → IsHeld V columns v → part_at c.place v ≡ Some u → builds (named_in pieces) p u ≡ true →
       SameMembers (keyed_tries decides columns v rows) (keyed_tries decides (replaced_at i columns (part_columns cx c p)) v next)
   entered-same i c columns rows next pieces p v u ready there are a order held part built =

@@ -1,8 +1,8 @@
 -- Well-formed keyed matrices.
 use Rattle.std.specs.Prelude.{◌≡◌, ⊤, ℕ, true, List, [], ◌∷◌, map, Some, None}
-use Rattle.match_model.specs.Constructors.{MCtor}
 use Rattle.match_model.specs.Contexts.{Context}
-use Rattle.match_model.specs.ArenaPatterns.{MDePat, de_pat, MDePats, no_de_pats, more_de_pats}
+use Rattle.match_model.specs.ArenaPatterns.{de_pat}
+use Rattle.match_model.specs.Made.{IsMadePat}
 use Rattle.match_model.specs.Places.{MStep, ThroughStep, FieldStep, FrontStep, BackStep, MiddleStep}
 use Rattle.match_model.specs.Rows.{Head}
 use Rattle.match_model.specs.Matrices.{MColumn, MRow}
@@ -22,18 +22,10 @@ IsStraight (FrontStep i ∷ place) = IsStraight place
 IsStraight (BackStep i ∷ place) = IsStraight place
 IsStraight (MiddleStep f b ∷ place) = ⊥
 
-abbrev mutual
-  -- each constructor in the pattern is one of these
-  pub IsMadePat : {T : Type 0} → (Made : MCtor → Type 0) → MDePat T → Type 0
-  IsMadePat Made (de_pat c t uid at subs binds) = Made c × AreMadePats Made subs
-
-  pub AreMadePats : {T : Type 0} → (Made : MCtor → Type 0) → MDePats T → Type 0
-  AreMadePats Made no_de_pats = ⊤
-  AreMadePats Made (more_de_pats p ps) = IsMadePat Made p × AreMadePats Made ps
-
-abbrev pub IsMadeHead : {T : Type 0} → (Made : MCtor → Type 0) → Head T → Type 0
-IsMadeHead Made None = ⊤
-IsMadeHead Made (Some p) = IsMadePat Made p
+-- the ranges in the head can be held
+abbrev pub IsMadeHead : {T : Type 0} → Head T → Type 0
+IsMadeHead None = ⊤
+IsMadeHead (Some p) = IsMadePat p
 
 -- the head is no or-pattern
 abbrev pub IsPlainHead : {T : Type 0} → Head T → Type 0
@@ -41,22 +33,22 @@ IsPlainHead None = ⊤
 IsPlainHead (Some (de_pat c t uid at subs binds)) = IsPlain c
 
 -- a row: well typed, with names that differ, or-patterns with numbers that are not decided, and constructors that are made
-pub record IsGoodRow {T : Type 0} (Made : MCtor → Type 0) (cx : Context T) (decides : ℕ → Decision) (columns : List (MColumn T)) (r : MRow T) : Type 0 where
+pub record IsGoodRow {T : Type 0} (cx : Context T) (decides : ℕ → Decision) (columns : List (MColumn T)) (r : MRow T) : Type 0 where
   pub typed : AreHeadsTyped cx columns r.heads
   pub names : heads_names_differ (map (λ b. b.name) r.caught) r.heads ≡ true
   pub free : AreFree decides (row_key decides r) 0 r.heads
-  pub made : Every (IsMadeHead Made) r.heads
+  pub made : Every (IsMadeHead) r.heads
 
 -- a column: of a type of the context, at a place without middle items
 pub record IsGoodColumn {T : Type 0} (IsType : T → Type 0) (c : MColumn T) : Type 0 where
   pub type : IsType c.type
   pub straight : IsStraight c.place
 
-pub record IsGood {T : Type 0} (IsType : T → Type 0) (Made : MCtor → Type 0) (cx : Context T) (decides : ℕ → Decision) (columns : List (MColumn T)) (rows : List (MRow T)) : Type 0 where
+pub record IsGood {T : Type 0} (IsType : T → Type 0) (cx : Context T) (decides : ℕ → Decision) (columns : List (MColumn T)) (rows : List (MRow T)) : Type 0 where
   pub columns_are : Every (IsGoodColumn IsType) columns
-  pub rows_are : Every (IsGoodRow Made cx decides columns) rows
+  pub rows_are : Every (IsGoodRow cx decides columns) rows
 
 -- the same, and no or-pattern in column `i`
-pub record IsReady {T : Type 0} (IsType : T → Type 0) (Made : MCtor → Type 0) (cx : Context T) (decides : ℕ → Decision) (i : ℕ) (columns : List (MColumn T)) (rows : List (MRow T)) : Type 0 where
-  pub good : IsGood IsType Made cx decides columns rows
+pub record IsReady {T : Type 0} (IsType : T → Type 0) (cx : Context T) (decides : ℕ → Decision) (i : ℕ) (columns : List (MColumn T)) (rows : List (MRow T)) : Type 0 where
+  pub good : IsGood IsType cx decides columns rows
   pub plain : Every (λ r. GoodAt IsPlainHead i r.heads) rows

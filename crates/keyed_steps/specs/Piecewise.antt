@@ -21,9 +21,9 @@ pub record IsFit {T : Type 0} (cx : Context T) (i : ℕ) (c : MColumn T) (rows :
   pub fits : Every (λ r. GoodAt (HeadFits (named_in pieces) p) i r.heads) rows
 
 -- so it is of every piece of a column
-abbrev pub PiecesFit : {T : Type 0} → (IsType : T → Type 0) → (Made : MCtor → Type 0) → (cx : Context T) → (decides : ℕ → Decision) → Type 0
-PiecesFit {T} IsType Made cx decides =
-    (i : ℕ) (c : MColumn T) (columns : List (MColumn T)) (rows : List (MRow T)) (pieces : List MCtor) (p : MCtor) → IsReady IsType Made cx decides i columns rows → slice_get columns i ≡ Some c →
+abbrev pub PiecesFit : {T : Type 0} → (IsType : T → Type 0) → (cx : Context T) → (decides : ℕ → Decision) → Type 0
+PiecesFit {T} IsType cx decides =
+    (i : ℕ) (c : MColumn T) (columns : List (MColumn T)) (rows : List (MRow T)) (pieces : List MCtor) (p : MCtor) → IsReady IsType cx decides i columns rows → slice_get columns i ≡ Some c →
     ArePieces (cx.set_of c.type) (ctors_at i rows) pieces → Among p pieces → IsFit cx i c rows pieces p
 
 -- the pieces of a column are distinct, each value is built by one of them, and the case of a present piece has what it builds
@@ -34,7 +34,7 @@ pub record IsCutOnce {T : Type 0} (cx : Context T) (V : T → Bool → MValue �
       (case_has (case_of p) u ≡ builds (named_in pieces) p u) × (is_else (case_of p) ≡ false)
 
 -- so it is of every column with a constructor
-abbrev pub PiecesCut : {T : Type 0} → (IsType : T → Type 0) → (Made : MCtor → Type 0) → (cx : Context T) → (V : T → Bool → MValue → Type 0) → (decides : ℕ → Decision) → Type 0
-PiecesCut {T} IsType Made cx V decides =
-    (i : ℕ) (c : MColumn T) (columns : List (MColumn T)) (rows : List (MRow T)) (pieces : List MCtor) → IsReady IsType Made cx decides i columns rows → slice_get columns i ≡ Some c →
+abbrev pub PiecesCut : {T : Type 0} → (IsType : T → Type 0) → (cx : Context T) → (V : T → Bool → MValue → Type 0) → (decides : ℕ → Decision) → Type 0
+PiecesCut {T} IsType cx V decides =
+    (i : ℕ) (c : MColumn T) (columns : List (MColumn T)) (rows : List (MRow T)) (pieces : List MCtor) → IsReady IsType cx decides i columns rows → slice_get columns i ≡ Some c →
     ArePieces (cx.set_of c.type) (ctors_at i rows) pieces → all_wild_at i rows ≡ false → IsCutOnce cx V i c rows pieces

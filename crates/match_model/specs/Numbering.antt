@@ -74,7 +74,7 @@ abbrev mutual
   pub decisions_below : {T : Type 0} → (choice : Bool) → (n k m : ℕ) → MDePats T → List Decided
   decisions_below choice n k m no_de_pats = []
   decisions_below choice n k m (more_de_pats p ps) =
-      own_decision choice (uid_of p) n k ++ decisions_in m p ++ decisions_below choice n (suc k) (or_count p + m) ps
+      (own_decision choice (uid_of p) n k ++ decisions_in m p) ++ decisions_below choice n (suc k) (or_count p + m) ps
 
 -- the decision of the first that has the uid
 abbrev pub decision_of : List Decided → (uid : ℕ) → Decision

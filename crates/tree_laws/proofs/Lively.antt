@@ -20,6 +20,7 @@ use Rattle.keyed_steps.specs.Engine.{IsCut, IsEngine}
 use Rattle.tree_laws.proofs.Filling.{held-replaced, values-replaced, values-back}
 use Rattle.tree_laws.proofs.Numbers.{Lacks, NoElse, case-number, else-number}
 use Rattle.tree_laws.proofs.Meaning.{not-among, not-true, clash, lacks-more, else-more}
+use Rattle.keyed_rows.proofs.Members.{contains-among}
 
 mutual
   -- more values reach no less
@@ -34,11 +35,6 @@ mutual
   more-live-all : (D E : ℕ → MValue → Type 0) (i : ℕ) (branches : MBranches) → ((i : ℕ) (v : MValue) → D i v → E i v) → LivesAll D i branches → LivesAll E i branches
   more-live-all D E i no_branch h l = tt
   more-live-all D E i (more_branches c t rest) h l = (more-live (D i) (E i) t (h i) l.0, more-live-all D E (suc i) rest h l.1)
-
-contains-among : {A : Type 0} (xs : List A) (x : A) → Contains xs x → Among x xs
-contains-among [] x c = let h : c.0 < 0 = c.1 in absurd (omega (arith, h))
-contains-among (y ∷ xs) x (zero, h, e) = inl (sym e)
-contains-among (y ∷ xs) x (suc k, h, e) = inr (contains-among xs x (k, omega (arith, h), e))
 
 some-is : {A : Type 0} (x y : A) → Some x ≡ Some y → x ≡ y
 some-is x y e = cc

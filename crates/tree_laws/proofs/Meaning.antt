@@ -35,6 +35,7 @@ use Rattle.keyed_steps.specs.Engine.{IsCut, IsPassed, AreCaught, IsEngine}
 use Rattle.tree_laws.proofs.Spreading.{spread-step, spread-less, not-seen, position-of, positions-replaced}
 use Rattle.tree_laws.proofs.Filling.{at-column, held-replaced}
 use Rattle.tree_laws.proofs.Numbers.{Lacks, NoElse, case-number, else-number, one-case, one-else}
+use Rattle.keyed_rows.proofs.Members.{among-contains}
 
 pub same-trans : {A : Type 0} (xs ys zs : List A) → SameMembers xs ys → SameMembers xs zs → SameMembers ys zs
 same-trans xs ys zs a b = record { forth = λ x i. b.forth x (a.back x i); back = λ x i. a.forth x (b.back x i) }
@@ -251,11 +252,6 @@ module _ {T : Type 0} (cx : Context T) (V : T → Bool → MValue → Type 0) (d
       sizes : (l : List MBranch) (j : ℕ) → length (l ++ record { case = case; next = 0 } ∷ []) + j ≡ length l + suc j
       sizes [] j = omega arith
       sizes (b ∷ l) j = let h : length (l ++ record { case = case; next = 0 } ∷ []) + j ≡ length l + suc j = sizes l j in omega (arith, h)
-
-  pub among-contains : {A : Type 0} (xs : List A) (x : A) → Among x xs → Contains xs x
-  among-contains [] x a = elim a [ ]
-  among-contains (y ∷ xs) x (inl e) = (0, omega arith, sym e)
-  among-contains (y ∷ xs) x (inr a) = let r = among-contains xs x a in let l : r.0 < length xs = r.1 in (suc r.0, omega (arith, l), r.2)
 
   pub clash : {A : Type 0} (b : Bool) → b ≡ true → b ≡ false → A
   clash b h k = cc

@@ -20,7 +20,7 @@ use Rattle.keyed_rows.proofs.Parting.{among-every}
 use Rattle.keyed_rows.proofs.RowOrder.{every-among}
 use Rattle.match_model.specs.Lowering.{ctors_at}
 use Rattle.constructor_sets.specs.Columns.{is_head, IsOneSided, HasRoomFor, AreColumnPieces}
-use Rattle.constructor_sets.proofs.Belonging.{IsMade, IsMadeSet}
+use Rattle.match_model.specs.Made.{IsMade, IsMadePat}
 use Rattle.constructor_sets.proofs.Whole.{made_pieces}
 use Rattle.keyed_steps.specs.Fits.{IsPlain, HasRoom, FitsPiece, HeadFits}
 use Rattle.keyed_steps.specs.Good.{IsMadeHead, IsPlainHead, IsGoodRow, IsGoodColumn, IsReady}
@@ -57,8 +57,8 @@ wild-fits named p = record { plain = tt; sided = λ u b. refl; room = λ e. room
     room (RowCtor (LongerShape f g)) = tt
     room _ = tt
 
-module _ {T : Type 0} (IsType : T → Type 0) (cx : Context T) (V : T → Bool → MValue → Type 0) (values : ValuesLaw IsType V cx) (decides : ℕ → Decision) (sets : (t : T) → IsType t → IsMadeSet (cx.set_of t)) where
-  typed-ctor : (t : T) (h : Head T) → IsHeadTyped cx t h → IsPlainHead h → IsMadeHead IsMade h → OnCtor (IsColumnCtor (cx.set_of t)) (first_ctor (h ∷ []))
+module _ {T : Type 0} (IsType : T → Type 0) (cx : Context T) (V : T → Bool → MValue → Type 0) (values : ValuesLaw IsType V cx) (decides : ℕ → Decision) where
+  typed-ctor : (t : T) (h : Head T) → IsHeadTyped cx t h → IsPlainHead h → IsMadeHead h → OnCtor (IsColumnCtor (cx.set_of t)) (first_ctor (h ∷ []))
   typed-ctor t None ty p m = tt
   typed-ctor t (Some (de_pat k u uid at subs binds)) ty p m = go k ty p m.0
     where
@@ -87,7 +87,7 @@ module _ {T : Type 0} (IsType : T → Type 0) (cx : Context T) (V : T → Bool �
   every-at P zero (x ∷ hs) h p e = let same : x ≡ h = cc in subst P same p.0
   every-at P (suc j) (x ∷ hs) h p e = every-at P j hs h p.1 e
 
-  module _ (i : ℕ) (c : MColumn T) (columns : List (MColumn T)) (rows : List (MRow T)) (ready : IsReady IsType IsMade cx decides i columns rows) (there : slice_get columns i ≡ Some c) where
+  module _ (i : ℕ) (c : MColumn T) (columns : List (MColumn T)) (rows : List (MRow T)) (ready : IsReady IsType cx decides i columns rows) (there : slice_get columns i ≡ Some c) where
     one-head : (x y : Head T) → Some x ≡ Some y → x ≡ y
     one-head x y e = cc
 
@@ -95,9 +95,9 @@ module _ {T : Type 0} (IsType : T → Type 0) (cx : Context T) (V : T → Bool �
     column-ctors =
         column-every i (IsColumnCtor (cx.set_of c.type)) rows (every-among (λ r. GoodAt (λ h. OnCtor (IsColumnCtor (cx.set_of c.type)) (first_ctor (h ∷ []))) i r.heads) rows (λ r a.
         good-from (λ h. OnCtor (IsColumnCtor (cx.set_of c.type)) (first_ctor (h ∷ []))) i r.heads (λ h e.
-        (let g : IsGoodRow IsMade cx decides columns r = among-every (IsGoodRow IsMade cx decides columns) rows r ready.good.rows_are a in
+        (let g : IsGoodRow cx decides columns r = among-every (IsGoodRow cx decides columns) rows r ready.good.rows_are a in
         let k = head-at cx columns r.heads i c g.typed there in
-        typed-ctor c.type h (subst (IsHeadTyped cx c.type) (one-head k.0 h (sym k.1 ∙ e)) k.2) (good-at IsPlainHead i r.heads h (among-every (λ x. GoodAt IsPlainHead i x.heads) rows r ready.plain a) e) (every-at (IsMadeHead IsMade) i r.heads h g.made e)))))
+        typed-ctor c.type h (subst (IsHeadTyped cx c.type) (one-head k.0 h (sym k.1 ∙ e)) k.2) (good-at IsPlainHead i r.heads h (among-every (λ x. GoodAt IsPlainHead i x.heads) rows r ready.plain a) e) (every-at (IsMadeHead) i r.heads h g.made e)))))
 
     pub column-heads : All (λ h. IsTrue (is_head (cx.set_of c.type) h)) (ctors_at i rows)
     column-heads = all-from (λ h. IsTrue (is_head (cx.set_of c.type) h)) (ctors_at i rows) (every-to (IsColumnCtor (cx.set_of c.type)) (λ h. IsTrue (is_head (cx.set_of c.type) h)) (ctors_at i rows) (is-head-by (cx.set_of c.type)) column-ctors)
@@ -107,7 +107,7 @@ module _ {T : Type 0} (IsType : T → Type 0) (cx : Context T) (V : T → Bool �
 
     column-are : (pieces : List MCtor) → ArePieces (cx.set_of c.type) (ctors_at i rows) pieces → AreColumnPieces (cx.set_of c.type) (ctors_at i rows) pieces
     column-are pieces are =
-        made_pieces (cx.set_of c.type) (ctors_at i rows) pieces (sets c.type type-of) (values.ascend c.type type-of) column-heads
+        made_pieces (cx.set_of c.type) (ctors_at i rows) pieces (values.made c.type type-of) (values.ascend c.type type-of) column-heads
         (all-from IsMade (ctors_at i rows) (every-to (IsColumnCtor (cx.set_of c.type)) IsMade (ctors_at i rows) (λ k h. h.made) column-ctors)) are
 
     pub fit-here : (pieces : List MCtor) (p : MCtor) → ArePieces (cx.set_of c.type) (ctors_at i rows) pieces → Among p pieces → IsFit cx i c rows pieces p
@@ -137,5 +137,5 @@ module _ {T : Type 0} (IsType : T → Type 0) (cx : Context T) (V : T → Bool �
                   room = λ has. room-same p d (all-among (λ x. IsTrue (has_piece x p) → HasRoomFor p x) (ctors_at i rows) d (all-among (λ q. All (λ x. IsTrue (has_piece x q) → HasRoomFor q x) (ctors_at i rows)) pieces p k.room a) m has);
                 }
 
-  pub pieces-fit : PiecesFit IsType IsMade cx decides
+  pub pieces-fit : PiecesFit IsType cx decides
   pieces-fit i c columns rows pieces p ready there are a = fit-here i c columns rows ready there pieces p are a
