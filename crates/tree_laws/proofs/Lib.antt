@@ -1,4 +1,5 @@
 pub mod Engine
+pub mod FewestPlaces
 pub mod Filling
 pub mod InColumn
 pub mod Lively

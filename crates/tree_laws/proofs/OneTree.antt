@@ -15,7 +15,7 @@ use Rattle.match_model.specs.RowOrder.{row_key, RowFirst, AreInOrder}
 use Rattle.keyed_rows.proofs.Picking.{first-of, before-asym}
 use Rattle.match_model.specs.Lowering.{ctors_at, all_wild_at, Lowers, no_value_left, no_row_left, takes, asks, drops, opens, switches, Branches, no_else, with_else, no_case, one_case}
 
-clash : {A : Type 0} (b : Bool) → IsTrue b → b ≡ false → A
+pub clash : {A : Type 0} (b : Bool) → IsTrue b → b ≡ false → A
 clash b h e = cc
 
 no-members : {A : Type 0} (xs : List A) → SameMembers [] xs → [] ≡ xs
