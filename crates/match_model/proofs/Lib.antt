@@ -12,7 +12,6 @@ pub mod ExamplesValues
 pub mod ExamplesWays
 pub mod ExamplesMatch
 pub mod ExamplesWitness
-pub mod ExamplesTree
 pub mod ExamplesRanges
 pub mod OneMeaning
 pub mod OnePieces

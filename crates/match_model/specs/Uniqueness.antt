@@ -11,7 +11,6 @@ use Rattle.match_model.specs.Contexts.{Context}
 use Rattle.match_model.specs.ArenaPatterns.{MDeMatch}
 use Rattle.match_model.specs.Pieces.{ArePieces}
 use Rattle.match_model.specs.WitnessList.{IsWitnessList}
-use Rattle.match_model.specs.PlainTree.{IsPlainTree}
 
 -- a tree asks one list of nodes alone for a value and answers, and ends in one way
 abbrev pub WalkIsOne : Type 0
@@ -48,9 +47,3 @@ abbrev pub WitnessListIsOne : (T : Type 0) → Type 0
 WitnessListIsOne T =
     (cx : Context T) (is_value : T → Bool → MValue → Bool) (m : MDeMatch T) (ws us : List MWitness) →
     IsWitnessList cx (ValuesPassing is_value) m ws → IsWitnessList cx (ValuesPassing is_value) m us → ws ≡ us
-
--- a match has one plain tree, in any context whose values a test tells
-abbrev pub PlainTreeIsOne : (T : Type 0) → Type 0
-PlainTreeIsOne T =
-    (cx : Context T) (is_value : T → Bool → MValue → Bool) (m : MDeMatch T) (ns ms : List MNode) →
-    IsPlainTree cx (ValuesPassing is_value) m ns → IsPlainTree cx (ValuesPassing is_value) m ms → ns ≡ ms

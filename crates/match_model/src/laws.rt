@@ -5,7 +5,7 @@ ghost use Rattle.match_model.specs.Laws.{JoinIsAssociative, CombineIsAssociative
 ghost use Rattle.match_model.specs.Laws.{VariantsAreCounted, RustValuesLaw};
 ghost use Rattle.match_model.specs.Emptiness.{RustPartsLaw, RustEmptyLaw, RustUnsureLaw};
 ghost use Rattle.match_model.specs.Readings.{ReadingsAgree};
-ghost use Rattle.match_model.specs.Uniqueness.{WalkIsOne, MeaningIsOne, UnreachableListIsOne, PiecesAreOne, WitnessListIsOne, PlainTreeIsOne};
+ghost use Rattle.match_model.specs.Uniqueness.{WalkIsOne, MeaningIsOne, UnreachableListIsOne, PiecesAreOne, WitnessListIsOne};
 
 /// An or-pattern's ways are its alternatives' ways, one after the other.
 pub fn or_is_concatenation()
@@ -92,11 +92,6 @@ pub fn witness_list_is_one<T>()
     ensures { WitnessListIsOne T }
 {}
 
-/// A match has one plain tree.
-pub fn plain_tree_is_one<T>()
-    ensures { PlainTreeIsOne T }
-{}
-
 /// The first matrix has the ways of the arms.
 pub fn first_matrix_has_the_arms<T>()
     ensures { FirstMatrixHasTheArms T }
@@ -112,6 +107,5 @@ mod tests {
         parts_split::<u32>();
         first_matrix_has_the_arms::<u32>();
         witness_list_is_one::<u32>();
-        plain_tree_is_one::<u32>();
     }
 }

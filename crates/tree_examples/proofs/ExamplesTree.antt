@@ -1,11 +1,11 @@
--- Worked examples: places, trees and what they mean, the plain tree of small matches; arena patterns and overlaps.
+-- Worked examples: places, trees and what they mean; arena patterns and overlaps.
 use Rattle.std.proofs.Common.{◌≡◌, ℕ, pos, Bool, true, false, List, [], ◌∷◌, map, length, Some, None, slice_get, refl, inl, arith}
 use Rattle.match_model.specs.declared.Mode.TheVariants.{Move, Ref}
-use Rattle.match_model.specs.Types.{MType, BoolType, TupleType, no_types, more_types}
+use Rattle.match_model.specs.Types.{MType, BoolType}
 use Rattle.match_model.specs.Values.{MValue, Flag, Node, Point, Text, Unseen, no_values}
 use Rattle.match_model.specs.Numbers.{MRange, Free, At}
-use Rattle.match_model.specs.Patterns.{SpanPat}
-use Rattle.match_model.specs.Match.{alternative, no_alternative}
+use Rattle.match_model.specs.Patterns.{MPat, SpanPat}
+use Rattle.match_model.specs.Match.{ArmWays, arm_ways, alternative, no_alternative}
 use Rattle.match_model.specs.Select.{Took, Missed, Short, tries_from}
 use Rattle.match_model.specs.Places.{ThroughStep, FieldStep, FrontStep, BackStep, MiddleStep, part_at, position_at}
 use Rattle.match_model.specs.Trees.{FlagCase, VariantCase, ElseCase, LengthCase, LongerCase, SpanCase, TextCase, case_has, MBind, MBranch, MNode, SwitchNode, AskNode, TakeNode, MissNode, successors, GoesOn, by_case, by_refusal, at_once, after, Means, looked_at, number_for, one_has}
@@ -16,12 +16,12 @@ use Rattle.match_model.specs.ArenaWays.{arena_ways, arena_arm, arena_alternative
 use Rattle.match_model.specs.ArenaUnreachable.{in_reading_order}
 use Rattle.match_model.specs.Unreachable.{Entry}
 use Rattle.match_model.specs.Matrices.{MColumn, matrix_ways, first_rows, expand_rows}
-use Rattle.match_model.specs.OfType.{type_at_place, case_is_of, node_is_of}
-use Rattle.match_model.specs.PlainTree.{MTree, SwitchTree, TakeTree, MissTree, no_branch, more_branches, nodes_from, switches, takes, one_case, no_case, with_else, no_row_left, IsPlainTree, lowered}
-use Rattle.match_model.specs.RustTypes.{rust_context, RustValue}
-use Rattle.match_model.proofs.ExamplesValues.{program}
-use Rattle.match_model.proofs.ExamplesWays.{x_name, number, tuple, row, bound}
-use Rattle.match_model.proofs.ExamplesMatch.{arm}
+use Rattle.match_model.specs.OfType.{type_at, case_is_of, node_is_of}
+use Rattle.match_model.specs.RustTypes.{rust_context}
+use Rattle.tree_examples.proofs.Small.{program, flag_pair, x_name, number, tuple, row, bound}
+
+abbrev arm : MPat → ℕ → Bool → ArmWays
+arm p at guarded = arm_ways (record { pat = p; at = at; guarded = guarded })
 
 -- steps and positions: from the front from 0, from the back from 1
 abbrev three : MValue
@@ -63,52 +63,52 @@ abbrev false_false : MValue
 false_false = tuple (Flag false ∷ Flag false ∷ [])
 
 -- what it takes, and with which bindings
-abbrev to_else : GoesOn small_tree false_false (record { node = 0; left = []; refused = [] }) (record { node = 2; left = []; refused = [] })
+abbrev to_else : GoesOn small_tree false_false (record { node = 0; left = []; asked = [] }) (record { node = 2; left = []; asked = [] })
 to_else = by_case 0 [] [] (FieldStep 0 0 ∷ []) (true_or_else 1 2) (record { case = ElseCase; next = 2 }) refl refl
 
 pub tree_takes : Means small_tree true_false [] (record { asked = []; outcome = Took 0 (bound x_name Move (Flag false) ∷ []) })
 tree_takes = record {
   asked_nodes = [];
   walk = record {
-    last = record { node = 1; left = []; refused = [] };
+    last = record { node = 1; left = []; asked = [] };
     comes = after _ _ _ (by_case 0 [] [] (FieldStep 0 0 ∷ []) (true_or_else 1 2) (record { case = FlagCase true; next = 1 }) refl refl) (at_once _);
     ends = refl;
     asks = refl;
   };
-  asks = refl;
+  asked = refl;
 }
 
 -- it is short of an answer, missed where the guard refuses, or takes the arm whose guard does not
 pub tree_short : Means small_tree false_false [] (record { asked = []; outcome = Short })
 tree_short = record {
   asked_nodes = [];
-  walk = record { last = record { node = 2; left = []; refused = [] }; comes = after _ _ _ to_else (at_once _); ends = refl; asks = refl };
-  asks = refl;
+  walk = record { last = record { node = 2; left = []; asked = [] }; comes = after _ _ _ to_else (at_once _); ends = refl; asks = refl };
+  asked = refl;
 }
 
 pub tree_misses : Means small_tree false_false (false ∷ true ∷ []) (record { asked = record { arm = 1; bindings = bound x_name Move (Flag false) ∷ [] } ∷ []; outcome = Missed })
 tree_misses = record {
   asked_nodes = 2 ∷ [];
   walk = record {
-    last = record { node = 3; left = true ∷ []; refused = 2 ∷ [] };
+    last = record { node = 3; left = true ∷ []; asked = 2 ∷ [] };
     comes = after _ _ _ (by_case 0 (false ∷ true ∷ []) [] (FieldStep 0 0 ∷ []) (true_or_else 1 2) (record { case = ElseCase; next = 2 }) refl refl)
         (after _ _ _ (by_refusal 2 (true ∷ []) [] 1 x_there 3 refl) (at_once _));
     ends = refl;
     asks = refl;
   };
-  asks = refl;
+  asked = refl;
 }
 
 pub tree_asks : Means small_tree false_false (true ∷ []) (record { asked = record { arm = 1; bindings = bound x_name Move (Flag false) ∷ [] } ∷ []; outcome = Took 1 (bound x_name Move (Flag false) ∷ []) })
 tree_asks = record {
   asked_nodes = 2 ∷ [];
   walk = record {
-    last = record { node = 2; left = true ∷ []; refused = [] };
+    last = record { node = 2; left = true ∷ []; asked = [] };
     comes = after _ _ _ (by_case 0 (true ∷ []) [] (FieldStep 0 0 ∷ []) (true_or_else 1 2) (record { case = ElseCase; next = 2 }) refl refl) (at_once _);
     ends = refl;
     asks = refl;
   };
-  asks = refl;
+  asked = refl;
 }
 
 -- where each node goes on
@@ -123,38 +123,8 @@ pub two_positions : (looked_at three (slice_get array_tree 0) ≡ Some (0 ∷ []
 two_positions = (refl, refl)
 
 -- places and cases of a type
-abbrev flag_pair : MType
-flag_pair = TupleType (more_types BoolType (more_types BoolType no_types))
-
-pub of_pair : (type_at_place (rust_context program) flag_pair (FieldStep 0 1 ∷ []) ≡ Some BoolType) × (type_at_place (rust_context program) flag_pair (FieldStep 0 2 ∷ []) ≡ None) × (type_at_place (rust_context program) flag_pair (FieldStep 1 0 ∷ []) ≡ None) × (case_is_of (rust_context program) BoolType (VariantCase 0) ≡ false) × (node_is_of (rust_context program) flag_pair (SwitchNode (FieldStep 0 0 ∷ []) (true_or_else 1 2)) ≡ true)
+pub of_pair : (type_at (rust_context program) flag_pair (FieldStep 0 1 ∷ []) ≡ Some BoolType) × (type_at (rust_context program) flag_pair (FieldStep 0 2 ∷ []) ≡ None) × (type_at (rust_context program) flag_pair (FieldStep 1 0 ∷ []) ≡ None) × (case_is_of (rust_context program) BoolType (VariantCase 0) ≡ false) × (node_is_of (rust_context program) flag_pair (SwitchNode (FieldStep 0 0 ∷ []) (true_or_else 1 2)) ≡ true)
 of_pair = (refl, refl, refl, refl, refl)
-
--- the plain tree of `true => ..` on `bool`: a switch with its one case, and an else for `false`
-abbrev flag_pat : Bool → MDePat MType
-flag_pat b = de_pat (FlagCtor b) BoolType 0 0 no_de_pats []
-
-abbrev only_true : MDeMatch MType
-only_true = record { type = BoolType; sure = true; arms = record { pat = flag_pat true; guarded = false } ∷ [] }
-
-abbrev only_true_tree : MTree
-only_true_tree = SwitchTree [] (more_branches (FlagCase true) (TakeTree 0 []) (more_branches ElseCase MissTree no_branch))
-
-more_than_unseen : ((u : MValue) → RustValue program BoolType true u → u ≡ Unseen) → ⊥
-more_than_unseen only = no_unseen (only (Flag true) refl)
-  where
-    no_unseen : Flag true ≡ Unseen → ⊥
-    no_unseen e = cc
-
-pub only_true_lowers : IsPlainTree (rust_context program) (RustValue program) only_true (nodes_from 0 only_true_tree)
-only_true_lowers =
-    lowered (Flag true) only_true_tree refl
-    (switches (record { place = []; type = BoolType; sure = true }) [] _ [] (FlagCtor false ∷ FlagCtor true ∷ []) _ refl refl refl refl
-    (no_case _ _ _ _ (FlagCtor false) (FlagCtor true ∷ []) _ (inl refl)
-    (one_case _ _ _ _ (FlagCtor true) [] (TakeTree 0 []) _ refl (Flag true, refl, refl) (takes [] _ [] refl refl)
-    (with_else _ _ _ _ (FlagCtor false) MissTree ((0, omega arith, refl), refl) (Flag false, refl, refl) (no_row_left [] more_than_unseen)))))
-
-pub only_true_nodes : nodes_from 0 only_true_tree ≡ SwitchNode [] (record { case = FlagCase true; next = 1 } ∷ record { case = ElseCase; next = 2 } ∷ []) ∷ TakeNode 0 [] ∷ MissNode ∷ []
-only_true_nodes = refl
 
 -- `&[x, .., 0..=9]` in an arena: the dereference is written out; the range is met at the last item's own number
 abbrev digits : MRange
@@ -219,19 +189,19 @@ halves_overlap = (
   number 5,
   refl,
   record {
-    first_index = 0;
-    second_index = 1;
-    first_try = record { arm = 0; guarded = false; way = record { trace = []; bindings = []; spans = record { at = 10; position = []; range = low_half } ∷ [] } };
-    second_try = record { arm = 1; guarded = true; way = record { trace = []; bindings = []; spans = record { at = 30; position = []; range = high_half } ∷ [] } };
-    first_span = record { at = 10; position = []; range = low_half };
-    second_span = record { at = 30; position = []; range = high_half };
+    number_of_one = 0;
+    number_of_other = 1;
+    one = record { arm = 0; guarded = false; way = record { trace = []; bindings = []; spans = record { at = 10; position = []; range = low_half } ∷ [] } };
+    other = record { arm = 1; guarded = true; way = record { trace = []; bindings = []; spans = record { at = 30; position = []; range = high_half } ∷ [] } };
+    a = record { at = 10; position = []; range = low_half };
+    b = record { at = 30; position = []; range = high_half };
     different = λ e. omega (arith, e);
-    first_there = refl;
-    second_there = refl;
-    first_met = (0, omega arith, refl);
-    second_met = (0, omega arith, refl);
-    first_at = refl;
-    second_at = refl;
+    is_one = refl;
+    is_other = refl;
+    has_a = (0, omega arith, refl);
+    has_b = (0, omega arith, refl);
+    is_first = refl;
+    is_second = refl;
     ordered = omega arith;
     same_position = refl;
     is_number = refl;

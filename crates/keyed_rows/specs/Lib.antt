@@ -1,0 +1,3 @@
+pub mod Dividing
+pub mod Parting
+pub mod Laws

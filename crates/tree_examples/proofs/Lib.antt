@@ -1,0 +1,5 @@
+mod Small
+mod ExamplesTree
+mod ExamplesShared
+mod ExamplesPrinted
+mod ExamplesPairs

@@ -1,0 +1,15 @@
+pub mod Engine
+pub mod FewestPlaces
+pub mod Filling
+pub mod InColumn
+pub mod Lively
+pub mod Matches
+pub mod Meaning
+pub mod Numbers
+pub mod OneFewest
+pub mod OneTree
+pub mod PiecesCut
+pub mod PiecesDistinct
+pub mod PiecesFit
+pub mod Spreading
+pub mod Top
