@@ -21,3 +21,6 @@ pub mod Counted
 pub mod Covered
 pub mod Empties
 pub mod Carried
+pub mod TextOutside
+pub mod TextOrder
+pub mod OneOverlaps

@@ -1,5 +1,8 @@
 -- Laws of the definitions, each proved as the contract of a function of `laws` (our own choice of laws).
-use Rattle.std.specs.Prelude.{◌≡◌, ◌↔◌, ℕ, Bool, true, false, List, ◌∷◌, ◌++◌, map, length, replicate, IsTrue}
+use Rattle.std.specs.Prelude.{◌≡◌, ◌↔◌, ℕ, Bool, true, false, List, [], ◌∷◌, ◌++◌, map, length, replicate, IsTrue}
+use Rattle.std.specs.List.{list_any, list_all}
+use Rattle.std.specs.Str.{IsUtf8}
+use Rattle.std.specs.Prelude.{chars}
 use Rattle.match_model.specs.declared.Mode.{Mode}
 use Rattle.match_model.specs.Types.{MType}
 use Rattle.match_model.specs.Declarations.{MProgram, variants_of}
@@ -7,7 +10,12 @@ use Rattle.match_model.specs.Values.{MValue, Point}
 use Rattle.match_model.specs.Patterns.{MPat, NumPat, FlagPat, SpanPat, FormPat, ListPat, OrPat, MNumbered, more_numbered}
 use Rattle.match_model.specs.Ways.{Way, bare_way, join, combine, choosing, under}
 use Rattle.match_model.specs.Matching.{ways, mode_behind}
-use Rattle.match_model.specs.Match.{ArmWays, is_covered}
+use Rattle.match_model.specs.Match.{ArmWays, is_covered, IsExhaustive}
+use Rattle.match_model.specs.Texts.{is_scalar, text_eq, compare_texts}
+use Rattle.match_model.specs.SourcePatterns.{offsets_ascend, offsets_differ}
+use Rattle.match_model.specs.Witness.{MWitness}
+use Rattle.match_model.specs.ExactCover.{IsExactCover}
+use Rattle.match_model.specs.ContextViews.{Passing}
 use Rattle.match_model.specs.Select.{tries_from, select, Took, Missed}
 use Rattle.match_model.specs.ArenaPatterns.{MDePat, de_pats_of, MDeMatch}
 use Rattle.match_model.specs.ArenaWays.{NumberedPart, subs_ways, match_arms}
@@ -84,3 +92,23 @@ VariantsAreCounted =
 abbrev pub RustValuesLaw : Type 0
 RustValuesLaw =
     (program : MProgram) → ValuesLaw (λ t. IsTrue (is_type program t)) (RustValue program) (rust_context program)
+
+-- a match is exhaustive exactly where an exact cover of what it leaves out is empty, over any domain that a test tells
+abbrev pub ExhaustiveWhereNothingIsLeft : Type 0
+ExhaustiveWhereNothingIsLeft =
+    (domain : MValue → Bool) (arms : List ArmWays) (ws : List MWitness) → IsExactCover (Passing domain) arms ws →
+    IsExhaustive (Passing domain) arms ↔ (ws ≡ [])
+
+-- where the offsets of a pattern's alternatives ascend, they differ
+abbrev pub AscendingOffsetsDiffer : Type 0
+AscendingOffsetsDiffer = (p : MPat) → IsTrue (offsets_ascend p) → IsTrue (offsets_differ p)
+
+-- for every list of texts there is a text outside
+abbrev pub TextOutside : Type 0
+TextOutside = (texts : List (List ℕ)) → (t : List ℕ) × IsTrue (list_all is_scalar t) × (list_any (text_eq t) texts ≡ false)
+
+-- two texts stand to each other as their UTF-8 bytes do (The Unicode Standard, UTF-8), and are equal where these are
+abbrev pub TextsAreOrderedAsBytes : Type 0
+TextsAreOrderedAsBytes =
+    (a b : List ℕ) → IsUtf8 a → IsUtf8 b →
+    (compare_texts a b ≡ compare_texts (chars a) (chars b)) × (text_eq a b ≡ text_eq (chars a) (chars b))

@@ -1,5 +1,5 @@
 -- The relations of these definitions allow one answer alone (our own choice of laws).
-use Rattle.std.specs.Prelude.{◌≡◌, ℕ, Bool, List, IsTrue}
+use Rattle.std.specs.Prelude.{◌≡◌, ℕ, Bool, List}
 use Rattle.match_model.specs.Values.{MValue}
 use Rattle.match_model.specs.Match.{ArmWays}
 use Rattle.match_model.specs.Select.{Outcome, Selected}
@@ -8,8 +8,10 @@ use Rattle.match_model.specs.Trees.{MNode, EndsIn, Means}
 use Rattle.match_model.specs.Witness.{MWitness}
 use Rattle.match_model.specs.Constructors.{MCtor, MSet}
 use Rattle.match_model.specs.Contexts.{Context}
+pub use Rattle.match_model.specs.ContextViews.{Passing, ValuesPassing}
 use Rattle.match_model.specs.ArenaPatterns.{MDeMatch}
 use Rattle.match_model.specs.Pieces.{ArePieces}
+use Rattle.match_model.specs.Overlaps.{MOverlap, IsOverlapList}
 use Rattle.match_model.specs.WitnessList.{IsWitnessList}
 
 -- a tree asks one list of nodes alone for a value and answers, and ends in one way
@@ -24,23 +26,21 @@ MeaningIsOne =
     (nodes : List MNode) (v : MValue) (answers : List Bool) (s t : Selected) →
     Means nodes v answers s → Means nodes v answers t → s ≡ t
 
--- the values that pass a test
-abbrev pub Passing : {A : Type 0} → (A → Bool) → A → Type 0
-Passing test a = IsTrue (test a)
-
 -- a match has one list of what is unreachable, over any domain that a test tells
 abbrev pub UnreachableListIsOne : Type 0
 UnreachableListIsOne =
     (domain : MValue → Bool) (arms : List ArmWays) (es fs : List Entry) →
     IsUnreachableList (Passing domain) arms es → IsUnreachableList (Passing domain) arms fs → es ≡ fs
 
+-- a match has one list of overlaps, over any domain that a test tells
+abbrev pub OverlapListIsOne : Type 0
+OverlapListIsOne =
+    (domain : MValue → Bool) (arms : List ArmWays) (os ps : List MOverlap) →
+    IsOverlapList (Passing domain) arms os → IsOverlapList (Passing domain) arms ps → os ≡ ps
+
 -- a column has one list of pieces
 abbrev pub PiecesAreOne : Type 0
 PiecesAreOne = (set : MSet) (heads ps qs : List MCtor) → ArePieces set heads ps → ArePieces set heads qs → ps ≡ qs
-
--- the values of a type that pass a test
-abbrev pub ValuesPassing : {T : Type 0} → (T → Bool → MValue → Bool) → T → Bool → MValue → Type 0
-ValuesPassing test t sure v = IsTrue (test t sure v)
 
 -- a match has one witness list, in any context whose values a test tells
 abbrev pub WitnessListIsOne : (T : Type 0) → Type 0

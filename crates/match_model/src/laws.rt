@@ -3,9 +3,11 @@
 ghost use Rattle.match_model.specs.Laws.{OrIsConcatenation, GoesThrough, MissedWhereUncovered, FirstWayIsTaken};
 ghost use Rattle.match_model.specs.Laws.{JoinIsAssociative, CombineIsAssociative, BareWayIsUnit, PartsSplit, FirstMatrixHasTheArms};
 ghost use Rattle.match_model.specs.Laws.{VariantsAreCounted, RustValuesLaw};
+ghost use Rattle.match_model.specs.Laws.{ExhaustiveWhereNothingIsLeft, AscendingOffsetsDiffer, TextOutside, TextsAreOrderedAsBytes};
+ghost use Rattle.match_model.specs.ContextViews.{LawsAreCarried};
 ghost use Rattle.match_model.specs.Emptiness.{RustPartsLaw, RustEmptyLaw, RustUnsureLaw};
 ghost use Rattle.match_model.specs.Readings.{ReadingsAgree};
-ghost use Rattle.match_model.specs.Uniqueness.{WalkIsOne, MeaningIsOne, UnreachableListIsOne, PiecesAreOne, WitnessListIsOne};
+ghost use Rattle.match_model.specs.Uniqueness.{WalkIsOne, MeaningIsOne, UnreachableListIsOne, PiecesAreOne, WitnessListIsOne, OverlapListIsOne};
 
 /// An or-pattern's ways are its alternatives' ways, one after the other.
 pub fn or_is_concatenation()
@@ -97,6 +99,37 @@ pub fn first_matrix_has_the_arms<T>()
     ensures { FirstMatrixHasTheArms T }
 {}
 
+/// A match is exhaustive exactly where an exact cover of what it leaves out is empty.
+pub fn exhaustive_where_nothing_is_left()
+    ensures { ExhaustiveWhereNothingIsLeft }
+{}
+
+/// Where the offsets of a pattern's alternatives ascend, as those of a source do, they differ.
+pub fn ascending_offsets_differ()
+    ensures { AscendingOffsetsDiffer }
+{}
+
+/// For every list of texts there is a text outside.
+pub fn text_is_outside()
+    ensures { TextOutside }
+{}
+
+/// Texts stand in one order by their scalar values and by their UTF-8 bytes.
+pub fn texts_are_ordered_as_bytes()
+    ensures { TextsAreOrderedAsBytes }
+{}
+
+/// A match has one list of overlaps.
+pub fn overlap_list_is_one()
+    ensures { OverlapListIsOne }
+{}
+
+/// The four laws of a context carry over to a context that is seen through it, one type for another, where tests tell types and
+/// values.
+pub fn laws_are_carried<S, T>()
+    ensures { LawsAreCarried S T }
+{}
+
 #[cfg(test)]
 mod tests {
     use super::*;
@@ -105,6 +138,7 @@ mod tests {
     #[test]
     fn generic_laws_hold_at_a_type(_rt: HostRuntime) {
         parts_split::<u32>();
+        laws_are_carried::<u32, bool>();
         first_matrix_has_the_arms::<u32>();
         witness_list_is_one::<u32>();
     }
