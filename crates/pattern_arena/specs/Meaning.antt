@@ -1,5 +1,5 @@
 -- What a match of an arena means: the definitions of matching, read for the ways of its arms.
-use Rattle.std.specs.Prelude.{◌≡◌, ℕ, ℤ, Bool, List}
+use Rattle.std.specs.Prelude.{◌≡◌, ◌↔◌, ℕ, ℤ, Bool, List, []}
 use Rattle.match_model.specs.Values.{MValue}
 use Rattle.match_model.specs.Contexts.{Context}
 use Rattle.match_model.specs.ArenaPatterns.{MDeMatch}
@@ -7,6 +7,9 @@ use Rattle.match_model.specs.ArenaWays.{match_arms, InMatchDomain}
 use Rattle.match_model.specs.ArenaUnreachable.{IsReadingList}
 use Rattle.match_model.specs.Match as matching
 use Rattle.match_model.specs.Overlaps as overlaps
+use Rattle.match_model.specs.Overlaps.{MOverlap, IsOverlapList}
+use Rattle.match_model.specs.Witness.{MWitness}
+use Rattle.match_model.specs.ExactCover.{IsExactCover}
 use Rattle.match_model.specs.Select as selecting
 use Rattle.match_model.specs.Select.{Selected}
 use Rattle.match_model.specs.Unreachable.{Entry}
@@ -49,3 +52,15 @@ abbrev pub ReadingListIsOne : {T : Type 0} → (IsValue : T → Bool → MValue 
 ReadingListIsOne {T} IsValue =
     (m : MDeMatch T) (es fs : List Entry) →
     IsReadingList (InMatchDomain IsValue m) (match_arms m) es → IsReadingList (InMatchDomain IsValue m) (match_arms m) fs → es ≡ fs
+
+-- a match has one list of overlaps, whatever values the types have
+abbrev pub OverlapListIsOne : {T : Type 0} → (IsValue : T → Bool → MValue → Type 0) → Type 0
+OverlapListIsOne {T} IsValue =
+    (m : MDeMatch T) (os ps : List MOverlap) →
+    IsOverlapList (InMatchDomain IsValue m) (match_arms m) os → IsOverlapList (InMatchDomain IsValue m) (match_arms m) ps → os ≡ ps
+
+-- a match is exhaustive exactly where an exact cover of what it leaves out is empty, whatever values the types have
+abbrev pub ExhaustiveWhereNothingIsLeft : {T : Type 0} → (IsValue : T → Bool → MValue → Type 0) → Type 0
+ExhaustiveWhereNothingIsLeft {T} IsValue =
+    (m : MDeMatch T) (ws : List MWitness) → IsExactCover (InMatchDomain IsValue m) (match_arms m) ws →
+    matching.IsExhaustive (InMatchDomain IsValue m) (match_arms m) ↔ (ws ≡ [])

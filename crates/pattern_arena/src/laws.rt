@@ -2,7 +2,7 @@
 
 ghost use Rattle.std.specs.Prelude.{◌≡◌, map, IfOk};
 ghost use Rattle.pattern_arena.specs.Trees.{tree};
-ghost use Rattle.pattern_arena.specs.Meaning.{ReadingListIsOne};
+ghost use Rattle.pattern_arena.specs.Meaning.{ReadingListIsOne, OverlapListIsOne, ExhaustiveWhereNothingIsLeft};
 
 use crate::{DePat, Placer};
 use no_memory::NoMemory;
@@ -24,4 +24,15 @@ pub fn placed_patterns_stand<'a, T: Copy>(
 /// A match has one list of what is unreachable, whatever values the types of the context have.
 pub fn reading_lists_are_one<C: PatCx>(cx: &C)
     ensures { ReadingListIsOne (C.is_value cx.now) }
+{}
+
+/// A match has one list of overlaps, whatever values the types of the context have.
+pub fn overlap_lists_are_one<C: PatCx>(cx: &C)
+    ensures { OverlapListIsOne (C.is_value cx.now) }
+{}
+
+/// A match is exhaustive exactly where an exact cover of what it leaves out is empty, whatever values the types of the
+/// context have.
+pub fn exhaustive_where_nothing_is_left<C: PatCx>(cx: &C)
+    ensures { ExhaustiveWhereNothingIsLeft (C.is_value cx.now) }
 {}

@@ -2,6 +2,8 @@
 use Rattle.std.specs.Prelude.{◌≡◌, ℕ, ℤ, ◌<◌, Bool, List, length, slice_index_or, IsTrue}
 use Rattle.match_model.specs.Numbers.{MRange, in_range}
 use Rattle.range_split.specs.Splits.{IsSplit}
+use Rattle.range_split.specs.Ranges.{plain_range}
+use Rattle.range_split.specs.declared.range.Range.{Range}
 
 -- two lists of pieces that are splits of the same whole by the same column are equal
 abbrev pub SplitIsDetermined : Type 0
@@ -21,3 +23,7 @@ abbrev pub NumberIsInOnePiece : Type 0
 NumberIsInOnePiece =
     (whole : MRange) (columns : List MRange) (pieces : List (MRange × Bool)) → IsSplit whole columns pieces →
     (n : ℤ) → IsTrue (in_range whole n) → IsInOnePiece pieces n
+
+-- every range of the program has a number
+abbrev pub RangeHasNumber : Type 0
+RangeHasNumber = (r : Range) → (n : ℤ) × IsTrue (in_range (plain_range r) n)
