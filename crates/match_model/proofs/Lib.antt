@@ -8,11 +8,6 @@ pub mod Empty
 pub mod Inhabited
 pub mod RustParts
 pub mod Marked
-pub mod ExamplesValues
-pub mod ExamplesWays
-pub mod ExamplesMatch
-pub mod ExamplesWitness
-pub mod ExamplesRanges
 pub mod OneMeaning
 pub mod OnePieces
 pub mod OneAnswer

@@ -1,7 +1,7 @@
 -- A match has one witness list.
 use Rattle.std.proofs.Common.{◌≡◌, Bool, false, List, [], ◌∷◌, ◌++◌, map, IsTrue, refl, sym, ap, subst, ◌∙◌, ℕ}
 use Rattle.std.specs.List.{flat_map, list_all}
-use Rattle.match_model.specs.Values.{MValue, Unseen}
+use Rattle.match_model.specs.Values.{MValue}
 use Rattle.match_model.specs.Witness.{MWitness, AnyOf}
 use Rattle.match_model.specs.Constructors.{MCtor}
 use Rattle.match_model.specs.Contexts.{Context, Open}

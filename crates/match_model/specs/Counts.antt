@@ -5,14 +5,14 @@ use Rattle.match_model.specs.Constructors.{MCtor, OrCtor}
 use Rattle.match_model.specs.ArenaPatterns.{MDePat, de_pat, MDePats, no_de_pats, more_de_pats, de_pats_list, MDeArm, MDeMatch}
 
 -- an or-pattern counts one
-abbrev pub or_counts : MCtor → ℕ
-or_counts OrCtor = 1
-or_counts _ = 0
+abbrev pub one_if_or : MCtor → ℕ
+one_if_or OrCtor = 1
+one_if_or _ = 0
 
 abbrev mutual
   -- how many or-patterns a pattern has, itself counted
   pub ors_in : {T : Type 0} → MDePat T → ℕ
-  ors_in (de_pat c t uid at subs binds) = or_counts c + ors_in_all subs
+  ors_in (de_pat c t uid at subs binds) = one_if_or c + ors_in_all subs
 
   -- how many or-patterns the patterns have
   pub ors_in_all : {T : Type 0} → MDePats T → ℕ

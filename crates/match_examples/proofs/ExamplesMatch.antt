@@ -8,7 +8,7 @@ use Rattle.match_model.specs.Ways.{Binding}
 use Rattle.match_model.specs.Match.{ArmWays, arm_ways, is_covered, comes_to, comes_through, IsExhaustive, IsArmReachable, IsAlternativeReachable, no_alternative, alternative}
 use Rattle.match_model.specs.Select.{select, Took, Missed, Short, Asked}
 use Rattle.match_model.specs.Unreachable.{nothing_left, is_reachable, is_listed, no_arm, arm_is_reachable, arm_is_listed, IsUnreachableList}
-use Rattle.match_model.proofs.ExamplesWays.{a_name, b_name, x_name, name, pair, number, tuple, bound, either_side}
+use Rattle.match_examples.proofs.ExamplesWays.{a_name, b_name, x_name, name, pair, number, tuple, bound, either_side}
 
 -- an arm at offset `at`
 abbrev pub arm : MPat → ℕ → Bool → ArmWays

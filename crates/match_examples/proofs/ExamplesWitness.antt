@@ -11,7 +11,7 @@ use Rattle.match_model.specs.Pieces.{slice_pieces, array_piece, Follow, last_one
 use Rattle.match_model.specs.WitnessList.{IsWitnessList, nothing_to_match, by_rows, no_row, taken, by_pieces, with_value, no_piece}
 use Rattle.match_model.specs.OfType.{witness_is_of}
 use Rattle.match_model.specs.RustTypes.{rust_context, RustValue}
-use Rattle.match_model.proofs.ExamplesValues.{program}
+use Rattle.match_examples.proofs.ExamplesValues.{program}
 
 abbrev span : ℕ → ℕ → MRange
 span a b = record { low = At (pos a); high = At (pos b) }

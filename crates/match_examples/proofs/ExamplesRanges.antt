@@ -5,8 +5,8 @@ use Rattle.match_model.specs.declared.IntKind.TheVariants.{U8, USize, I8, ISize}
 use Rattle.match_model.specs.Types.{CharType, IntType}
 use Rattle.match_model.specs.Numbers.{Free, At}
 use Rattle.match_model.specs.Patterns.{WildPat, SpanPat, FormPat, OrPat, no_numbered, more_numbered}
-use Rattle.match_model.specs.SourcePatterns.{written_range, is_formed, offsets_differ}
-use Rattle.match_model.proofs.ExamplesWays.{either_side}
+use Rattle.match_model.specs.SourcePatterns.{written_range, is_formed, offsets_differ, offsets_ascend}
+use Rattle.match_examples.proofs.ExamplesWays.{either_side}
 
 -- `3..` and `..3` and `..=3` on `u8` and `i8`
 pub open_ends : (written_range Endless (IntType U8) (Some (pos 3)) false None ≡ record { low = At (pos 3); high = At (pos 255) }) × (written_range Endless (IntType U8) None false (Some (pos 3)) ≡ record { low = At (pos 0); high = At (pos 2) }) × (written_range Endless (IntType I8) None true (Some (pos 3)) ≡ record { low = At (negsuc 127); high = At (pos 3) })
@@ -30,3 +30,10 @@ formed = (refl, refl, refl, refl)
 
 pub offsets : (offsets_differ either_side ≡ true) × (offsets_differ (OrPat (more_numbered 4 WildPat (more_numbered 4 WildPat no_numbered))) ≡ false)
 offsets = (refl, refl)
+
+-- offsets that differ need not ascend: here the second alternative stands before the first
+pub backwards : (offsets_differ (OrPat (more_numbered 9 WildPat (more_numbered 4 WildPat no_numbered))) ≡ true) × (offsets_ascend (OrPat (more_numbered 9 WildPat (more_numbered 4 WildPat no_numbered))) ≡ false)
+backwards = (refl, refl)
+
+pub forwards : offsets_ascend either_side ≡ true
+forwards = refl

@@ -1,0 +1,9 @@
+mod ExamplesValues
+mod ExamplesWays
+mod ExamplesMatch
+mod ExamplesWitness
+mod ExamplesRanges
+mod SmallMatches
+mod ExamplesNumbers
+mod ExamplesSlices
+mod ExamplesEmptiness
