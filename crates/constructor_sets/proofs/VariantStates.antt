@@ -11,7 +11,7 @@ use Rattle.match_model.specs.Constructors.{MCtor, LaterCtor, VariantCtor, MSet, 
 use Rattle.match_model.specs.Contexts.{Context}
 use Rattle.match_model.specs.ContextLaws.{ValuesLaw, PartsLaw, EmptyLaw, UnsureLaw}
 use Rattle.match_model.specs.Pieces.{each_below, variant_pieces}
-use Rattle.match_model.specs.WitnessList.{HasValue}
+use Rattle.match_model.specs.PieceStates.{HasValue}
 use Rattle.slice_split.proofs.Below.{map-map, map-each_below, All-each_below, AllPairs-each_below}
 use Rattle.pat_context.specs.Views.{plain_ctor}
 use Rattle.pat_context.specs.declared.ctor.Ctor.{Ctor}
