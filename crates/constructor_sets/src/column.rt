@@ -1,0 +1,135 @@
+// What the heads of a column have, and what they leave out.
+ghost use Rattle.std.specs.Prelude.{◌≡◌, ◌++◌, ◌||◌, ◌∷◌, [], true, IsTrue, IfOk, OnOk, map};
+ghost use Rattle.std.specs.List.{All, list_any, filter_map};
+ghost use Rattle.pat_context.specs.Views.{plain_ctor, plain_set, is_sure};
+ghost use Rattle.constructor_sets.specs.Columns.{plain_ctors, plain_piece};
+ghost use Rattle.constructor_sets.specs.Spans.{plain_span};
+ghost use Rattle.constructor_sets.specs.Present.{is_sharp_head, present_piece, is_missing, gap_of, AreFound, ArePresent};
+
+use crate::spans::spans_of;
+use crate::split::split_column;
+use crate::variants::found_variants;
+use crate::{Piece, PieceState, PresentPieces};
+use no_memory::NoMemory;
+use pat_context::{Ctor, CtorSet, PatCx, Validity};
+use std::alloc::Global;
+
+/// The pieces of a column that its heads have, for each head which of them it has, and what the heads leave out, at a
+/// place of the validity. The pieces are those of `split_column`, but a variant that no head has costs nothing: the
+/// work is n log n in the heads, and in the lengths of rows that they tell apart.
+///
+/// The type is one of the context's, and each head is a constructor of the type's set that a pattern can have; a
+/// wildcard is no head. The only error is want of memory.
+pub fn present<'a, C: PatCx>(
+    alloc: Global,
+    cx: &C,
+    ty: C::Ty,
+    validity: Validity,
+    heads: &[Ctor<'a>],
+) -> Result<PresentPieces<'a>, NoMemory>
+    requires ty { C.is_type cx.now ty }
+    requires heads { All (λ h. IsTrue (is_sharp_head ((C.context cx.now).set_of ty) h)) (plain_ctors heads.now) }
+    ensures { IfOk result (λ p. ArePresent (C.is_value cx.now) (C.context cx.now) (record { type = ty; sure = is_sure validity }) (plain_ctors heads.now) (plain_ctors p.ctors.items) p.missing (plain_ctors p.gaps.items) (map plain_span p.spans.items)) }
+{
+    let found = found_by_set(alloc, cx, ty, validity, heads)?;
+    let spans = spans_of(alloc, &found.ctors, heads)?;
+    Ok(PresentPieces {
+        ctors: found.ctors,
+        missing: found.missing,
+        gaps: found.gaps,
+        spans,
+    })
+}
+
+// What heads have, and what they leave out.
+#[derive(Drop)]
+pub(crate) struct Found<'a> {
+    // The pieces that have a value and that some head has.
+    pub(crate) ctors: Vec<Ctor<'a>>,
+    // Whether some piece that has a value is in no head.
+    pub(crate) missing: bool,
+    // The missing ranges and lengths.
+    pub(crate) gaps: Vec<Ctor<'a>>,
+}
+
+// What the heads have, and what they leave out.
+fn found_by_set<'a, C: PatCx>(
+    alloc: Global,
+    cx: &C,
+    ty: C::Ty,
+    validity: Validity,
+    heads: &[Ctor<'a>],
+) -> Result<Found<'a>, NoMemory>
+    requires ty { C.is_type cx.now ty }
+    requires heads { All (λ h. IsTrue (is_sharp_head ((C.context cx.now).set_of ty) h)) (plain_ctors heads.now) }
+    ensures { IfOk result (λ f. AreFound (C.is_value cx.now) (C.context cx.now) (record { type = ty; sure = is_sure validity }) (plain_ctors heads.now) (plain_ctors f.ctors.items) f.missing (plain_ctors f.gaps.items)) }
+{
+    match cx.set(ty) {
+        CtorSet::Variants { count, later } => found_variants(
+            alloc, cx, ty, validity, count, later, heads,
+        ),
+        _ => found_pieces(alloc, cx, ty, validity, heads),
+    }
+}
+
+// The same by the split of the column.
+fn found_pieces<'a, C: PatCx>(
+    alloc: Global,
+    cx: &C,
+    ty: C::Ty,
+    validity: Validity,
+    heads: &[Ctor<'a>],
+) -> Result<Found<'a>, NoMemory>
+    requires ty { C.is_type cx.now ty }
+    requires heads { All (λ h. IsTrue (is_sharp_head ((C.context cx.now).set_of ty) h)) (plain_ctors heads.now) }
+    ensures { IfOk result (λ f. AreFound (C.is_value cx.now) (C.context cx.now) (record { type = ty; sure = is_sure validity }) (plain_ctors heads.now) (plain_ctors f.ctors.items) f.missing (plain_ctors f.gaps.items)) }
+{
+    let split = split_column(alloc, cx, ty, validity, heads)?;
+    by_states(alloc, &split.pieces)
+}
+
+// The pieces that are present, whether some is missing, and the missing ranges and lengths.
+fn by_states<'a>(alloc: Global, pieces: &[Piece<'a>]) -> Result<Found<'a>, NoMemory>
+    ensures present { IfOk result (λ f. plain_ctors f.ctors.items ≡ filter_map present_piece (map plain_piece pieces.now)) }
+    ensures missing { IfOk result (λ f. f.missing ≡ list_any is_missing (map plain_piece pieces.now)) }
+    ensures gaps { IfOk result (λ f. plain_ctors f.gaps.items ≡ filter_map gap_of (map plain_piece pieces.now)) }
+{
+    let mut found = Found {
+        ctors: Vec::new(alloc),
+        missing: false,
+        gaps: Vec::new(alloc),
+    };
+    for piece in pieces {
+        add_piece(&mut found, piece)?;
+    }
+    Ok(found)
+}
+
+// Adds what is found of one piece more.
+fn add_piece<'a>(found: &mut Found<'a>, piece: &Piece<'a>) -> Result<(), NoMemory>
+    ensures present { OnOk result (plain_ctors found.new.ctors.items ≡ plain_ctors found.old.ctors.items ++ filter_map present_piece (plain_piece piece.now ∷ [])) }
+    ensures missing { OnOk result (found.new.missing ≡ (found.old.missing || is_missing (plain_piece piece.now))) }
+    ensures gaps { OnOk result (plain_ctors found.new.gaps.items ≡ plain_ctors found.old.gaps.items ++ filter_map gap_of (plain_piece piece.now ∷ [])) }
+{
+    match piece.state {
+        PieceState::Present => found.ctors.push(piece.ctor)?,
+        PieceState::Missing => add_missing(found, &piece.ctor)?,
+        PieceState::Empty => (),
+    }
+    Ok(())
+}
+
+// Adds a missing piece.
+fn add_missing<'a>(found: &mut Found<'a>, ctor: &Ctor<'a>) -> Result<(), NoMemory>
+    ensures present { OnOk result (found.new.ctors ≡ found.old.ctors) }
+    ensures missing { OnOk result (found.new.missing ≡ true) }
+    ensures gaps { OnOk result (plain_ctors found.new.gaps.items ≡ plain_ctors found.old.gaps.items ++ filter_map gap_of ((plain_ctor ctor.now, PieceState.Missing) ∷ [])) }
+{
+    found.missing = true;
+    match ctor {
+        Ctor::Numbers(_) => found.gaps.push(*ctor)?,
+        Ctor::Row(_) => found.gaps.push(*ctor)?,
+        _ => (),
+    }
+    Ok(())
+}
