@@ -1,11 +1,12 @@
 -- Decision trees with their subtrees in their places, and the parts that a row or a column gives to them (our own choice,
 -- after Maranget 2008). `Lowering` has the rules by which rows become a tree.
 use Rattle.std.specs.Prelude.{◌≡◌, ℕ, Bool, true, false, List, [], ◌∷◌, ◌++◌, Some}
-use Rattle.std.specs.List.{list_all, list_any, Contains}
+use Rattle.std.specs.List.{list_all, Contains}
 use Rattle.match_model.specs.Ways.{put_by}
-use Rattle.match_model.specs.Constructors.{FixedShape, LongerShape, MCtor, VariantCtor, FlagCtor, NumbersCtor, TextCtor, RowCtor, has_piece, MSet, SingleSet, PointSet, RowSet}
+use Rattle.match_model.specs.Constructors.{FixedShape, LongerShape, MCtor, VariantCtor, FlagCtor, NumbersCtor, TextCtor, RowCtor, MSet, SingleSet, PointSet, RowSet}
 use Rattle.match_model.specs.Places.{MStep}
 use Rattle.match_model.specs.Trees.{MCase, VariantCase, FlagCase, SpanCase, TextCase, LengthCase, LongerCase, ElseCase, MBind}
+use Rattle.match_model.specs.PieceStates.{is_present}
 use Rattle.match_model.specs.Rows.{Head, is_wild}
 use Rattle.match_model.specs.Matrices.{MColumn, MRow, head_binds}
 
@@ -57,10 +58,6 @@ case_of (TextCtor t) = TextCase t
 case_of (RowCtor (FixedShape n)) = LengthCase n
 case_of (RowCtor (LongerShape f b)) = LongerCase f b
 case_of _ = ElseCase
-
--- a head of the column has the piece
-abbrev pub is_present : (heads : List MCtor) → (piece : MCtor) → Bool
-is_present heads piece = list_any (λ h. has_piece h piece) heads
 
 -- the piece is one of all that no head of the column has
 abbrev pub IsMissing : (all heads : List MCtor) → (piece : MCtor) → Type 0
