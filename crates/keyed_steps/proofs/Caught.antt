@@ -10,7 +10,7 @@ use Rattle.match_model.specs.Places.{part_at}
 use Rattle.match_model.specs.Trees.{MBind, places_are}
 use Rattle.match_model.specs.Rows.{Head, is_wild, is_wild_ctor, Choice, choices_of, heads_of}
 use Rattle.match_model.specs.Matrices.{MColumn, MRow, bind_at}
-use Rattle.match_model.specs.WitnessList.{named_in}
+use Rattle.match_model.specs.PieceStates.{named_in}
 use Rattle.match_model.specs.WellTyped.{part_is_of, IsHeadTyped}
 use Rattle.match_model.proofs.Basics.{both, and_true, untrue}
 use Rattle.match_model.specs.Keys.{Decision}

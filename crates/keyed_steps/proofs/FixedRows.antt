@@ -5,7 +5,7 @@ use Rattle.match_model.specs.Constructors.{FixedShape, RowCtor, MSet, RowSet, Si
 use Rattle.match_model.specs.Contexts.{Context}
 use Rattle.match_model.specs.ContextLaws.{PartsLaw, ValuesLaw}
 use Rattle.match_model.specs.Matrices.{MColumn, open_of}
-use Rattle.match_model.specs.WitnessList.{HasValue}
+use Rattle.match_model.specs.PieceStates.{HasValue}
 use Rattle.match_model.proofs.Basics.{nat_equal, nat_itself, untrue}
 use Rattle.keyed_steps.specs.Filled.{IsOpened}
 use Rattle.keyed_steps.proofs.Opening.{HasParts, Each, opened-by}

@@ -11,7 +11,7 @@ use Rattle.match_model.specs.Places.{MStep}
 use Rattle.match_model.specs.Trees.{MBind}
 use Rattle.match_model.specs.Rows.{Head}
 use Rattle.match_model.specs.Matrices.{MColumn, MRow, bind_at, part_columns}
-use Rattle.match_model.specs.WitnessList.{named_in}
+use Rattle.match_model.specs.PieceStates.{named_in}
 use Rattle.match_model.specs.WellTyped.{IsHeadTyped, AreHeadsTyped, heads_names_differ, bound_names}
 use Rattle.match_model.specs.Keys.{Decision}
 use Rattle.match_model.specs.Lists.{Every, Among}

@@ -4,7 +4,7 @@ use Rattle.match_model.specs.Values.{MValue}
 use Rattle.match_model.specs.Constructors.{MCtor}
 use Rattle.match_model.specs.Contexts.{Context}
 use Rattle.match_model.specs.ContextLaws.{PartsLaw, ValuesLaw}
-use Rattle.match_model.specs.WitnessList.{named_in}
+use Rattle.match_model.specs.PieceStates.{named_in}
 use Rattle.match_model.specs.Keys.{Decision}
 use Rattle.keyed_steps.specs.Engine.{IsEngine}
 use Rattle.keyed_steps.specs.Good.{IsGoodColumn, IsGood, IsReady}

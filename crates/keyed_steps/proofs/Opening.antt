@@ -8,7 +8,7 @@ use Rattle.match_model.specs.Pieces.{each_below}
 use Rattle.match_model.specs.Places.{MStep, step_into, step_number, part_at, position_at, position_under, found_if}
 use Rattle.match_model.specs.Rows.{part_open}
 use Rattle.match_model.specs.Matrices.{MColumn, open_of, column_at, part_step, part_columns}
-use Rattle.match_model.specs.WitnessList.{HasValue}
+use Rattle.match_model.specs.PieceStates.{HasValue}
 use Rattle.match_model.proofs.Basics.{nat_equal, nat_itself}
 use Rattle.match_model.specs.Lists.{Every, Ordered}
 use Rattle.keyed_steps.specs.Positions.{inside, ArePositions}

@@ -7,7 +7,7 @@ use Rattle.match_model.specs.Contexts.{Context}
 use Rattle.match_model.specs.ContextLaws.{PartsLaw, ValuesLaw}
 use Rattle.match_model.specs.Places.{step_into}
 use Rattle.match_model.specs.Matrices.{MColumn, open_of, part_step}
-use Rattle.match_model.specs.WitnessList.{HasValue}
+use Rattle.match_model.specs.PieceStates.{HasValue}
 use Rattle.match_model.proofs.Basics.{untrue}
 use Rattle.keyed_steps.specs.Filled.{IsOpened}
 use Rattle.keyed_steps.proofs.Opening.{HasParts, variant-opened, point-opened, bare-opened}

@@ -10,8 +10,7 @@ use Rattle.match_model.specs.Pieces.{ArePieces}
 use Rattle.match_model.specs.Places.{part_at}
 use Rattle.match_model.specs.Rows.{Head, is_wild, is_wild_ctor, starts_wild, first_ctor}
 use Rattle.match_model.specs.Matrices.{MColumn, MRow, part_columns}
-use Rattle.match_model.specs.DecisionTrees.{is_present}
-use Rattle.match_model.specs.WitnessList.{named_in}
+use Rattle.match_model.specs.PieceStates.{is_present, named_in}
 use Rattle.match_model.specs.WellTyped.{IsHeadTyped, head_names, bound_names}
 use Rattle.match_model.proofs.Basics.{both, untrue}
 use Rattle.match_model.specs.Keys.{Decision}

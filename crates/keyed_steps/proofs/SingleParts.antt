@@ -6,7 +6,7 @@ use Rattle.match_model.specs.Contexts.{Context}
 use Rattle.match_model.specs.ContextLaws.{PartsLaw, PartsAre}
 use Rattle.match_model.specs.Places.{found_if}
 use Rattle.match_model.specs.Matrices.{MColumn, open_of}
-use Rattle.match_model.specs.WitnessList.{HasValue}
+use Rattle.match_model.specs.PieceStates.{HasValue}
 use Rattle.match_model.proofs.Basics.{nat_equal, nat_itself}
 use Rattle.keyed_steps.specs.Filled.{IsOpened}
 use Rattle.keyed_steps.proofs.Opening.{HasParts, Each, opened-by}

@@ -7,8 +7,8 @@ use Rattle.match_model.specs.Pieces.{ArePieces}
 use Rattle.match_model.specs.Places.{part_at}
 use Rattle.match_model.specs.Trees.{case_has, is_else, bindings_in, places_are}
 use Rattle.match_model.specs.Matrices.{MColumn, MRow, open_of, part_columns}
-use Rattle.match_model.specs.DecisionTrees.{row_binds, all_wild, is_switchless, case_of, is_present}
-use Rattle.match_model.specs.WitnessList.{HasValue, named_in}
+use Rattle.match_model.specs.PieceStates.{is_present, HasValue, named_in}
+use Rattle.match_model.specs.DecisionTrees.{row_binds, all_wild, is_switchless, case_of}
 use Rattle.match_model.specs.Keys.{Decision}
 use Rattle.match_model.specs.Lists.{Every, Ordered, Among, SameMembers}
 use Rattle.match_model.specs.Steps.{replaced_at, expand_head, specialise_head, default_head, rows_at}

@@ -6,8 +6,8 @@ use Rattle.match_model.specs.Contexts.{Context}
 use Rattle.match_model.specs.Pieces.{ArePieces}
 use Rattle.match_model.specs.Trees.{case_has, is_else}
 use Rattle.match_model.specs.Matrices.{MColumn, MRow}
-use Rattle.match_model.specs.DecisionTrees.{is_switchless, case_of, is_present}
-use Rattle.match_model.specs.WitnessList.{named_in}
+use Rattle.match_model.specs.PieceStates.{is_present, named_in}
+use Rattle.match_model.specs.DecisionTrees.{is_switchless, case_of}
 use Rattle.match_model.specs.Keys.{Decision}
 use Rattle.match_model.specs.Lists.{Every, Ordered, Among}
 use Rattle.keyed_rows.specs.Dividing.{GoodAt}

@@ -2,11 +2,11 @@
 -- after Maranget 2008). `Lowering` has the rules by which rows become a tree.
 use Rattle.std.specs.Prelude.{◌≡◌, ℕ, Bool, true, false, List, [], ◌∷◌, ◌++◌, Some}
 use Rattle.std.specs.List.{list_all, Contains}
-pub use Rattle.match_model.specs.PieceStates.{is_present}
 use Rattle.match_model.specs.Ways.{put_by}
 use Rattle.match_model.specs.Constructors.{FixedShape, LongerShape, MCtor, VariantCtor, FlagCtor, NumbersCtor, TextCtor, RowCtor, MSet, SingleSet, PointSet, RowSet}
 use Rattle.match_model.specs.Places.{MStep}
 use Rattle.match_model.specs.Trees.{MCase, VariantCase, FlagCase, SpanCase, TextCase, LengthCase, LongerCase, ElseCase, MBind}
+use Rattle.match_model.specs.PieceStates.{is_present}
 use Rattle.match_model.specs.Rows.{Head, is_wild}
 use Rattle.match_model.specs.Matrices.{MColumn, MRow, head_binds}
 

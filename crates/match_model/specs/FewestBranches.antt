@@ -7,8 +7,8 @@ use Rattle.match_model.specs.Contexts.{Context}
 use Rattle.match_model.specs.Pieces.{ArePieces}
 use Rattle.match_model.specs.Rows.{starts_wild}
 use Rattle.match_model.specs.Matrices.{MColumn, MRow, open_of}
-use Rattle.match_model.specs.WitnessList.{HasValue, named_in}
-use Rattle.match_model.specs.DecisionTrees.{is_present, IsMissing}
+use Rattle.match_model.specs.PieceStates.{HasValue, named_in, is_present}
+use Rattle.match_model.specs.DecisionTrees.{IsMissing}
 use Rattle.match_model.specs.Steps.{expand_head, rows_at}
 use Rattle.match_model.specs.Lowering.{ctors_at, all_wild_at}
 

@@ -8,8 +8,8 @@ use Rattle.match_model.specs.Pieces.{ArePieces}
 use Rattle.match_model.specs.Trees.{ElseCase}
 use Rattle.match_model.specs.Rows.{starts_wild, column_of}
 use Rattle.match_model.specs.Matrices.{MColumn, MRow, open_of, part_columns}
-use Rattle.match_model.specs.WitnessList.{HasValue, named_in}
-use Rattle.match_model.specs.DecisionTrees.{MTree, SwitchTree, AskTree, TakeTree, MissTree, VoidTree, MBranches, no_branch, more_branches, row_binds, all_wild, is_switchless, case_of, is_present, IsMissing}
+use Rattle.match_model.specs.PieceStates.{HasValue, named_in, is_present}
+use Rattle.match_model.specs.DecisionTrees.{MTree, SwitchTree, AskTree, TakeTree, MissTree, VoidTree, MBranches, no_branch, more_branches, row_binds, all_wild, is_switchless, case_of, IsMissing}
 use Rattle.match_model.specs.Keys.{Decision}
 use Rattle.match_model.specs.Steps.{expand_head, specialise_head, default_head, replaced_at, rows_at}
 use Rattle.match_model.specs.RowOrder.{AreInOrder}

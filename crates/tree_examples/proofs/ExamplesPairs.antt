@@ -10,7 +10,8 @@ use Rattle.match_model.specs.Places.{MStep, FieldStep}
 use Rattle.match_model.specs.Trees.{FlagCase, ElseCase, MBind, MBranch, MNode, SwitchNode, AskNode, TakeNode}
 use Rattle.match_model.specs.Matrices.{MColumn, MRow, first_matrix, part_columns}
 use Rattle.match_model.specs.RustTypes.{rust_context, RustValue}
-use Rattle.match_model.specs.DecisionTrees.{is_present, IsMissing, MTree, SwitchTree, AskTree, TakeTree, no_branch, more_branches}
+use Rattle.match_model.specs.PieceStates.{is_present}
+use Rattle.match_model.specs.DecisionTrees.{IsMissing, MTree, SwitchTree, AskTree, TakeTree, no_branch, more_branches}
 use Rattle.match_model.specs.Lists.{Among}
 use Rattle.match_model.specs.Keys.{Decision}
 use Rattle.match_model.specs.Numbering.{match_decisions}

@@ -9,7 +9,8 @@ use Rattle.match_model.specs.Places.{MStep, FieldStep}
 use Rattle.match_model.specs.Trees.{FlagCase, ElseCase, MBind, MNode, SwitchNode, AskNode, TakeNode, MissNode, VoidNode}
 use Rattle.match_model.specs.Matrices.{MColumn, MRow, first_matrix}
 use Rattle.match_model.specs.RustTypes.{rust_context, RustValue}
-use Rattle.match_model.specs.DecisionTrees.{is_present, MTree, SwitchTree, AskTree, TakeTree, MissTree, VoidTree, no_branch, more_branches}
+use Rattle.match_model.specs.PieceStates.{is_present}
+use Rattle.match_model.specs.DecisionTrees.{MTree, SwitchTree, AskTree, TakeTree, MissTree, VoidTree, no_branch, more_branches}
 use Rattle.match_model.specs.Lists.{Among}
 use Rattle.match_model.specs.Keys.{Decision, key_of, IsBefore}
 use Rattle.match_model.specs.Numbering.{match_decisions}

@@ -16,7 +16,7 @@ use Rattle.match_model.specs.ArenaWays.{arena_ways, arena_arm, arena_alternative
 use Rattle.match_model.specs.ArenaUnreachable.{in_reading_order}
 use Rattle.match_model.specs.Unreachable.{Entry}
 use Rattle.match_model.specs.Matrices.{MColumn, matrix_ways, first_rows, expand_rows}
-use Rattle.match_model.specs.OfType.{type_at, case_is_of, node_is_of}
+use Rattle.match_model.specs.OfType.{type_at_place, case_is_of, node_is_of}
 use Rattle.match_model.specs.RustTypes.{rust_context}
 use Rattle.tree_examples.proofs.Small.{program, flag_pair, x_name, number, tuple, row, bound}
 
@@ -63,52 +63,52 @@ abbrev false_false : MValue
 false_false = tuple (Flag false ∷ Flag false ∷ [])
 
 -- what it takes, and with which bindings
-abbrev to_else : GoesOn small_tree false_false (record { node = 0; left = []; asked = [] }) (record { node = 2; left = []; asked = [] })
+abbrev to_else : GoesOn small_tree false_false (record { node = 0; left = []; refused = [] }) (record { node = 2; left = []; refused = [] })
 to_else = by_case 0 [] [] (FieldStep 0 0 ∷ []) (true_or_else 1 2) (record { case = ElseCase; next = 2 }) refl refl
 
 pub tree_takes : Means small_tree true_false [] (record { asked = []; outcome = Took 0 (bound x_name Move (Flag false) ∷ []) })
 tree_takes = record {
   asked_nodes = [];
   walk = record {
-    last = record { node = 1; left = []; asked = [] };
+    last = record { node = 1; left = []; refused = [] };
     comes = after _ _ _ (by_case 0 [] [] (FieldStep 0 0 ∷ []) (true_or_else 1 2) (record { case = FlagCase true; next = 1 }) refl refl) (at_once _);
     ends = refl;
     asks = refl;
   };
-  asked = refl;
+  asks = refl;
 }
 
 -- it is short of an answer, missed where the guard refuses, or takes the arm whose guard does not
 pub tree_short : Means small_tree false_false [] (record { asked = []; outcome = Short })
 tree_short = record {
   asked_nodes = [];
-  walk = record { last = record { node = 2; left = []; asked = [] }; comes = after _ _ _ to_else (at_once _); ends = refl; asks = refl };
-  asked = refl;
+  walk = record { last = record { node = 2; left = []; refused = [] }; comes = after _ _ _ to_else (at_once _); ends = refl; asks = refl };
+  asks = refl;
 }
 
 pub tree_misses : Means small_tree false_false (false ∷ true ∷ []) (record { asked = record { arm = 1; bindings = bound x_name Move (Flag false) ∷ [] } ∷ []; outcome = Missed })
 tree_misses = record {
   asked_nodes = 2 ∷ [];
   walk = record {
-    last = record { node = 3; left = true ∷ []; asked = 2 ∷ [] };
+    last = record { node = 3; left = true ∷ []; refused = 2 ∷ [] };
     comes = after _ _ _ (by_case 0 (false ∷ true ∷ []) [] (FieldStep 0 0 ∷ []) (true_or_else 1 2) (record { case = ElseCase; next = 2 }) refl refl)
         (after _ _ _ (by_refusal 2 (true ∷ []) [] 1 x_there 3 refl) (at_once _));
     ends = refl;
     asks = refl;
   };
-  asked = refl;
+  asks = refl;
 }
 
 pub tree_asks : Means small_tree false_false (true ∷ []) (record { asked = record { arm = 1; bindings = bound x_name Move (Flag false) ∷ [] } ∷ []; outcome = Took 1 (bound x_name Move (Flag false) ∷ []) })
 tree_asks = record {
   asked_nodes = 2 ∷ [];
   walk = record {
-    last = record { node = 2; left = true ∷ []; asked = [] };
+    last = record { node = 2; left = true ∷ []; refused = [] };
     comes = after _ _ _ (by_case 0 (true ∷ []) [] (FieldStep 0 0 ∷ []) (true_or_else 1 2) (record { case = ElseCase; next = 2 }) refl refl) (at_once _);
     ends = refl;
     asks = refl;
   };
-  asked = refl;
+  asks = refl;
 }
 
 -- where each node goes on
@@ -123,7 +123,7 @@ pub two_positions : (looked_at three (slice_get array_tree 0) ≡ Some (0 ∷ []
 two_positions = (refl, refl)
 
 -- places and cases of a type
-pub of_pair : (type_at (rust_context program) flag_pair (FieldStep 0 1 ∷ []) ≡ Some BoolType) × (type_at (rust_context program) flag_pair (FieldStep 0 2 ∷ []) ≡ None) × (type_at (rust_context program) flag_pair (FieldStep 1 0 ∷ []) ≡ None) × (case_is_of (rust_context program) BoolType (VariantCase 0) ≡ false) × (node_is_of (rust_context program) flag_pair (SwitchNode (FieldStep 0 0 ∷ []) (true_or_else 1 2)) ≡ true)
+pub of_pair : (type_at_place (rust_context program) flag_pair (FieldStep 0 1 ∷ []) ≡ Some BoolType) × (type_at_place (rust_context program) flag_pair (FieldStep 0 2 ∷ []) ≡ None) × (type_at_place (rust_context program) flag_pair (FieldStep 1 0 ∷ []) ≡ None) × (case_is_of (rust_context program) BoolType (VariantCase 0) ≡ false) × (node_is_of (rust_context program) flag_pair (SwitchNode (FieldStep 0 0 ∷ []) (true_or_else 1 2)) ≡ true)
 of_pair = (refl, refl, refl, refl, refl)
 
 -- `&[x, .., 0..=9]` in an arena: the dereference is written out; the range is met at the last item's own number
@@ -189,19 +189,19 @@ halves_overlap = (
   number 5,
   refl,
   record {
-    number_of_one = 0;
-    number_of_other = 1;
-    one = record { arm = 0; guarded = false; way = record { trace = []; bindings = []; spans = record { at = 10; position = []; range = low_half } ∷ [] } };
-    other = record { arm = 1; guarded = true; way = record { trace = []; bindings = []; spans = record { at = 30; position = []; range = high_half } ∷ [] } };
-    a = record { at = 10; position = []; range = low_half };
-    b = record { at = 30; position = []; range = high_half };
+    first_index = 0;
+    second_index = 1;
+    first_try = record { arm = 0; guarded = false; way = record { trace = []; bindings = []; spans = record { at = 10; position = []; range = low_half } ∷ [] } };
+    second_try = record { arm = 1; guarded = true; way = record { trace = []; bindings = []; spans = record { at = 30; position = []; range = high_half } ∷ [] } };
+    first_span = record { at = 10; position = []; range = low_half };
+    second_span = record { at = 30; position = []; range = high_half };
     different = λ e. omega (arith, e);
-    is_one = refl;
-    is_other = refl;
-    has_a = (0, omega arith, refl);
-    has_b = (0, omega arith, refl);
-    is_first = refl;
-    is_second = refl;
+    first_there = refl;
+    second_there = refl;
+    first_met = (0, omega arith, refl);
+    second_met = (0, omega arith, refl);
+    first_at = refl;
+    second_at = refl;
     ordered = omega arith;
     same_position = refl;
     is_number = refl;

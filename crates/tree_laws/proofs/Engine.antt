@@ -4,7 +4,7 @@ use Rattle.match_model.specs.Values.{MValue}
 use Rattle.match_model.specs.Constructors.{MCtor, builds}
 use Rattle.match_model.specs.Contexts.{Context}
 use Rattle.match_model.specs.ContextLaws.{PartsLaw, ValuesLaw, ValueIs}
-use Rattle.match_model.specs.WitnessList.{named_in}
+use Rattle.match_model.specs.PieceStates.{named_in}
 use Rattle.match_model.specs.Keys.{Decision}
 use Rattle.match_model.specs.Lists.{Among}
 use Rattle.keyed_rows.proofs.Parting.{among-every}

@@ -5,7 +5,7 @@ use Rattle.match_model.specs.Constructors.{MCtor}
 use Rattle.match_model.specs.Contexts.{Context}
 use Rattle.match_model.specs.Matrices.{MColumn, MRow}
 use Rattle.match_model.specs.Steps.{expand_head, rows_at}
-use Rattle.match_model.specs.DecisionTrees.{is_present}
+use Rattle.match_model.specs.PieceStates.{is_present}
 use Rattle.match_model.specs.Lowering.{ctors_at, all_wild_at}
 use Rattle.match_model.specs.FewestBranches.{AreCases, nothing_missing, something_missing, no_branch_of, branch_of, AreBranches, no_branches, as_cases, is_asked, IsFewest}
 use Rattle.match_model.proofs.OnePieces.{one_pieces}

@@ -6,7 +6,7 @@ use Rattle.match_model.specs.Constructors.{MCtor, SingleCtor, PointCtor, LaterCt
 use Rattle.match_model.specs.ArenaPatterns.{MDePats, MBound, de_pat}
 use Rattle.match_model.specs.Rows.{Head, is_wild_ctor, starts_wild, first_ctor, ctor_unless_wild}
 use Rattle.match_model.specs.Matrices.{MRow}
-use Rattle.match_model.specs.DecisionTrees.{is_present}
+use Rattle.match_model.specs.PieceStates.{is_present}
 use Rattle.match_model.proofs.Basics.{untrue}
 use Rattle.match_model.specs.Lists.{Every, Among}
 use Rattle.keyed_rows.specs.Dividing.{GoodAt}

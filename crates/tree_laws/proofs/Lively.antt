@@ -8,8 +8,8 @@ use Rattle.match_model.specs.Pieces.{ArePieces}
 use Rattle.match_model.specs.Places.{part_at}
 use Rattle.match_model.specs.Trees.{ElseCase, case_has, MBranch, number_for}
 use Rattle.match_model.specs.Matrices.{MColumn, MRow, part_columns}
-use Rattle.match_model.specs.DecisionTrees.{MTree, SwitchTree, AskTree, TakeTree, MissTree, VoidTree, MBranches, no_branch, more_branches, is_switchless, case_of, is_present}
-use Rattle.match_model.specs.WitnessList.{named_in}
+use Rattle.match_model.specs.PieceStates.{is_present, named_in}
+use Rattle.match_model.specs.DecisionTrees.{MTree, SwitchTree, AskTree, TakeTree, MissTree, VoidTree, MBranches, no_branch, more_branches, is_switchless, case_of}
 use Rattle.match_model.specs.Keys.{Decision}
 use Rattle.match_model.specs.Lists.{Ordered, Among}
 use Rattle.tree_sharing.specs.Runs.{bare_branches, Taking, Lives, LivesAll}

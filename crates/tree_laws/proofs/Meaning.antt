@@ -11,8 +11,8 @@ use Rattle.match_model.specs.Select.{Selected}
 use Rattle.match_model.specs.Trees.{MCase, ElseCase, case_has, is_else, MBranch, number_for, one_has, bindings_in}
 use Rattle.match_model.specs.Rows.{Head}
 use Rattle.match_model.specs.Matrices.{MColumn, MRow, part_columns, heads_ways}
-use Rattle.match_model.specs.DecisionTrees.{MTree, AskTree, TakeTree, MBranches, more_branches, row_binds, all_wild, is_switchless, case_of, is_present}
-use Rattle.match_model.specs.WitnessList.{named_in}
+use Rattle.match_model.specs.PieceStates.{is_present, named_in}
+use Rattle.match_model.specs.DecisionTrees.{MTree, AskTree, TakeTree, MBranches, more_branches, row_binds, all_wild, is_switchless, case_of}
 use Rattle.match_model.specs.Keys.{Decision, both_keys, IsBefore}
 use Rattle.match_model.specs.Lists.{Every, Ordered, Among, SameMembers}
 use Rattle.match_model.specs.Numbering.{way_key}

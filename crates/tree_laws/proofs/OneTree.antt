@@ -6,7 +6,8 @@ use Rattle.match_model.specs.Contexts.{Context}
 use Rattle.match_model.specs.Pieces.{ArePieces}
 use Rattle.match_model.specs.Trees.{ElseCase}
 use Rattle.match_model.specs.Matrices.{MColumn, MRow, part_columns}
-use Rattle.match_model.specs.DecisionTrees.{MTree, SwitchTree, AskTree, MBranches, no_branch, more_branches, row_binds, all_wild, is_switchless, is_present}
+use Rattle.match_model.specs.PieceStates.{is_present}
+use Rattle.match_model.specs.DecisionTrees.{MTree, SwitchTree, AskTree, MBranches, no_branch, more_branches, row_binds, all_wild, is_switchless}
 use Rattle.match_model.proofs.OnePieces.{one_pieces}
 use Rattle.match_model.specs.Keys.{Decision}
 use Rattle.match_model.specs.Lists.{Ordered, SameMembers}

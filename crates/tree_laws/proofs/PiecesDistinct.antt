@@ -7,7 +7,7 @@ use Rattle.match_model.specs.Numbers.{in_range, closed}
 use Rattle.match_model.specs.Constructors.{MCtor, MSet, SingleSet, PointSet, FlagSet, TextSet, OpaqueSet, NothingSet, VariantSet, NumberSet, RowSet, Elementary, OneSingle, OnePoint, OneLater, OneVariant, OneFlag, OneNumber, OneText, OneLength, builds, builds_one, is_of_set}
 use Rattle.match_model.specs.ContextLaws.{ValueIs, BuiltOnce, RangesAscend}
 use Rattle.match_model.specs.Pieces.{ArePieces}
-use Rattle.match_model.specs.WitnessList.{named_in}
+use Rattle.match_model.specs.PieceStates.{named_in}
 use Rattle.match_model.proofs.Basics.{untrue, nat_equal, nat_itself, flag_equal, flag_itself, text_equal, text_itself, both, and_true}
 use Rattle.match_model.specs.Lists.{Ordered, Among}
 use Rattle.keyed_rows.proofs.RowOrder.{every-among}

@@ -9,7 +9,7 @@ use Rattle.match_model.specs.ArenaPatterns.{de_pat}
 use Rattle.match_model.specs.Pieces.{ArePieces}
 use Rattle.match_model.specs.Rows.{Head, is_wild_ctor, first_ctor}
 use Rattle.match_model.specs.Matrices.{MColumn, MRow}
-use Rattle.match_model.specs.WitnessList.{named_in}
+use Rattle.match_model.specs.PieceStates.{named_in}
 use Rattle.match_model.specs.WellTyped.{is_written, IsTyped, IsHeadTyped}
 use Rattle.match_model.proofs.Basics.{untrue}
 use Rattle.match_model.specs.Keys.{Decision}
