@@ -9,4 +9,4 @@ numbered i = record { index = i }
 
 pub returns : goal.returns
 returns c = λ a b of_a of_b same.
-    ap numbered (one_number c.args.self.now.nodes.keys c.requires.are c.len-count.ensures.unique (table_type c.args.self.now b) a.index b.index of_a of_b same refl)
+    ap numbered (one_number c.args.self.now.nodes.keys c.args.self.now.whole.are c.len-count.ensures.unique (table_type c.args.self.now b) a.index b.index of_a of_b same refl)

@@ -12,11 +12,10 @@ use Rattle.type_table.specs.Nodes.{AreNodes}
 use Rattle.type_table.specs.Entries.{items_told}
 use Rattle.type_table.specs.Known.{IsKnown, IsFew}
 use Rattle.type_table.specs.Possible.{TellsValues}
-use Rattle.type_table.proofs.EntryLemmas.{program_is}
-use Rattle.type_table.proofs.table.assemble.Goals as goal
+use Rattle.type_table.proofs.draft.assemble.Goals as goal
 
-pub returns-clause-table : goal.returns-clause-table
-returns-clause-table c =
+pub returns : goal.returns
+returns c =
     let known : All (IsKnown c.in_ok-items.items.items) c.all_entries.new.nodes.keys =
     subst (λ (es : List Entry). All (IsKnown es) c.all_entries.new.nodes.keys) c.deref-2.ensures.value
     (subst (All (IsKnown c.deref-2.result.now)) c.as_slice.ensures.keys (c.are_known.ensures.nodes c.if-not-are_known.false)) in
@@ -33,9 +32,6 @@ returns-clause-table c =
       names = c.in_ok-names.ensures;
       finder = subst (λ (xs : List ItemTree). IsFinder xs c.in_ok-finder.finder) (ap (map item_view) c.deref-4.ensures.value) c.in_ok-finder.ensures;
     }
-
-pub returns-clause-program : goal.returns-clause-program
-returns-clause-program c = program_is (file_view c.args.file.now) c.args.width _ (returns-clause-table c)
 
 pub counted_values-requires-clause-are : goal.counted_values-requires-clause-are
 counted_values-requires-clause-are c = subst AreNodes (sym c.as_slice-2.ensures.keys) c.in_ok-items.ensures.are
