@@ -22,6 +22,7 @@ pub mod SoundTypes
 pub mod EmptyVariants
 pub mod EmptyTypes
 pub mod FewParts
+pub mod ContextLemmas
 pub mod PathLemmas
 pub mod FoundForms
 pub mod AllRules

@@ -9,6 +9,7 @@ pub mod Empty
 pub mod Whole
 pub mod Tables
 pub mod Parts
+pub mod TableContext
 pub mod Paths
 pub mod Marks
 pub mod Readers

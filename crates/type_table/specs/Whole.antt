@@ -1,4 +1,4 @@
--- What a table keeps: its numbers are its own, its types are of its program, and it tells which of them have values at sure places.
+-- What a table keeps: its numbers are its own, one for each type, its types are of its program, and it tells which of them have values at sure places.
 use Rattle.std.specs.Prelude.{◌≡◌, ◌<◌, ◌^◌, ◌+◌, ℕ, Bool, true, false, List, length, take, slice_get, slice_index_or}
 use Rattle.std.specs.List.{All, list_all}
 use Rattle.std.specs.Coded.{Unit-prop}
@@ -15,6 +15,7 @@ use Rattle.type_table.specs.Possible.{may_be, items_in, IsStableAt, IsLeastAt, T
 -- what a table with these nodes, items and values keeps
 pub record IsWhole (nodes : List Node) (entries : List Entry) (atoms : List Bool) : Type 0 where
   pub are : AreNodes nodes
+  pub one : (i j : ℕ) → i < length nodes → j < length nodes → type_at (types_in nodes) i ≡ type_at (types_in nodes) j → i ≡ j
   pub below : list_all (entry_below (length nodes)) entries ≡ true
   pub known : All (IsKnown entries) nodes
   pub few : All IsFew entries
@@ -45,11 +46,13 @@ TellsValues-prop nodes entries atoms x y =
 pub IsWhole-prop : (nodes : List Node) (entries : List Entry) (atoms : List Bool) → IsProp (IsWhole nodes entries atoms)
 IsWhole-prop nodes entries atoms x y =
     let are_prop : IsProp (AreNodes nodes) = hlevel props in
+    let one_prop : IsProp ((i j : ℕ) → i < length nodes → j < length nodes → type_at (types_in nodes) i ≡ type_at (types_in nodes) j → i ≡ j) = hlevel props in
     let below_prop : IsProp (list_all (entry_below (length nodes)) entries ≡ true) = hlevel props in
     let known_prop : IsProp (All (IsKnown entries) nodes) = hlevel props in
     let few_prop : IsProp (All IsFew entries) = hlevel (props, IsFew-prop) in
     λ i. record {
       are = are_prop x.are y.are i;
+      one = one_prop x.one y.one i;
       below = below_prop x.below y.below i;
       known = known_prop x.known y.known i;
       few = few_prop x.few y.few i;

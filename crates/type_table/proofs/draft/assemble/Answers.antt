@@ -1,4 +1,4 @@
-use Rattle.std.proofs.Common.{List, true, map, refl, sym, ap, subst, ◌∙◌}
+use Rattle.std.proofs.Common.{◌≡◌, ◌<◌, ℕ, List, true, length, map, refl, sym, ap, subst, ◌∙◌}
 use Rattle.std.specs.List.{All}
 use Rattle.decl_syntax.specs.Items.{ItemTree, item_view, file_view}
 use Rattle.decl_syntax.specs.declared.items.Item.{Item}
@@ -8,10 +8,11 @@ use Rattle.type_names.specs.Views.{means_in}
 use Rattle.type_names.proofs.Variants.{means_are}
 use Rattle.type_table.specs.declared.nodes.Node.{Node}
 use Rattle.type_table.specs.declared.entries.Entry.{Entry}
-use Rattle.type_table.specs.Nodes.{AreNodes}
+use Rattle.type_table.specs.Nodes.{AreNodes, types_in, type_at}
 use Rattle.type_table.specs.Entries.{items_told}
 use Rattle.type_table.specs.Known.{IsKnown, IsFew}
 use Rattle.type_table.specs.Possible.{TellsValues}
+use Rattle.type_table.proofs.OneNumber.{one_number}
 use Rattle.type_table.proofs.draft.assemble.Goals as goal
 
 pub returns : goal.returns
@@ -23,8 +24,11 @@ returns c =
     let values : TellsValues true c.all_entries.new.nodes.keys c.in_ok-items.items.items c.in_ok-values.values.items =
     subst (λ (ns : List Node). TellsValues true ns c.in_ok-items.items.items c.in_ok-values.values.items) c.as_slice-2.ensures.keys
     (subst (λ (es : List Entry). TellsValues true c.as_slice-2.result.now es c.in_ok-values.values.items) c.deref-3.ensures.value c.in_ok-values.ensures) in
+    let one : (i j : ℕ) → i < length c.all_entries.new.nodes.keys → j < length c.all_entries.new.nodes.keys →
+    type_at (types_in c.all_entries.new.nodes.keys) i ≡ type_at (types_in c.all_entries.new.nodes.keys) j → i ≡ j =
+    λ i j lt_i lt_j same. one_number c.all_entries.new.nodes.keys c.in_ok-items.ensures.are c.as_slice.ensures.unique (type_at (types_in c.all_entries.new.nodes.keys) j) i j lt_i lt_j same refl in
     record {
-      whole = record { are = c.in_ok-items.ensures.are; below = c.in_ok-items.ensures.below; known = known; few = few; values = values };
+      whole = record { are = c.in_ok-items.ensures.are; one = one; below = c.in_ok-items.ensures.below; known = known; few = few; values = values };
       told = c.in_ok-items.ensures.told
           ∙ (ap (λ (xs : List Item). items_told (means_in c.in_ok-names.names) (map item_view xs)) c.deref.ensures.value
           ∙ ap (λ (m : Means). items_told m (file_view c.args.file.now)) (means_are (file_view c.args.file.now) c.in_ok-names.names c.in_ok-names.ensures));
