@@ -1,6 +1,7 @@
 -- What the names of types mean (the Rust Reference, "Types"; which types of std there are is our own choice).
 use Rattle.std.specs.Prelude.{ℕ, Bool, true, false, List, [], ◌∷◌, codes, position, option_map, Option, Some, None, if◌then◌else◌}
 use Rattle.std.specs.Str.{bytes_eq}
+use Rattle.match_model.specs.declared.IntKind.{IntKind}
 use Rattle.match_model.specs.declared.IntKind.TheVariants as ints
 use Rattle.match_model.specs.Types.{MOpaque, StringName, F32Name, F64Name, BoxName, VecName, RcName, ArcName, MType, BoolType, CharType, StrType, IntType}
 use Rattle.match_model.specs.RustTypes.{opaque_arguments}
@@ -65,6 +66,24 @@ entry_of (entry ∷ entries) text = if bytes_eq text entry.0 then Some entry.1 e
 -- the built-in type of this name
 unfoldable pub built_in : (name : List ℕ) → Option Meaning
 built_in name = entry_of built_in_types name
+
+-- the integer type, if it is one
+abbrev pub int_of : MType → Option IntKind
+int_of (IntType kind) = Some kind
+int_of _ = None
+
+-- the integer type of this meaning
+abbrev pub meant_int : Option Meaning → Option IntKind
+meant_int (Some (BaseName t)) = int_of t
+meant_int (Some (ItemName i)) = None
+meant_int (Some (OpaqueName o)) = None
+meant_int (Some OptionName) = None
+meant_int (Some ResultName) = None
+meant_int None = None
+
+-- the integer type that the suffix of a literal names
+abbrev pub int_kind : (suffix : List ℕ) → Option IntKind
+int_kind suffix = meant_int (built_in suffix)
 
 -- the first of the two that is there
 abbrev pub first_of_two : Option Meaning → Option Meaning → Option Meaning

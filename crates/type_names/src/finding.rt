@@ -5,7 +5,7 @@ ghost use Rattle.decl_syntax.specs.Items.{ItemTree, item_view, kind_view, varian
 ghost use Rattle.decl_syntax.specs.Patterns.{path_view};
 ghost use Rattle.type_names.specs.Imports.{meant_enum, variant_number, item_variants};
 ghost use Rattle.type_names.specs.NameRules.{is_among};
-ghost use Rattle.type_names.specs.Finding.{numbered, variant_in, path_variant, given_by, given_from, glob_owner, glob_owners, globbed, or_else, prelude_variant, names_find, path_finds};
+ghost use Rattle.type_names.specs.Finding.{numbered, variant_in, path_variant, given_by, given_from, glob_owner, glob_owners, globbed, or_else, prelude_variant, name_finds, names_find, path_finds};
 ghost use Rattle.type_names.specs.FindingViews.{IsFinder, target_view, found_in, joined, masked, owners_find};
 ghost use Rattle.type_names.specs.Views.{AreNames, meaning_view, owner_view};
 
@@ -65,10 +65,12 @@ impl Finder {
         }
     }
 
-    // What a name alone finds.
-    fn find_name(&self, name: &str) -> Target
-        ensures { target_view result ≡ or_else (found_in self.now.given name.now)
-            (or_else (found_in self.now.globs name.now) (prelude_variant name.now)) }
+    /// What a name alone finds.
+    ///
+    /// Source: the Rust Reference, "Identifier patterns" and "Use declarations"; that imports name variants in patterns
+    /// only is our own choice.
+    pub fn find_name(&self, name: &str) -> Target
+        ensures { (items : List ItemTree) → IsFinder items self.now → target_view result ≡ name_finds items name.now }
     {
         let by_glob = or_else(told(&self.globs, name), prelude_variant(name));
         or_else(told(&self.given, name), by_glob)

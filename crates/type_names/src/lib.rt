@@ -29,7 +29,7 @@ pub use attributes::is_marked;
 pub use finding::Finder;
 pub use imports::{enum_of, form_kind, variant_form};
 pub use item_rules::{ItemRule, first_fault};
-pub use meanings::{Base, FormKind, Meaning, Opaque, Owner, built_in};
+pub use meanings::{Base, FormKind, Meaning, Opaque, Owner, built_in, int_kind};
 pub use name_rules::{field_name, first_name_twice};
 pub use names::Names;
 pub use targets::{Target, target_form};

@@ -1,7 +1,9 @@
 //! What names mean as types.
 ghost use Rattle.std.specs.Prelude.{◌≡◌, option_map};
-ghost use Rattle.type_names.specs.Meanings.{built_in};
-ghost use Rattle.type_names.specs.Views.{meaning_view};
+ghost use Rattle.type_names.specs.Meanings.{built_in, int_of, int_kind};
+ghost use Rattle.type_names.specs.Views.{base_view, meaning_view};
+
+use match_model::IntKind;
 
 /// A type without arguments. The integer types are the Rust Reference's, "Numeric types".
 #[derive(Clone, Copy, Debug, PartialEq, Eq, Hash)]
@@ -96,5 +98,45 @@ pub fn built_in(name: &str) -> Option<Meaning>
         "Option" => Some(Meaning::Option),
         "Result" => Some(Meaning::Result),
         _ => None,
+    }
+}
+
+/// The integer type that the suffix of a literal names; no item of a file takes such a name away.
+///
+/// Source: the Rust Reference, "Integer literal expressions".
+pub fn int_kind(suffix: &str) -> Option<IntKind>
+    ensures { result ≡ int_kind suffix.now }
+{
+    match built_in(suffix) {
+        Some(Meaning::Base(base)) => base_int(base),
+        Some(Meaning::Item(_)) => None,
+        Some(Meaning::Opaque(_)) => None,
+        Some(Meaning::Option) => None,
+        Some(Meaning::Result) => None,
+        None => None,
+    }
+}
+
+// The integer type, if it is one.
+fn base_int(base: Base) -> Option<IntKind>
+    ensures { result ≡ int_of (base_view base) }
+{
+    match base {
+        Base::Bool => None,
+        Base::Char => None,
+        Base::Str => None,
+        Base::Never => None,
+        Base::U8 => Some(IntKind::U8),
+        Base::U16 => Some(IntKind::U16),
+        Base::U32 => Some(IntKind::U32),
+        Base::U64 => Some(IntKind::U64),
+        Base::U128 => Some(IntKind::U128),
+        Base::USize => Some(IntKind::USize),
+        Base::I8 => Some(IntKind::I8),
+        Base::I16 => Some(IntKind::I16),
+        Base::I32 => Some(IntKind::I32),
+        Base::I64 => Some(IntKind::I64),
+        Base::I128 => Some(IntKind::I128),
+        Base::ISize => Some(IntKind::ISize),
     }
 }

@@ -16,11 +16,12 @@ use Rattle.type_table.specs.declared.table.TypeTable.{TypeTable}
 use Rattle.type_table.specs.declared.table.TyId.{TyId}
 use Rattle.type_table.specs.Nodes.{types_in}
 use Rattle.type_table.specs.Entries.{entry_told}
-use Rattle.type_table.specs.Possible.{may_be, may_all_be, may_some_be, is_unseen, item_may_be, items_in, program_in, GrownAt}
-use Rattle.type_table.specs.Possible as possible
-use Rattle.type_table.specs.Tables.{IsWhole, table_program, table_type, IsOf}
+use Rattle.type_table.specs.Possible.{may_be, may_all_be, may_some_be, is_unseen, item_may_be, items_in, program_in}
+use Rattle.type_table.specs.Tables.{table_program, table_type, IsOf}
 use Rattle.type_table.specs.Marks.{table_marks, found_empty, found_variant_empty}
-use Rattle.type_table.specs.Empty.{NoneEndless, TellsEmpty, TellsVariantEmpty}
+use Rattle.type_table.specs.Empty.{TellsEmpty, TellsVariantEmpty}
+use Rattle.type_table.proofs.Growing.{GrownAt, values_grown}
+use Rattle.type_table.proofs.Growing as growing
 use Rattle.type_table.proofs.EndlessItems.{read}
 use Rattle.type_table.proofs.SoundTypes.{types_typed, sound_program}
 use Rattle.type_table.proofs.EmptyVariants.{variant_tells}
@@ -68,14 +69,14 @@ abbrev program_with : Width → List MItem → MProgram
 program_with width items = record { items = items; width = width }
 
 grown_has : (width : Width) (items : List MItem) (marks : List Bool) → GrownAt true items marks → Grown (program_with width items) marks
-grown_has width items _ possible.none_yet = none_yet
-grown_has width items _ (possible.one_more marks i g h) = one_more marks i (grown_has width items marks g) (sym (item_has marks (slice_get items i)) ∙ h)
+grown_has width items _ growing.none_yet = none_yet
+grown_has width items _ (growing.one_more marks i g h) = one_more marks i (grown_has width items marks g) (sym (item_has marks (slice_get items i)) ∙ h)
 
 items_told : (nodes : List Node) (entries : List Entry) → items_in nodes entries ≡ map (λ x. x.item) (map (entry_told (types_in nodes)) entries)
 items_told nodes [] = refl
 items_told nodes (e ∷ es) = ap (λ (is : List MItem). (entry_told (types_in nodes) e).item ∷ is) (items_told nodes es)
 
-module _ (t : TypeTable) (whole : IsWhole t) where
+module _ (t : TypeTable) where
   pub same : items_in t.nodes.keys t.items.items ≡ (table_program t).items
   same = items_told t.nodes.keys t.items.items
 
@@ -83,42 +84,42 @@ module _ (t : TypeTable) (whole : IsWhole t) where
   program_is = ap (program_with t.width) same
 
   grown : Grown (table_program t) (table_marks t)
-  grown = subst (λ (is : List MItem). Grown (program_with t.width is) (table_marks t)) same (grown_has t.width (items_in t.nodes.keys t.items.items) (table_marks t) whole.values.grown)
+  grown = subst (λ (is : List MItem). Grown (program_with t.width is) (table_marks t)) same (grown_has t.width (items_in t.nodes.keys t.items.items) (table_marks t) (values_grown true t.nodes.keys t.items.items t.values.items t.whole.values))
 
   stable : IsStable (table_program t) (table_marks t)
-  stable i h = whole.values.stable i (item_has (table_marks t) (slice_get (items_in t.nodes.keys t.items.items) i) ∙ (ap (λ (is : List MItem). item_has_value (table_marks t) (slice_get is i)) same ∙ h))
+  stable i h = t.whole.values.stable i (item_has (table_marks t) (slice_get (items_in t.nodes.keys t.items.items) i) ∙ (ap (λ (is : List MItem). item_has_value (table_marks t) (slice_get is i)) same ∙ h))
 
   -- the types of the table are types of its program
   pub rust_types : (ty : TyId) → IsOf t ty → IsRustType (table_program t) (table_type t ty)
   rust_types ty of =
-      subst (λ (p : MProgram). IsRustType p (table_type t ty)) program_is (types_typed t.width t.nodes.keys t.items.items whole.are whole.below whole.known whole.few ty.index of)
+      subst (λ (p : MProgram). IsRustType p (table_type t ty)) program_is (types_typed t.width t.nodes.keys t.items.items t.whole.are t.whole.below t.whole.known t.whole.few ty.index of)
 
-  -- and this is sound where no declared type is endless
-  pub sound_table : NoneEndless (table_program t) → IsSoundProgram (table_program t)
-  sound_table none =
+  -- and this is sound
+  pub sound_table : IsSoundProgram (table_program t)
+  sound_table =
       subst IsSoundProgram program_is
-      (sound_program t.width t.nodes.keys t.items.items whole.are whole.below whole.known whole.few (subst NoneEndless (sym program_is) none))
+      (sound_program t.width t.nodes.keys t.items.items t.whole.are t.whole.below t.whole.known t.whole.few t.finite)
 
   -- the atoms tell of a type what the marks do
   pub found_here : (ty : TyId) → IsOf t ty → (at : ℕ) (b : Bool) → at ≡ length t.items.items + ty.index → b ≡ get_or t.values.items at b → not b ≡ found_empty t ty
   found_here ty of at b e is =
-      let len : length t.values.items ≡ length t.items.items + length t.nodes.keys = whole.values.len in
+      let len : length t.values.items ≡ length t.items.items + length t.nodes.keys = t.whole.values.len in
       ap not (read t.values.items at b (omega (arith, len, e, of)) is
-      ∙ (ap (λ (n : ℕ). get_or t.values.items n false) e ∙ (whole.values.nodes_are ty.index of ∙ may_has (table_marks t) (table_type t ty))))
+      ∙ (ap (λ (n : ℕ). get_or t.values.items n false) e ∙ (t.whole.values.nodes_are ty.index of ∙ may_has (table_marks t) (table_type t ty))))
 
-  pub tells_empty : NoneEndless (table_program t) → (ty : TyId) → IsOf t ty → (b : Bool) → b ≡ found_empty t ty → TellsEmpty (table_program t) (table_type t ty) b
-  tells_empty none ty of true e = (rust_empty (table_program t) (table_marks t) (sound_table none) grown stable).empty (table_type t ty) (rust_types ty of) (sym e)
-  tells_empty none ty of false e = (rust_empty (table_program t) (table_marks t) (sound_table none) grown stable).inhabited (table_type t ty) (rust_types ty of) (sym e)
+  pub tells_empty : (ty : TyId) → IsOf t ty → (b : Bool) → b ≡ found_empty t ty → TellsEmpty (table_program t) (table_type t ty) b
+  tells_empty ty of true e = (rust_empty (table_program t) (table_marks t) sound_table grown stable).empty (table_type t ty) (rust_types ty of) (sym e)
+  tells_empty ty of false e = (rust_empty (table_program t) (table_marks t) sound_table grown stable).inhabited (table_type t ty) (rust_types ty of) (sym e)
 
-  pub tells_variant : NoneEndless (table_program t) → (ty : TyId) → IsOf t ty → (k : ℕ) (b : Bool) → b ≡ found_variant_empty t ty k → TellsVariantEmpty (table_program t) (table_type t ty) k b
-  tells_variant none ty of k b e = variant_tells (table_program t) (table_marks t) (sound_table none) grown stable (table_type t ty) (rust_types ty of) k b e
+  pub tells_variant : (ty : TyId) → IsOf t ty → (k : ℕ) (b : Bool) → b ≡ found_variant_empty t ty k → TellsVariantEmpty (table_program t) (table_type t ty) k b
+  tells_variant ty of k b e = variant_tells (table_program t) (table_marks t) sound_table grown stable (table_type t ty) (rust_types ty of) k b e
 
   -- the law of a context on emptiness, for each type of the table
-  pub empty_law : NoneEndless (table_program t) → (cx : Context TyId) →
+  pub empty_law : (cx : Context TyId) →
       EmptyLaw (IsOf t) (λ ty. RustValue (table_program t) (table_type t ty)) cx (found_empty t) (found_variant_empty t)
-  empty_law none cx = record {
-    empty = λ ty of e. tells_empty none ty of true (sym e);
-    inhabited = λ ty of e. tells_empty none ty of false (sym e);
-    variant_is_empty = λ ty k of s e. tells_variant none ty of k true (sym e);
-    variant_inhabited = λ ty k of s e. tells_variant none ty of k false (sym e);
+  empty_law cx = record {
+    empty = λ ty of e. tells_empty ty of true (sym e);
+    inhabited = λ ty of e. tells_empty ty of false (sym e);
+    variant_is_empty = λ ty k of s e. tells_variant ty of k true (sym e);
+    variant_inhabited = λ ty k of s e. tells_variant ty of k false (sym e);
   }

@@ -14,11 +14,11 @@ use Rattle.match_model.proofs.Empty.{values_have}
 use Rattle.match_model.proofs.Inhabited.{all_sure}
 use Rattle.match_model.proofs.Marked.{grown_known}
 use Rattle.type_names.specs.declared.meanings.Base.{Base}
-use Rattle.type_names.specs.declared.meanings.Base.TheVariants as bases
 use Rattle.type_names.specs.Views.{base_view}
 use Rattle.type_table.specs.Empty.{TellsVariantEmpty}
 use Rattle.type_table.specs.Marks.{lacks_value}
 use Rattle.type_table.proofs.EndlessItems.{clash}
+use Rattle.type_table.proofs.FieldLemmas.{base_cases}
 use Rattle.type_table.specs.Tables.{part_of, type_variant, variant_name_of}
 
 not_true : (b : Bool) → true ≡ not b → b ≡ false
@@ -108,22 +108,7 @@ not_there marks (Some ts) s = cc
 
 -- which types have a variant with which number
 pub base_variant : (program : MProgram) (b : Base) (k : ℕ) → false ≡ is_some (node_types program (base_view b) k)
-base_variant program bases.Bool k = refl
-base_variant program bases.Char k = refl
-base_variant program bases.Str k = refl
-base_variant program bases.Never k = refl
-base_variant program bases.U8 k = refl
-base_variant program bases.U16 k = refl
-base_variant program bases.U32 k = refl
-base_variant program bases.U64 k = refl
-base_variant program bases.U128 k = refl
-base_variant program bases.USize k = refl
-base_variant program bases.I8 k = refl
-base_variant program bases.I16 k = refl
-base_variant program bases.I32 k = refl
-base_variant program bases.I64 k = refl
-base_variant program bases.I128 k = refl
-base_variant program bases.ISize k = refl
+base_variant program b k = base_cases (λ t. false ≡ is_some (node_types program t k)) refl refl refl refl (λ kind. refl) b
 
 no_zero : (k : ℕ) → nat_eq (suc k) 0 ≡ false
 no_zero k = grind arith

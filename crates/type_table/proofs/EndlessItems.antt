@@ -24,6 +24,7 @@ use Rattle.type_names.proofs.Variants.{get_map}
 use Rattle.type_table.proofs.Clauses.{get_there}
 use Rattle.type_table.proofs.KindLemmas.{count_is}
 use Rattle.type_table.proofs.TypeTests.{items_pass, types_pass}
+use Rattle.type_table.proofs.Growing.{values_grown}
 use Rattle.type_table.proofs.Unsure.{value_has}
 use Rattle.type_table.proofs.UnsureFound.{is_shaped, are_shaped, FieldsShaped, grown_unsure}
 
@@ -146,7 +147,7 @@ module _ (width : Width) (nodes : List Node) (entries : List Entry) (are : AreNo
   -- a marked item has one
   marked_finite : (i : ℕ) → i < length entries → get_or atoms i false ≡ true → IsEndless program i → ⊥
   marked_finite i lt held endless =
-      let value = grown_unsure program (fields_shaped width nodes entries are below) marks tells.grown i (sym (tells.items_are i lt) ∙ held) in
+      let value = grown_unsure program (fields_shaped width nodes entries are below) marks (values_grown false nodes entries atoms tells) i (sym (tells.items_are i lt) ∙ held) in
       clash (is_value program false (NamedType (DeclaredItem i) no_types) value.0) value.1 (endless.endless value.0)
 
   -- the item with this number declares a type and is not marked

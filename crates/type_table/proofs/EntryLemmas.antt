@@ -1,5 +1,5 @@
 -- Entries whose types are numbers of nodes that grow.
-use Rattle.std.proofs.Common.{◌≡◌, ℕ, ◌+◌, ◌<◌, ◌≤◌, Bool, true, false, ◌&&◌, List, [], ◌∷◌, ◌++◌, map, length, Some, None, refl, ap, ◌∙◌, suc, arith, length-append, take, get_or}
+use Rattle.std.proofs.Common.{◌≡◌, ℕ, ◌+◌, ◌<◌, ◌≤◌, Bool, true, false, ◌&&◌, List, [], ◌∷◌, ◌++◌, map, length, Some, None, refl, sym, ap, ◌∙◌, suc, arith, length-append, take, get_or}
 use Rattle.std.specs.Prelude.{slice_get, nat_lt, string_bytes}
 use Rattle.std.specs.List.{list_all, enumerate_from}
 use Rattle.std.proofs.lemmas.List.{map-append}
@@ -13,8 +13,9 @@ use Rattle.type_names.specs.Meanings.{Means}
 use Rattle.type_names.specs.Written.{form_of, field_of, kind_of, item_of, program_of}
 use Rattle.type_names.specs.Meanings.{means}
 use Rattle.match_model.specs.declared.Width.{Width}
-use Rattle.type_table.specs.declared.table.TypeTable.{TypeTable}
-use Rattle.type_table.specs.Tables.{IsTableOf, table_program}
+use Rattle.type_table.specs.declared.draft.Draft.{Draft}
+use Rattle.type_table.specs.Possible.{program_in}
+use Rattle.type_table.specs.Tables.{IsDraftOf}
 use Rattle.type_names.specs.Imports.{form_kind}
 use Rattle.type_table.specs.declared.nodes.Node.{Node}
 use Rattle.type_table.specs.declared.entries.FieldEntry.{FieldEntry}
@@ -183,15 +184,16 @@ pub told_more : (names : Means) (items : List Item) (i : ℕ) (item : Item) → 
 told_more names items i item lt is =
     ap (items_told names) (front_more item_view items i item lt is) ∙ told_push names (map item_view (take i items)) (item_view item) i (length_front item_view items i lt)
 
-told_items : (names : Means) (n : ℕ) (items : List ItemTree) → map (λ x. x.item) (map (λ p. item_told names p.0 p.1) (enumerate_from n items)) ≡ map (item_of names) items
+pub told_items : (names : Means) (n : ℕ) (items : List ItemTree) → map (λ x. x.item) (map (λ p. item_told names p.0 p.1) (enumerate_from n items)) ≡ map (item_of names) items
 told_items names n [] = refl
 told_items names n (i ∷ items) = ap (λ is. item_of names i ∷ is) (told_items names (n + 1) items)
 
--- a table's program is that of its file
-pub program_is : (items : List ItemTree) (width : Width) (t : TypeTable) → IsTableOf items width t → table_program t ≡ program_of items width
-program_is items width t h =
-    ap (λ (is : List MItem). program is t.width) (ap (map {B = MItem} (λ x. x.item)) h.told ∙ told_items (means items) 0 items)
-    ∙ ap (λ (w : Width). program (map (item_of (means items)) items) w) h.width_is
+-- a draft's program is that of its file
+pub program_is : (items : List ItemTree) (width : Width) (d : Draft) → IsDraftOf items width d → program_in width d.nodes.keys d.items.items ≡ program_of items width
+program_is items width d h =
+    ap (λ (is : List MItem). program is)
+    (sym (map_map {C = MItem} (λ x. x.item) (entry_told (types_in d.nodes.keys)) d.items.items)
+    ∙ (ap (map {B = MItem} (λ x. x.item)) h.told ∙ told_items (means items) 0 items))
   where
-    program : List MItem → Width → MProgram
-    program is w = record { items = is; width = w }
+    program : List MItem → MProgram
+    program is = record { items = is; width = width }

@@ -1,4 +1,4 @@
--- The types of a whole table have fewer than 2^32 parts and variants, and each variant fewer than 2^32 fields.
+-- The types of a table have fewer than 2^32 parts and variants, and each variant fewer than 2^32 fields.
 use Rattle.std.proofs.Common.{◌≡◌, ℕ, ◌<◌, zero, suc, true, List, map, Some, None, Option, length, refl, ap, ◌∙◌, arith}
 use Rattle.std.specs.Prelude.{slice_get, option_map}
 use Rattle.std.proofs.lemmas.Bool.{ltb-true}
@@ -14,7 +14,7 @@ use Rattle.type_table.specs.declared.entries.Entry.{Entry}
 use Rattle.type_table.specs.declared.entries.Entry.TheVariants as entries
 use Rattle.type_table.specs.Entries.{entry_told, variant_entry}
 use Rattle.type_table.specs.Known.{IsFew}
-use Rattle.type_table.specs.Tables.{IsWhole, IsOf, table_types, table_type, table_program, count_of_item, count_of_type, fields_of_type}
+use Rattle.type_table.specs.Tables.{IsOf, table_types, table_type, table_program, count_of_item, count_of_type, fields_of_type}
 use Rattle.type_table.proofs.KindLemmas.{program_at}
 use Rattle.type_table.proofs.SoundTypes.{holds_at, fields_few, items_few}
 use Rattle.type_table.proofs.EmptyTypes.{same, rust_types}
@@ -35,7 +35,7 @@ entry_count_few types (entries.Enum id name later variants) few =
 entry_count_few types (entries.Function param deref) few = none_few
 entry_count_few types entries.Import few = none_few
 
-module _ (t : TypeTable) (whole : IsWhole t) where
+module _ (t : TypeTable) where
   -- the same of the item with this number
   item_count_few : (i : ℕ) → count_of_item (slice_get (table_program t).items i) < 4294967296
   item_count_few i = by (slice_get t.items.items i) refl
@@ -49,7 +49,7 @@ module _ (t : TypeTable) (whole : IsWhole t) where
           let count : count_of_item (slice_get (table_program t).items i) ≡ count_of_item (Some (entry_told (table_types t) x).item) =
           ap count_of_item (program_at t i ∙ ap (option_map {U = MItem} (λ e. (entry_told (table_types t) e).item)) e) in
           let few : count_of_item (Some (entry_told (table_types t) x).item) < 4294967296 =
-          entry_count_few (table_types t) x (holds_at IsFew t.items.items (recursion_from_All IsFew t.items.items whole.few) i x e) in
+          entry_count_few (table_types t) x (holds_at IsFew t.items.items (recursion_from_All IsFew t.items.items t.whole.few) i x e) in
           omega (arith, count, few)
 
   -- how many fields a variant of the item with this number has
@@ -59,8 +59,8 @@ module _ (t : TypeTable) (whole : IsWhole t) where
       by : (o : Option MTypes) → item_types (slice_get (table_program t).items i) k ≡ o → count_of_types o < 4294967296
       by None e = none_few
       by (Some ts) e =
-          items_few (table_types t) t.items.items (recursion_from_All IsFew t.items.items whole.few) i k ts
-          (ap (λ (is : List MItem). item_types (slice_get is i) k) (same t whole) ∙ e)
+          items_few (table_types t) t.items.items (recursion_from_All IsFew t.items.items t.whole.few) i k ts
+          (ap (λ (is : List MItem). item_types (slice_get is i) k) (same t) ∙ e)
 
   typed_count_few : (ty : MType) → is_type (table_program t) ty ≡ true → count_of_type (table_program t) ty < 4294967296
   typed_count_few BoolType h = none_few
@@ -110,8 +110,8 @@ module _ (t : TypeTable) (whole : IsWhole t) where
 
   -- how many parts or variants a type of the table has
   pub count_few : (ty : TyId) → IsOf t ty → count_of_type (table_program t) (table_type t ty) < 4294967296
-  count_few ty of = typed_count_few (table_type t ty) (rust_types t whole ty of)
+  count_few ty of = typed_count_few (table_type t ty) (rust_types t ty of)
 
   -- how many fields a variant of it has
   pub fields_of_few : (ty : TyId) → IsOf t ty → (k : ℕ) → fields_of_type (table_program t) (table_type t ty) k < 4294967296
-  fields_of_few ty of k = typed_fields_few (table_type t ty) k (rust_types t whole ty of)
+  fields_of_few ty of k = typed_fields_few (table_type t ty) k (rust_types t ty of)

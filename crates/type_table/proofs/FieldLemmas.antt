@@ -3,6 +3,8 @@ use Rattle.std.proofs.Common.{◌≡◌, ℕ, Bool, true, false, cond, List, [],
 use Rattle.std.specs.Prelude.{slice_get, nat_lt, nat_eq, option_map}
 use Rattle.std.specs.List.{list_all}
 use Rattle.std.proofs.lemmas.Bool.{and_parts}
+use Rattle.match_model.specs.declared.IntKind.{IntKind}
+use Rattle.match_model.specs.declared.IntKind.TheVariants as ints
 use Rattle.match_model.specs.Types.{MType, BoolType, CharType, StrType, NeverType, IntType, OpaqueType, PointType, SliceType, ArrayType, TupleType, OptionOwner, ResultOwner, NamedType, no_types, more_types, types_list, types_of}
 use Rattle.match_model.specs.Declarations.{MProgram, variant_types, form_types, variants_of}
 use Rattle.type_names.specs.declared.meanings.Base.{Base}
@@ -11,34 +13,36 @@ use Rattle.type_names.specs.declared.meanings.FormKind.{FormKind}
 use Rattle.type_names.specs.declared.meanings.FormKind.TheVariants as form_kinds
 use Rattle.type_names.specs.Views.{base_view}
 use Rattle.type_names.proofs.Variants.{get_map}
-use Rattle.type_table.specs.declared.table.TypeTable.{TypeTable}
-use Rattle.type_table.specs.declared.table.TyId.{TyId}
 use Rattle.type_table.specs.declared.entries.VariantEntry.{VariantEntry}
 use Rattle.type_table.specs.declared.entries.FieldEntry.{FieldEntry}
 use Rattle.type_table.specs.Nodes.{type_at}
 use Rattle.type_table.specs.Entries.{variant_entry, field_entry, form_with}
-use Rattle.type_table.specs.Tables.{table_types, table_type, field_type, fields_of_type, type_variant, variant_name_of, field_name_of, part_of, field_number, number_with}
+use Rattle.type_table.specs.Tables.{field_type, fields_of_type, type_variant, variant_name_of, field_name_of, part_of, field_number, number_with}
 use Rattle.type_table.specs.Readers.{type_owner, behind}
 use Rattle.type_table.specs.Readings.{tuple_part, option_part, result_part, part_type}
 use Rattle.type_table.proofs.TypeNodes.{list_back}
 
+-- what holds of each type without arguments
+pub base_cases : (P : MType → Type 0) → P BoolType → P CharType → P StrType → P NeverType → ((kind : IntKind) → P (IntType kind)) → (b : Base) → P (base_view b)
+base_cases P bool char str never int bases.Bool = bool
+base_cases P bool char str never int bases.Char = char
+base_cases P bool char str never int bases.Str = str
+base_cases P bool char str never int bases.Never = never
+base_cases P bool char str never int bases.U8 = int ints.U8
+base_cases P bool char str never int bases.U16 = int ints.U16
+base_cases P bool char str never int bases.U32 = int ints.U32
+base_cases P bool char str never int bases.U64 = int ints.U64
+base_cases P bool char str never int bases.U128 = int ints.U128
+base_cases P bool char str never int bases.USize = int ints.USize
+base_cases P bool char str never int bases.I8 = int ints.I8
+base_cases P bool char str never int bases.I16 = int ints.I16
+base_cases P bool char str never int bases.I32 = int ints.I32
+base_cases P bool char str never int bases.I64 = int ints.I64
+base_cases P bool char str never int bases.I128 = int ints.I128
+base_cases P bool char str never int bases.ISize = int ints.ISize
+
 pub base_field : (program : MProgram) (b : Base) (k i : ℕ) → None ≡ field_type program (base_view b) k i
-base_field program bases.Bool k i = refl
-base_field program bases.Char k i = refl
-base_field program bases.Str k i = refl
-base_field program bases.Never k i = refl
-base_field program bases.U8 k i = refl
-base_field program bases.U16 k i = refl
-base_field program bases.U32 k i = refl
-base_field program bases.U64 k i = refl
-base_field program bases.U128 k i = refl
-base_field program bases.USize k i = refl
-base_field program bases.I8 k i = refl
-base_field program bases.I16 k i = refl
-base_field program bases.I32 k i = refl
-base_field program bases.I64 k i = refl
-base_field program bases.I128 k i = refl
-base_field program bases.ISize k i = refl
+base_field program b k i = base_cases (λ t. None ≡ field_type program t k i) refl refl refl refl (λ kind. refl) b
 
 no_zero : (k : ℕ) → nat_eq (suc k) 0 ≡ false
 no_zero k = grind arith
@@ -103,46 +107,11 @@ entry_field types v i = by v.form
     by form_kinds.Tuple = listed
     by form_kinds.Brace = listed
 
--- the types of numbers that may be there
-pub by_index : (t : TypeTable) (o : Option TyId) → option_map (table_type t) o ≡ option_map (type_at (table_types t)) (option_map (λ id. id.index) o)
-by_index t None = refl
-by_index t (Some id) = refl
-
 pub base_owner : (b : Base) → None ≡ type_owner (base_view b)
-base_owner bases.Bool = refl
-base_owner bases.Char = refl
-base_owner bases.Str = refl
-base_owner bases.Never = refl
-base_owner bases.U8 = refl
-base_owner bases.U16 = refl
-base_owner bases.U32 = refl
-base_owner bases.U64 = refl
-base_owner bases.U128 = refl
-base_owner bases.USize = refl
-base_owner bases.I8 = refl
-base_owner bases.I16 = refl
-base_owner bases.I32 = refl
-base_owner bases.I64 = refl
-base_owner bases.I128 = refl
-base_owner bases.ISize = refl
+base_owner b = base_cases (λ t. None ≡ type_owner t) refl refl refl refl (λ kind. refl) b
 
 pub base_behind : (b : Base) → None ≡ behind (base_view b)
-base_behind bases.Bool = refl
-base_behind bases.Char = refl
-base_behind bases.Str = refl
-base_behind bases.Never = refl
-base_behind bases.U8 = refl
-base_behind bases.U16 = refl
-base_behind bases.U32 = refl
-base_behind bases.U64 = refl
-base_behind bases.U128 = refl
-base_behind bases.USize = refl
-base_behind bases.I8 = refl
-base_behind bases.I16 = refl
-base_behind bases.I32 = refl
-base_behind bases.I64 = refl
-base_behind bases.I128 = refl
-base_behind bases.ISize = refl
+base_behind b = base_cases (λ t. None ≡ behind t) refl refl refl refl (λ kind. refl) b
 
 -- a type that is not named has no variants
 pub no_variants : (program : MProgram) (t : MType) → None ≡ type_owner t → [] ≡ variants_of program t
@@ -189,22 +158,7 @@ result_unnamed program (t ∷ u ∷ []) (suc zero) i e = refl
 result_unnamed program (t ∷ u ∷ []) (suc (suc k)) i e = refl
 
 pub base_fields : (program : MProgram) (b : Base) (k : ℕ) → 0 ≡ fields_of_type program (base_view b) k
-base_fields program bases.Bool k = refl
-base_fields program bases.Char k = refl
-base_fields program bases.Str k = refl
-base_fields program bases.Never k = refl
-base_fields program bases.U8 k = refl
-base_fields program bases.U16 k = refl
-base_fields program bases.U32 k = refl
-base_fields program bases.U64 k = refl
-base_fields program bases.U128 k = refl
-base_fields program bases.USize k = refl
-base_fields program bases.I8 k = refl
-base_fields program bases.I16 k = refl
-base_fields program bases.I32 k = refl
-base_fields program bases.I64 k = refl
-base_fields program bases.I128 k = refl
-base_fields program bases.ISize k = refl
+base_fields program b k = base_cases (λ t. 0 ≡ fields_of_type program t k) refl refl refl refl (λ kind. refl) b
 
 -- how many fields the variants of tuples and built-in enums have
 pub tuple_count : (program : MProgram) (parts : List MType) (k n : ℕ) → n ≡ cond (nat_eq k 0) (length parts) 0 → n ≡ fields_of_type program (TupleType (types_of parts)) k

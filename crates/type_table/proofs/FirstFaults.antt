@@ -9,6 +9,8 @@ use Rattle.match_model.specs.RustTypes.{is_declared}
 use Rattle.decl_syntax.specs.Items.{ItemTree, item_view}
 use Rattle.decl_syntax.specs.declared.items.Item.{Item}
 use Rattle.type_names.specs.Meanings.{means}
+use Rattle.type_names.specs.FindingViews.{IsFinder}
+use Rattle.type_names.specs.Views.{AreNames}
 use Rattle.type_names.specs.Written.{item_of, program_of}
 use Rattle.type_names.specs.NameRules.{is_named_twice}
 use Rattle.type_names.specs.Rules.{item_test}
@@ -16,35 +18,54 @@ use Rattle.type_names.specs.declared.item_rules.ItemRule.TheVariants as item_rul
 use Rattle.type_names.specs.declared.type_rules.TypeRule.TheVariants as type_rules
 use Rattle.type_table.specs.declared.nodes.Node.{Node}
 use Rattle.type_table.specs.declared.entries.Entry.{Entry}
+use Rattle.type_table.specs.declared.draft.Draft.{Draft}
 use Rattle.type_table.specs.declared.table.TypeTable.{TypeTable}
-use Rattle.type_table.specs.Entries.{entry_told}
-use Rattle.type_table.specs.Faults.{Breaks, name_twice, variant_twice, field_twice, unknown_type, sizeless_place, contains_itself, array_length, argument_count, bad_use, unsupported_attribute, endless_type, IsFirstFault, LeastFault}
+use Rattle.type_table.specs.Nodes.{types_in}
+use Rattle.type_table.specs.Entries.{Told, entry_told, items_told}
+use Rattle.type_table.specs.Empty.{NoneEndless}
+use Rattle.type_table.specs.Faults.{Breaks, name_twice, variant_twice, field_twice, unknown_type, sizeless_place, contains_itself, array_length, argument_count, bad_use, unsupported_attribute, endless_type, IsEndless, BreaksNone, IsFirstFault, LeastFault}
 use Rattle.type_table.specs.Possible.{program_in}
 use Rattle.type_table.specs.Readings.{fault_pair}
-use Rattle.type_table.specs.Tables.{IsTableOf, table_types, table_program}
+use Rattle.type_table.specs.Tables.{IsDraftOf, IsTableOf, table_told}
 use Rattle.type_table.proofs.AllRules.{passes_within}
 use Rattle.type_table.proofs.ByValue.{contains_within}
 use Rattle.type_table.proofs.Clauses.{get_there}
-use Rattle.type_table.proofs.EntryLemmas.{program_is, map_map}
+use Rattle.type_table.proofs.EntryLemmas.{program_is, told_items}
 use Rattle.type_table.proofs.NodeLemmas.{get_below}
 
--- what the table's entries say is what its file says
-pub program_in_is : (items : List ItemTree) (width : Width) (t : TypeTable) → IsTableOf items width t → program_in width t.nodes.keys t.items.items ≡ program_of items width
-program_in_is items width t h =
-    ap (λ (is : List MItem). program is width) (sym (map_map {C = MItem} (λ x. x.item) (entry_told (table_types t)) t.items.items))
-    ∙ (ap (λ (w : Width). program (table_program t).items w) (sym h.width_is) ∙ program_is items width t h)
+-- the program of slices that have what the draft and the file have
+pub program_read : (items : List ItemTree) (width : Width) (d : Draft) (ks : List Node) (es : List Entry) (is : List Item) →
+    IsDraftOf items width d → ks ≡ d.nodes.keys → es ≡ d.items.items → map item_view is ≡ items → program_in width ks es ≡ program_of (map item_view is) width
+program_read items width d ks es is h keys entries written =
+    ap (λ (ns : List Node). program_in width ns es) keys
+    ∙ (ap (program_in width d.nodes.keys) entries
+    ∙ (program_is items width d h
+    ∙ ap (λ (xs : List ItemTree). program_of xs width) (sym written)))
+
+-- where no item breaks a rule, none is endless
+pub none_endless : (items : List ItemTree) (width : Width) (d : Draft) → IsDraftOf items width d → BreaksNone items width → NoneEndless (program_in d.width d.nodes.keys d.items.items)
+none_endless items width d h none i endless =
+    none i 36 (endless_type refl (subst (λ (p : MProgram). IsEndless p i) (ap (λ (w : Width). program_in w d.nodes.keys d.items.items) h.width_is ∙ program_is items width d h) endless))
+
+-- the table of such a draft is that of the file
+pub draft_table : (items : List ItemTree) (width : Width) (d : Draft) (t : TypeTable) → IsDraftOf items width d → BreaksNone items width →
+    t.nodes.keys ≡ d.nodes.keys → t.items.items ≡ d.items.items → t.width ≡ d.width → t.names ≡ d.names → t.finder ≡ d.finder → IsTableOf items width t
+draft_table items width d t h none nodes entries same_width names finder =
+    let told : table_told t ≡ items_told (means items) items =
+    ap (λ (ks : List Node). map (entry_told (types_in ks)) t.items.items) nodes ∙ (ap (map {B = Told} (entry_told (types_in d.nodes.keys))) entries ∙ h.told) in
+    let wide : t.width ≡ width = same_width ∙ h.width_is in
+    record {
+      told = told;
+      width_is = wide;
+      names = subst (AreNames items) (sym names) h.names;
+      finder = subst (IsFinder items) (sym finder) h.finder;
+      program = ap (λ (is : List MItem). program is t.width) (ap (map {B = MItem} (λ x. x.item)) told ∙ told_items (means items) 0 items)
+          ∙ ap (λ (w : Width). program (map (item_of (means items)) items) w) wide;
+      unbroken = none;
+    }
   where
     program : List MItem → Width → MProgram
     program is w = record { items = is; width = w }
-
--- the same of slices that have what the table and the file have
-pub program_read : (items : List ItemTree) (width : Width) (t : TypeTable) (ks : List Node) (es : List Entry) (is : List Item) →
-    IsTableOf items width t → ks ≡ t.nodes.keys → es ≡ t.items.items → map item_view is ≡ items → program_in width ks es ≡ program_of (map item_view is) width
-program_read items width t ks es is h keys entries written =
-    ap (λ (ns : List Node). program_in width ns es) keys
-    ∙ (ap (program_in width t.nodes.keys) entries
-    ∙ (program_in_is items width t h
-    ∙ ap (λ (xs : List ItemTree). program_of xs width) (sym written)))
 
 -- an item that breaks a rule is there
 pub broken_below : (items : List ItemTree) (width : Width) (i rule : ℕ) → Breaks items width i rule → i < length items
@@ -89,6 +110,10 @@ first_fault_is items width rule i at item there place least = record {
 pub found_least : (items : List ItemTree) (width : Width) (best : Option (ℕ × ℕ)) (rule i : ℕ) → best ≡ Some (rule, i) →
     LeastFault (Breaks items width) (option_map fault_pair best) → LeastFault (Breaks items width) (Some (rule, i))
 found_least items width best rule i is least = subst (λ (b : Option (ℕ × ℕ)). LeastFault (Breaks items width) (option_map fault_pair b)) is least
+
+-- none is found where none breaks a rule
+pub none_broken : (items : List ItemTree) (width : Width) (best : Option (ℕ × ℕ)) → best ≡ None → LeastFault (Breaks items width) (option_map fault_pair best) → BreaksNone items width
+none_broken items width best is least = subst (λ (b : Option (ℕ × ℕ)). LeastFault (Breaks items width) (option_map fault_pair b)) is least
 
 -- its item is among those of the file
 pub found_below : (items : List Item) (width : Width) (best : Option (ℕ × ℕ)) (rule i : ℕ) → best ≡ Some (rule, i) →

@@ -8,7 +8,6 @@ use Rattle.match_model.specs.Declarations.{MItem, form_types, item_variants, ite
 use Rattle.type_names.specs.declared.meanings.FormKind.{FormKind}
 use Rattle.type_names.specs.declared.meanings.FormKind.TheVariants as form_kinds
 use Rattle.type_names.proofs.Variants.{get_map}
-use Rattle.std.proofs.lemmas.Option.{slice_get_read}
 use Rattle.type_table.specs.declared.nodes.Node.{Node}
 use Rattle.type_table.specs.declared.nodes.Head.{Head}
 use Rattle.type_table.specs.declared.table.TypeTable.{TypeTable}
@@ -20,18 +19,18 @@ use Rattle.type_table.specs.declared.kinds.TyKind.{TyKind}
 use Rattle.type_table.specs.declared.kinds.TyKind.TheVariants as kinds
 use Rattle.type_table.specs.Nodes.{head_type, type_at, type_there, are_below, fits_head}
 use Rattle.type_table.specs.Entries.{Told, entry_told, variant_entry, field_entry, form_with}
-use Rattle.type_table.specs.Tables.{IsWhole, table_types, table_type, table_told, table_program, parts_at, type_parts, OnePart, KindIs, ItemKindIs, is_struct, count_of_item, entry_count, fields_of_entry, fields_with}
+use Rattle.type_table.specs.Tables.{table_types, table_type, table_told, table_program, parts_at, type_parts, KindIs, ItemKindIs, is_struct, count_of_item, entry_count, fields_of_entry, fields_with}
 use Rattle.type_table.proofs.NodeLemmas.{type_of_node}
 use Rattle.type_table.proofs.TypeNodes.{list_back}
 
-module _ (t : TypeTable) (ty : TyId) (n : Node) (whole : IsWhole t) (at : slice_get t.nodes.keys ty.index ≡ Some n) where
+module _ (t : TypeTable) (ty : TyId) (n : Node) (at : slice_get t.nodes.keys ty.index ≡ Some n) where
   pub parts_are : type_parts t ty ≡ map (type_at (table_types t)) n.parts.items
   parts_are = ap (parts_at (table_types t)) at
 
   -- a type by its node's head
   pub shape_of : (h : Head) → n.head ≡ h → table_type t ty ≡ head_type h (type_parts t ty)
   shape_of h e =
-      ap type_there (type_of_node t.nodes.keys ty.index n whole.are at)
+      ap type_there (type_of_node t.nodes.keys ty.index n t.whole.are at)
       ∙ (ap (λ (g : Head). head_type g (map (type_at (table_types t)) n.parts.items)) e
       ∙ ap (head_type h) (sym parts_are))
 
@@ -39,18 +38,10 @@ module _ (t : TypeTable) (ty : TyId) (n : Node) (whole : IsWhole t) (at : slice_
   pub parts_fit : (h : Head) → n.head ≡ h → fits_head h (length (type_parts t ty)) ≡ true
   parts_fit h e =
       let count : length (type_parts t ty) ≡ length n.parts.items = ap length parts_are ∙ rw length-map refl in
-      ap (fits_head h) count ∙ (ap (λ (g : Head). fits_head g (length n.parts.items)) (sym e) ∙ (whole.are ty.index n at).1)
+      ap (fits_head h) count ∙ (ap (λ (g : Head). fits_head g (length n.parts.items)) (sym e) ∙ (t.whole.are ty.index n at).1)
 
 pub count_is : (n k : ℕ) → nat_eq n k ≡ true → n ≡ k
 count_is n k h = eqb-true n k h
-
--- the first of parts that are below a number
-pub first_below : (parts : List ℕ) (n m p : ℕ) → are_below parts n ≡ true → n ≤ m → slice_get parts 0 ≡ Some p → p < m
-first_below [] n m p below le h = absurd cc
-first_below (q ∷ qs) n m p below le h =
-    let same : q ≡ p = cc in
-    let lt : q < n = ltb-true q n (and_parts (nat_lt q n) (are_below qs n) below).0 in
-    omega arith
 
 pub count_back : (ts : List MType) → length (types_list (types_of ts)) ≡ length ts
 count_back ts = ap length (list_back ts)
@@ -111,9 +102,3 @@ pub get_past : {A : Type 0} (xs : List A) (i : ℕ) → length xs ≤ i → slic
 get_past [] i le = refl
 get_past (x ∷ xs) zero le = absurd (omega arith)
 get_past (x ∷ xs) (suc i) le = get_past xs i (omega arith)
-
--- the first of one part
-pub first_there : (t : TypeTable) (ty : TyId) (n : Node) (p : ℕ) → OnePart t ty → slice_get t.nodes.keys ty.index ≡ Some n → p ≡ get_or n.parts.items 0 p → slice_get n.parts.items 0 ≡ Some p
-first_there t ty n p one at is =
-    let count : length (type_parts t ty) ≡ length n.parts.items = ap (λ (o : Option Node). length (parts_at (table_types t) o)) at ∙ rw length-map refl in
-    slice_get_read n.parts.items (length n.parts.items) 0 p refl (omega arith) is

@@ -4,12 +4,14 @@ pub mod TypeNodes
 pub mod EntryLemmas
 pub mod KindLemmas
 pub mod FieldLemmas
+pub mod PartLemmas
 pub mod OneNumber
 pub mod LeastFaults
 pub mod Clauses
 pub mod EdgeLists
 pub mod ByValue
 pub mod BodyLemmas
+pub mod Growing
 pub mod ValueLemmas
 pub mod Unsure
 pub mod UnsureFound
@@ -20,6 +22,7 @@ pub mod SoundTypes
 pub mod EmptyVariants
 pub mod EmptyTypes
 pub mod FewParts
+pub mod ContextLemmas
 pub mod PathLemmas
 pub mod FoundForms
 pub mod AllRules

@@ -115,7 +115,7 @@ module _ (items : List ItemTree) (width : Width) (t : TypeTable) (is : IsTableOf
   few_at i None at = none_few
   few_at i (Some x) at =
       let m = mapped (entry_told (table_types t)) t.items.items i (item_told (means items) i x) (ap (λ (ts : List Told). slice_get ts i) is.told ∙ told_at (means items) items i x at) in
-      let few : IsFew m.0 = holds_at IsFew t.items.items (recursion_from_All IsFew t.items.items is.whole.few) i m.0 m.1 in
+      let few : IsFew m.0 = holds_at IsFew t.items.items (recursion_from_All IsFew t.items.items t.whole.few) i m.0 m.1 in
       let item : (entry_told (table_types t) m.0).item ≡ item_of (means items) x = ap (λ (y : Told). y.item) m.2 in
       few_declared (means items) _ x.kind (subst (λ (y : MItem). count_of_item (Some y) < 4294967296) item (entry_count_few (table_types t) m.0 few))
 
@@ -134,7 +134,7 @@ module _ (items : List ItemTree) (width : Width) (t : TypeTable) (is : IsTableOf
           let m = mapped (entry_told (table_types t)) t.items.items i (item_told (means items) i x) (ap (λ (ts : List Told). slice_get ts i) is.told ∙ told_at (means items) items i x at) in
           let s = struct_entry (table_types t) (means items) i _ x.kind m.0 h (ap (λ (y : Told). y.item) m.2) (ap (λ (y : Told). y.own) m.2) in
           let there : slice_get t.items.items i ≡ Some (entries.Struct s.0 s.1) = m.1 ∙ ap Some s.2 in
-          let below = all_at (entry_below (length t.nodes.keys)) t.items.items i (entries.Struct s.0 s.1) is.whole.below there in (
+          let below = all_at (entry_below (length t.nodes.keys)) t.items.items i (entries.Struct s.0 s.1) t.whole.below there in (
             record { index = s.0 },
             ap (λ (o : Option Entry). found_at (struct_id o)) there,
             ltb-true s.0 (length t.nodes.keys) (and_parts (nat_lt s.0 (length t.nodes.keys)) (variant_below (length t.nodes.keys) s.1) below).0,

@@ -14,7 +14,8 @@ use Rattle.match_model.specs.Typing.{is_value, are_values, all_are_values, some_
 use Rattle.match_model.specs.Emptiness.{mark_of}
 use Rattle.match_model.proofs.Basics.{both, and_true, nat_itself}
 use Rattle.match_model.proofs.Inhabited.{Found, AllFound}
-use Rattle.type_table.specs.Possible.{may_be, may_all_be, is_unseen, item_may_be, GrownAt, none_yet, one_more}
+use Rattle.type_table.specs.Possible.{may_be, may_all_be, is_unseen, item_may_be}
+use Rattle.type_table.proofs.Growing.{GrownAt, none_yet, one_more, set_mark, no_mark}
 
 abbrev mutual
   -- a named type has as many arguments as its variants ask for
@@ -151,18 +152,6 @@ some_variant p (v ∷ vs) h = go (p v) refl h (some_variant p vs)
     go : (b : Bool) → p v ≡ b → (b || list_any p vs) ≡ true → (list_any p vs ≡ true → Passes p vs) → Passes p (v ∷ vs)
     go true e h rest = (0, v, refl, e)
     go false e h rest = further (rest h)
-
-set_mark : (marks : List Bool) (i j : ℕ) → mark_of (slice_get (slice_set marks i true) j) ≡ true → (j ≡ i) ⊎ (mark_of (slice_get marks j) ≡ true)
-set_mark [] i j h = inr h
-set_mark (m ∷ marks) zero zero h = inl refl
-set_mark (m ∷ marks) zero (suc j) h = inr h
-set_mark (m ∷ marks) (suc i) zero h = inr h
-set_mark (m ∷ marks) (suc i) (suc j) h = elim (set_mark marks i j h) [ inl e ↦ inl (ap suc e) | inr e ↦ inr e ]
-
-no_mark : (n j : ℕ) → mark_of (slice_get (replicate n false) j) ≡ true → ⊥
-no_mark zero j h = untrue h
-no_mark (suc n) zero h = untrue h
-no_mark (suc n) (suc j) h = no_mark n j h
 
 node_found : (program : MProgram) (t : MType) (k : ℕ) (ts : MTypes) → node_types program t k ≡ Some ts → AllFound program false ts → (vs : MValues) × (is_value program false t (Node k vs) ≡ true)
 node_found program t k ts e (vs, h) = (vs, by (node_types program t k) e)

@@ -19,7 +19,8 @@ use Rattle.type_table.specs.declared.entries.Entry.{Entry}
 use Rattle.type_table.specs.Nodes.{AreNodes, types_in, type_at, type_there, node_type}
 use Rattle.type_table.specs.Entries.{entry_told, entry_below}
 use Rattle.type_table.specs.Bodies.{entry_bodies, bodies_of, said, said_from, clause_pair}
-use Rattle.type_table.specs.Possible.{may_be, item_may_be, items_in, GrownAt, none_yet, one_more, IsStableAt, TellsValues}
+use Rattle.type_table.specs.Possible.{may_be, item_may_be, items_in, IsStableAt, TellsValues}
+use Rattle.type_table.proofs.Growing.{GrownAt, none_yet, one_more, grown_least}
 use Rattle.type_table.proofs.NodeLemmas.{type_of_node, get_below}
 use Rattle.type_table.proofs.BodyLemmas.{some_body, atom_says, item_says, node_says, node_is, item_is, says_still, some_mono, entry_within, node_within, lower}
 
@@ -379,8 +380,8 @@ module _ (sure : Bool) (nodes : List Node) (entries : List Entry) (are : AreNode
 
     pub tells_values : TellsValues sure nodes entries atoms
     tells_values = record {
-      grown = good.1.0;
       stable = stable;
+      least = grown_least sure items marks good.1.0;
       len = model.len;
       items_are = λ i lt. sym (front_mark (length entries) atoms i lt);
       nodes_are = λ n lt. two_ways (held atoms (length entries + n)) (may_be sure marks (type_at types n))

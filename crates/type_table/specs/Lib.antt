@@ -5,9 +5,12 @@ pub mod Bodies
 pub mod Edges
 pub mod Possible
 pub mod Known
+pub mod Empty
+pub mod Whole
 pub mod Tables
+pub mod Parts
+pub mod TableContext
 pub mod Paths
 pub mod Marks
-pub mod Empty
 pub mod Readers
 pub mod Faults

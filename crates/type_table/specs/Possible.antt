@@ -1,8 +1,8 @@
--- No meaning: a reading of how it is found which types have values: each item has a mark, which is set once a value of it is known by
--- the marks before. What it means that a type is empty is told by specs/Empty.antt. `sure` is true where the place is sure to hold a
+-- No meaning: a reading of how it is found which types have values: each item has a mark, which is set where a value of it is known by
+-- the marks. What it means that a type is empty is told by specs/Empty.antt. `sure` is true where the place is sure to hold a
 -- valid value. Where it is not, `!` and an enum without variants have their bare unseen value, and a reference asks for a value of
 -- what it refers to.
-use Rattle.std.specs.Prelude.{◌≡◌, ℕ, ◌+◌, ◌<◌, Bool, true, false, not, ◌||◌, ◌&&◌, List, [], ◌∷◌, map, length, replicate, take, nat_eq, Option, Some, None, slice_get, slice_set, slice_index_or}
+use Rattle.std.specs.Prelude.{◌≡◌, ℕ, ◌+◌, ◌<◌, Bool, true, false, not, ◌||◌, ◌&&◌, List, [], ◌∷◌, map, length, take, nat_eq, Option, Some, None, slice_get, slice_index_or}
 use Rattle.std.specs.List.{list_any}
 use Rattle.match_model.specs.declared.Width.{Width}
 use Rattle.match_model.specs.Types.{DeclaredItem, OptionOwner, ResultOwner, MType, NeverType, TupleType, PointType, ArrayType, NamedType, MTypes, no_types, more_types}
@@ -48,15 +48,14 @@ item_may_be sure marks (Some (StructItem v)) = may_all_be sure marks (form_types
 item_may_be sure marks (Some (EnumItem name marked variants)) =
     marked || (is_unseen sure variants || list_any (λ v. may_all_be sure marks (form_types v.form)) variants)
 
--- marks that come about one by one, an item being marked only where it has a value by those before
-pub data GrownAt (sure : Bool) (items : List MItem) : (marks : List Bool) → Type 0 where
-  none_yet : GrownAt sure items (replicate (length items) false)
-  one_more : (marks : List Bool) (i : ℕ) → GrownAt sure items marks →
-      item_may_be sure marks (slice_get items i) ≡ true → GrownAt sure items (slice_set marks i true)
-
 -- no item is left to mark
 abbrev pub IsStableAt : (sure : Bool) → List MItem → (marks : List Bool) → Type 0
 IsStableAt sure items marks = (i : ℕ) → item_may_be sure marks (slice_get items i) ≡ true → mark_of (slice_get marks i) ≡ true
+
+-- each item that is marked is marked too by all marks by which no item is left
+abbrev pub IsLeastAt : (sure : Bool) → List MItem → (marks : List Bool) → Type 0
+IsLeastAt sure items marks =
+    (others : List Bool) → IsStableAt sure items others → (i : ℕ) → mark_of (slice_get marks i) ≡ true → mark_of (slice_get others i) ≡ true
 
 -- what the entries declare
 abbrev pub items_in : List Node → List Entry → List MItem
@@ -66,11 +65,11 @@ items_in nodes entries = map (λ e. (entry_told (types_in nodes) e).item) entrie
 abbrev pub program_in : Width → List Node → List Entry → MProgram
 program_in width nodes entries = record { items = items_in nodes entries; width = width }
 
--- the atoms tell of each item and of each node whether it has a value. Those of the items, which stand first, are marks that came
--- about and are stable
+-- the atoms tell of each item and of each node whether it has a value. Those of the items, which stand first, are the least marks by
+-- which no item is left
 pub record TellsValues (sure : Bool) (nodes : List Node) (entries : List Entry) (atoms : List Bool) : Type 0 where
-  pub grown : GrownAt sure (items_in nodes entries) (take (length entries) atoms)
   pub stable : IsStableAt sure (items_in nodes entries) (take (length entries) atoms)
+  pub least : IsLeastAt sure (items_in nodes entries) (take (length entries) atoms)
   pub len : length atoms ≡ length entries + length nodes
   pub items_are : (i : ℕ) → i < length entries → slice_index_or atoms i false ≡ mark_of (slice_get (take (length entries) atoms) i)
   pub nodes_are : (n : ℕ) → n < length nodes →

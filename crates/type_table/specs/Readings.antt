@@ -46,7 +46,7 @@ option_part k i = if nat_eq k 1 && nat_eq i 0 then Some 0 else None
 abbrev pub result_part : (k i : ℕ) → Option ℕ
 result_part k i = if nat_lt k 2 && nat_eq i 0 then Some k else None
 
--- the part with the number that may be there
+-- the type with the number that may be there among these
 abbrev pub part_type : List MType → Option ℕ → Option MType
 part_type parts None = None
 part_type parts (Some n) = slice_get parts n

@@ -1,6 +1,5 @@
 -- What a table of types tells.
 use Rattle.std.specs.Prelude.{◌≡◌, ℕ, ◌<◌, Bool, true, false, List, [], map, length, slice_get, Option, Some, None, option_map}
-use Rattle.std.specs.List.{All, list_all}
 use Rattle.match_model.specs.declared.Width.{Width}
 use Rattle.match_model.specs.Types.{MOwner, DeclaredItem, MType, BoolType, CharType, StrType, NeverType, IntType, TupleType, PointType, SliceType, ArrayType, NamedType, MTypes, no_types, types_list, types_of}
 use Rattle.match_model.specs.Typing.{is_opaque}
@@ -10,6 +9,7 @@ use Rattle.decl_syntax.specs.Items.{ItemTree}
 use Rattle.type_names.specs.Meanings.{means}
 use Rattle.type_names.specs.FindingViews.{IsFinder}
 use Rattle.type_names.specs.Views.{AreNames, owner_view}
+use Rattle.type_names.specs.Written.{program_of}
 use Rattle.type_names.specs.declared.meanings.Owner.{Owner}
 use Rattle.type_table.specs.declared.table.TypeTable as declared_table
 use Rattle.type_table.specs.declared.table.TyId as declared_id
@@ -21,10 +21,11 @@ use Rattle.type_names.specs.declared.meanings.FormKind.TheVariants as form_kinds
 use Rattle.type_table.specs.declared.entries.VariantEntry as declared_variant
 use Rattle.type_table.specs.declared.entries.Entry.{Entry}
 use Rattle.type_table.specs.declared.entries.Entry.TheVariants as entries
-use Rattle.type_table.specs.Nodes.{AreNodes, types_in, type_at, owner_arguments}
-use Rattle.type_table.specs.Entries.{Told, entry_told, items_told, entry_below}
-use Rattle.type_table.specs.Possible.{TellsValues}
-use Rattle.type_table.specs.Known.{IsKnown, IsFew}
+use Rattle.type_table.specs.declared.draft.Draft as declared_draft
+use Rattle.type_table.specs.Nodes.{types_in, type_at, owner_arguments}
+use Rattle.type_table.specs.Entries.{Told, entry_told, items_told}
+use Rattle.type_table.specs.Faults.{BreaksNone}
+use Rattle.type_table.specs.Whole.{IsWhole}
 
 -- the types of a table, by number
 abbrev pub table_types : declared_table.TypeTable → List MType
@@ -46,21 +47,22 @@ table_told t = map (entry_told (table_types t)) t.items.items
 abbrev pub table_program : declared_table.TypeTable → MProgram
 table_program t = record { items = map (λ x. x.item) (table_told t); width = t.width }
 
--- the numbers in the table are its own, its types are of its program, and it tells which of them have values at sure places
-pub record IsWhole (t : declared_table.TypeTable) : Type 0 where
-  pub are : AreNodes t.nodes.keys
-  pub below : list_all (entry_below (length t.nodes.keys)) t.items.items ≡ true
-  pub known : All (IsKnown t.items.items) t.nodes.keys
-  pub few : All IsFew t.items.items
-  pub values : TellsValues true t.nodes.keys t.items.items t.values.items
+-- the draft of a table is that of a file with these items, for this width
+pub record IsDraftOf (items : List ItemTree) (width : Width) (d : declared_draft.Draft) : Type 0 where
+  pub whole : IsWhole d.nodes.keys d.items.items d.values.items
+  pub told : map (entry_told (types_in d.nodes.keys)) d.items.items ≡ items_told (means items) items
+  pub width_is : d.width ≡ width
+  pub names : AreNames items d.names
+  pub finder : IsFinder items d.finder
 
--- the table is that of a file with these items, for this width
+-- the table is that of a file with these items, of which none breaks a rule, for this width
 pub record IsTableOf (items : List ItemTree) (width : Width) (t : declared_table.TypeTable) : Type 0 where
-  pub whole : IsWhole t
   pub told : table_told t ≡ items_told (means items) items
   pub width_is : t.width ≡ width
   pub names : AreNames items t.names
   pub finder : IsFinder items t.finder
+  pub program : table_program t ≡ program_of items width
+  pub unbroken : BreaksNone items width
 
 -- the item is a struct
 abbrev pub is_struct : Option MItem → Bool
@@ -113,10 +115,6 @@ parts_at types (Some n) = map (type_at types) n.parts.items
 -- No meaning: the types of the parts of a type's node.
 abbrev pub type_parts : declared_table.TypeTable → declared_id.TyId → List MType
 type_parts table ty = parts_at (table_types table) (slice_get table.nodes.keys ty.index)
-
--- No meaning: the type's node has one part.
-abbrev pub OnePart : declared_table.TypeTable → declared_id.TyId → Type 0
-OnePart table ty = length (type_parts table ty) ≡ 1
 
 -- No meaning: how many fields a variant of this form has, for which so many are kept.
 abbrev pub fields_with : FormKind → ℕ → ℕ

@@ -1,15 +1,19 @@
 //! The table of a file, or the first item that breaks a rule.
-ghost use Rattle.std.specs.Prelude.{◌≡◌, IfOk, IfErr, option_map};
-ghost use Rattle.decl_syntax.specs.Items.{file_view};
-ghost use Rattle.type_names.specs.Written.{program_of};
+ghost use Rattle.std.specs.Prelude.{List, IfOk, IfErr, option_map};
+ghost use Rattle.decl_syntax.specs.Items.{ItemTree, file_view};
+ghost use Rattle.match_model.specs.declared.Width.{Width as AnyWidth};
+ghost use Rattle.type_table.specs.Empty.{NoneEndless};
 ghost use Rattle.type_table.specs.Faults.{Breaks, BreaksNone, LeastFault, IsFaultOf};
+ghost use Rattle.type_table.specs.Possible.{program_in};
 ghost use Rattle.type_table.specs.Readings.{fault_pair};
-ghost use Rattle.type_table.specs.Tables.{IsTableOf, table_program};
+ghost use Rattle.type_table.specs.Tables.{IsDraftOf, IsTableOf};
+ghost use Rattle.type_table.specs.Whole.{IsWhole};
 
 use crate::cyclic::first_cyclic;
+use crate::draft::{Draft, assemble};
 use crate::endless::first_endless;
 use crate::faults::{DeclFault, least_fault};
-use crate::table::{TypeTable, assemble};
+use crate::table::TypeTable;
 use decl_syntax::File;
 use match_model::Width;
 use no_memory::NoMemory;
@@ -21,34 +25,57 @@ impl TypeTable {
     /// memory.
     pub fn build(alloc: Global, file: &File, width: Width) -> Result<TypeTable, DeclFault>
         ensures table { IfOk result (IsTableOf (file_view file.now) width) }
-        ensures program { IfOk result (λ t. table_program t ≡ program_of (file_view file.now) width) }
-        ensures unbroken { IfOk result (λ t. BreaksNone (file_view file.now) width) }
         ensures fault { IfErr result (IsFaultOf (file_view file.now) width) }
     {
-        let table = assemble(alloc, file, width)?;
-        match table_fault(alloc, file, &table, width)? {
+        let draft = assemble(alloc, file, width)?;
+        match draft_fault(alloc, file, &draft, width)? {
             Some((rule, item)) => Err(DeclFault::Rule {
                 rule,
                 item: item as u64,
                 at: file.items[item].from,
             }),
-            None => Ok(table),
+            None => Ok(finished(draft)),
         }
     }
 }
 
 // The first item that breaks a rule, with the least rule that it breaks, as a pair of rule and item number.
-fn table_fault(
+fn draft_fault(
     alloc: Global,
     file: &File,
-    table: &TypeTable,
+    draft: &Draft,
     width: Width,
 ) -> Result<Option<(u32, usize)>, NoMemory>
-    requires { IsTableOf (file_view file.now) width table.now }
+    requires { IsDraftOf (file_view file.now) width draft.now }
     ensures { IfOk result (λ best. LeastFault (Breaks (file_view file.now) width) (option_map fault_pair best)) }
 {
-    let nodes = table.nodes.as_slice();
-    let cyclic = first_cyclic(alloc, nodes, &table.items, width)?;
-    let endless = first_endless(alloc, nodes, &table.items, width)?;
-    least_fault(alloc, &table.names, &file.items, width, cyclic, endless)
+    let nodes = draft.nodes.as_slice();
+    let cyclic = first_cyclic(alloc, nodes, &draft.items, width)?;
+    let endless = first_endless(alloc, nodes, &draft.items, width)?;
+    least_fault(alloc, &draft.names, &file.items, width, cyclic, endless)
+}
+
+// The table of a draft in which no declared type is endless.
+fn finished(draft: Draft) -> TypeTable
+    requires whole { IsWhole draft.nodes.keys draft.items.items draft.values.items }
+    requires finite { NoneEndless (program_in draft.width draft.nodes.keys draft.items.items) }
+    ensures { (items : List ItemTree) (width : AnyWidth) → IsDraftOf items width draft → BreaksNone items width
+        → IsTableOf items width result }
+{
+    let Draft {
+        width,
+        nodes,
+        items,
+        names,
+        values,
+        finder,
+    } = draft;
+    TypeTable {
+        width,
+        nodes,
+        items,
+        names,
+        values,
+        finder,
+    }
 }

@@ -1,22 +1,20 @@
 //! Which types of a table, and which variants of them, have no value where a place is sure to hold a valid one.
 ghost use Rattle.std.specs.Prelude.{◌≡◌, ◌<◌, ℕ, false, true, not, is_some};
 ghost use Rattle.match_model.specs.Declarations.{node_types};
-ghost use Rattle.type_table.specs.Empty.{NoneEndless, TellsEmpty, TellsVariantEmpty};
+ghost use Rattle.type_table.specs.Empty.{TellsEmpty, TellsVariantEmpty};
 ghost use Rattle.type_table.specs.Marks.{found_empty, found_variant_empty, table_marks, lacks_value};
-ghost use Rattle.type_table.specs.Tables.{IsWhole, IsOf, table_program, table_type, field_type};
+ghost use Rattle.type_table.specs.Tables.{IsOf, table_program, table_type, field_type};
 
 use crate::nodes::Head;
 use crate::table::{TyId, TypeTable};
 
 impl TypeTable {
     /// Whether a type of this table has no value where a place is sure to hold a valid one. `&T` has one there where
-    /// `T` has one at an unsure place, as every type has unless a declared one is endless.
+    /// `T` has one at an unsure place, as every type of a table has.
     pub fn is_empty(&self, ty: TyId) -> bool
-        requires whole { IsWhole self.now }
         requires of { IsOf self.now ty }
         ensures found { result ≡ found_empty self.now ty }
-        ensures tells { NoneEndless (table_program self.now)
-            → TellsEmpty (table_program self.now) (table_type self.now ty) result }
+        ensures tells { TellsEmpty (table_program self.now) (table_type self.now ty) result }
     {
         !self.values[self.items.len() + ty.index]
     }
@@ -24,18 +22,15 @@ impl TypeTable {
     /// Whether a variant of a type of this table has no value there. A tuple and a struct have the variant 0, and a
     /// variant that is not there has no value. Variants count from 0.
     pub fn variant_empty(&self, ty: TyId, variant: u32) -> bool
-        requires whole { IsWhole self.now }
         requires of { IsOf self.now ty }
         ensures found { result ≡ found_variant_empty self.now ty variant }
-        ensures tells { NoneEndless (table_program self.now)
-            → TellsVariantEmpty (table_program self.now) (table_type self.now ty) variant result }
+        ensures tells { TellsVariantEmpty (table_program self.now) (table_type self.now ty) variant result }
     {
         !self.has_variant(ty, variant as usize) || self.has_empty_field(ty, variant as usize)
     }
 
     // Whether the type has a variant with this number.
     fn has_variant(&self, ty: TyId, k: usize) -> bool
-        requires whole { IsWhole self.now }
         requires of { IsOf self.now ty }
         ensures { result ≡ is_some (node_types (table_program self.now) (table_type self.now ty) k) }
     {
@@ -52,7 +47,6 @@ impl TypeTable {
 
     // Whether a field of the variant, which is there, has no value.
     fn has_empty_field(&self, ty: TyId, k: usize) -> bool
-        requires whole { IsWhole self.now }
         requires of { IsOf self.now ty }
         ensures { is_some (node_types (table_program self.now) (table_type self.now ty) k) ≡ true → result
             ≡ found_variant_empty self.now ty k }
@@ -67,7 +61,6 @@ impl TypeTable {
 
     // Whether the field with this number is there and has no value.
     fn is_empty_field(&self, ty: TyId, k: usize, i: usize) -> bool
-        requires whole { IsWhole self.now }
         requires of { IsOf self.now ty }
         ensures { result
             ≡ lacks_value (table_marks self.now) (field_type (table_program self.now) (table_type self.now ty) k i) }

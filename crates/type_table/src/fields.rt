@@ -4,11 +4,13 @@ ghost use Rattle.std.specs.Prelude.{length, slice_get, option_map, IfSome, IsSom
 ghost use Rattle.match_model.specs.Types.{MType, OptionOwner, ResultOwner, NamedType, more_types, no_types};
 ghost use Rattle.match_model.specs.Declarations.{MProgram, variant_types, item_variants};
 ghost use Rattle.match_model.specs.RustTypes.{count_of_types};
-ghost use Rattle.type_table.specs.Entries.{variant_entry, entry_told, variant_below, entry_below};
-ghost use Rattle.type_table.specs.Tables.{IsWhole, IsOf, table_program, table_type, table_types, field_type};
-ghost use Rattle.type_table.specs.Tables.{field_name_of, declared_variant_at, form_field_name, field_number};
-ghost use Rattle.type_table.specs.Tables.{type_parts, part_of, NamedBy, type_variant, variant_name_of, fields_of_type};
-ghost use Rattle.type_table.specs.Readings.{part_type, tuple_part, option_part, result_part};
+ghost use Rattle.type_table.specs.Entries.{variant_entry, entry_told};
+ghost use Rattle.type_table.specs.Tables.{IsOf, table_program, table_type, table_types, field_type};
+ghost use Rattle.type_table.specs.Tables.{field_name_of, declared_variant_at, form_field_name};
+ghost use Rattle.type_table.specs.Tables.{NamedBy, type_variant, variant_name_of, fields_of_type};
+ghost use Rattle.type_table.specs.Parts.{id_at, part_at, field_at, entry_variant_at, named_part, node_part};
+ghost use Rattle.type_table.specs.Parts.{part_there, part_id};
+ghost use Rattle.type_table.specs.Readings.{tuple_part, option_part, result_part};
 
 use crate::entries::{Entry, VariantEntry};
 use crate::kinds::field_count;
@@ -19,9 +21,9 @@ use type_names::{FormKind, Owner};
 impl TypeTable {
     /// The type of a field, or of a part of a tuple, whose variant is 0 as that of a struct. Numbers count from 0.
     pub fn field(&self, ty: TyId, variant: u32, i: u32) -> TyId
-        requires whole { IsWhole self.now }
         requires of { IsOf self.now ty }
         requires there { IsSome (field_type (table_program self.now) (table_type self.now ty) variant i) }
+        ensures is { result ≡ part_id self.now ty variant i }
         ensures of { IsOf self.now result }
         ensures type_is { field_type (table_program self.now) (table_type self.now ty) variant i
             ≡ Some (table_type self.now result) }
@@ -34,39 +36,29 @@ impl TypeTable {
 
     /// The same, if it is there.
     pub(crate) fn field_there(&self, ty: TyId, k: usize, i: usize) -> Option<TyId>
-        requires whole { IsWhole self.now }
-        requires of { IsOf self.now ty }
-        ensures of { IfSome result (IsOf self.now) }
-        ensures type_is { option_map (table_type self.now) result
-            ≡ field_type (table_program self.now) (table_type self.now ty) k i }
+        requires { IsOf self.now ty }
+        ensures { result ≡ part_there self.now ty k i }
     {
-        let node = self.node(ty);
+        self.node_part(self.node(ty), k, i)
+    }
+
+    // The field of a node's type, if it is there.
+    fn node_part(&self, node: &Node, k: usize, i: usize) -> Option<TyId>
+        ensures { result ≡ node_part self.now.items.items (Some node.now) k i }
+    {
         match node.head {
             Head::Base(_) => None,
             Head::Opaque(_) => None,
-            Head::Tuple => self.part(ty, tuple_part(k, i)),
+            Head::Tuple => part_at(node, tuple_part(k, i)),
             Head::Point(_) => None,
             Head::Slice => None,
             Head::Array(_) => None,
-            Head::Named(owner) => self.named_field(ty, owner, k, i),
+            Head::Named(owner) => self.named_part(node, owner, k, i),
         }
-    }
-
-    // The part of a type with this number, if there is one.
-    fn part(&self, ty: TyId, number: Option<usize>) -> Option<TyId>
-        requires whole { IsWhole self.now }
-        requires of { IsOf self.now ty }
-        ensures of { IfSome result (IsOf self.now) }
-        ensures type_is { option_map (table_type self.now) result ≡ part_type (type_parts self.now ty) number }
-    {
-        let number = number?;
-        let index = self.node(ty).parts.get(number)?;
-        Some(TyId { index: *index })
     }
 
     /// How many fields a variant has, or how many parts a tuple, whose variant is 0. Variants count from 0.
     pub fn fields(&self, ty: TyId, variant: u32) -> u32
-        requires whole { IsWhole self.now }
         requires of { IsOf self.now ty }
         ensures { result ≡ fields_of_type (table_program self.now) (table_type self.now ty) variant }
     {
@@ -75,7 +67,6 @@ impl TypeTable {
 
     /// The same, of any size.
     pub(crate) fn fields_there(&self, ty: TyId, k: usize) -> usize
-        requires whole { IsWhole self.now }
         requires of { IsOf self.now ty }
         ensures { result ≡ fields_of_type (table_program self.now) (table_type self.now ty) k }
     {
@@ -93,7 +84,6 @@ impl TypeTable {
 
     // How many fields a variant of a named type has.
     fn named_fields(&self, ty: TyId, owner: Owner, k: usize) -> usize
-        requires whole { IsWhole self.now }
         requires of { IsOf self.now ty }
         requires named { NamedBy self.now ty owner }
         ensures { result ≡ fields_of_type (table_program self.now) (table_type self.now ty) k }
@@ -107,7 +97,6 @@ impl TypeTable {
 
     // How many fields a variant of a declared type has.
     fn item_fields(&self, n: usize, k: usize) -> usize
-        requires { IsWhole self.now }
         ensures { result ≡ count_of_types (variant_types (declared_variant_at self.now n k)) }
     {
         match self.declared_variant(n, k) {
@@ -117,27 +106,19 @@ impl TypeTable {
     }
 
     // The type of a field of a named type, if it is there.
-    fn named_field(&self, ty: TyId, owner: Owner, k: usize, i: usize) -> Option<TyId>
-        requires whole { IsWhole self.now }
-        requires of { IsOf self.now ty }
-        requires named { NamedBy self.now ty owner }
-        ensures of { IfSome result (IsOf self.now) }
-        ensures type_is { option_map (table_type self.now) result
-            ≡ field_type (table_program self.now) (table_type self.now ty) k i }
+    fn named_part(&self, node: &Node, owner: Owner, k: usize, i: usize) -> Option<TyId>
+        ensures { result ≡ named_part self.now.items.items owner node.now.parts.items k i }
     {
         match owner {
             Owner::Item(n) => self.item_field(n as usize, k, i),
-            Owner::Option => self.part(ty, option_part(k, i)),
-            Owner::Result => self.part(ty, result_part(k, i)),
+            Owner::Option => part_at(node, option_part(k, i)),
+            Owner::Result => part_at(node, result_part(k, i)),
         }
     }
 
     // The type of a field of a declared type, if it is there.
     fn item_field(&self, n: usize, k: usize, i: usize) -> Option<TyId>
-        requires { IsWhole self.now }
-        ensures of { IfSome result (IsOf self.now) }
-        ensures type_is { option_map (table_type self.now) result
-            ≡ part_of (variant_types (declared_variant_at self.now n k)) i }
+        ensures { result ≡ field_at (entry_variant_at (slice_get self.now.items.items n) k) i }
     {
         let variant = self.declared_variant(n, k)?;
         variant_field(variant, i)
@@ -145,7 +126,6 @@ impl TypeTable {
 
     /// The name of a variant of an enum, or of the one of a struct, without the enum's. Variants count from 0.
     pub fn variant_name(&self, ty: TyId, variant: u32) -> &str
-        requires whole { IsWhole self.now }
         requires of { IsOf self.now ty }
         requires there { IsSome (type_variant (table_program self.now) (table_type self.now ty) variant) }
         ensures { variant_name_of (type_variant (table_program self.now) (table_type self.now ty) variant)
@@ -159,7 +139,6 @@ impl TypeTable {
 
     /// The same, if it is there.
     pub(crate) fn name_there(&self, ty: TyId, k: usize) -> Option<&str>
-        requires whole { IsWhole self.now }
         requires of { IsOf self.now ty }
         ensures { option_map (λ s. s.now) result
             ≡ variant_name_of (type_variant (table_program self.now) (table_type self.now ty) k) }
@@ -174,7 +153,6 @@ impl TypeTable {
 
     // The name of a variant of the item with this number.
     fn declared_name(&self, i: usize, k: usize) -> Option<&str>
-        requires { IsWhole self.now }
         ensures { option_map (λ s. s.now) result ≡ variant_name_of (declared_variant_at self.now i k) }
     {
         let variant = self.declared_variant(i, k)?;
@@ -183,7 +161,6 @@ impl TypeTable {
 
     /// The name of a field of a variant of brace form; a field of another form has none. Numbers count from 0.
     pub fn field_name(&self, ty: TyId, variant: u32, i: u32) -> Option<&str>
-        requires whole { IsWhole self.now }
         requires of { IsOf self.now ty }
         ensures { option_map (λ s. s.now) result
             ≡ field_name_of (type_variant (table_program self.now) (table_type self.now ty) variant) i }
@@ -202,7 +179,6 @@ impl TypeTable {
 
     // The name of a field of the item with this number.
     fn declared_field_name(&self, n: usize, k: usize, i: usize) -> Option<&str>
-        requires { IsWhole self.now }
         ensures { option_map (λ s. s.now) result ≡ field_name_of (declared_variant_at self.now n k) i }
     {
         let variant = self.declared_variant(n, k)?;
@@ -211,8 +187,7 @@ impl TypeTable {
 
     // The variant with this number of the item with this number.
     fn declared_variant(&self, i: usize, k: usize) -> Option<&VariantEntry>
-        requires { IsWhole self.now }
-        ensures below { IfSome result (λ v. variant_below (length self.now.nodes.keys) v.now ≡ true) }
+        ensures is { option_map (λ v. v.now) result ≡ entry_variant_at (slice_get self.now.items.items i) k }
         ensures variant { option_map (λ v. variant_entry (table_types self.now) v.now) result
             ≡ declared_variant_at self.now i k }
     {
@@ -223,7 +198,7 @@ impl TypeTable {
 
 // The variant with this number of an item; a struct has one.
 fn entry_variant(entry: &Entry, k: usize) -> Option<&VariantEntry>
-    ensures below { (n : ℕ) → entry_below n entry.now ≡ true → IfSome result (λ v. variant_below n v.now ≡ true) }
+    ensures is { option_map (λ v. v.now) result ≡ entry_variant_at (Some entry.now) k }
     ensures variant { (types : List MType) → option_map (λ v. variant_entry types v.now) result
         ≡ slice_get (item_variants (Some (entry_told types entry.now).item)) k }
 {
@@ -237,8 +212,7 @@ fn entry_variant(entry: &Entry, k: usize) -> Option<&VariantEntry>
 
 // The type of a field of a variant.
 fn variant_field(variant: &VariantEntry, i: usize) -> Option<TyId>
-    ensures below { (n : ℕ) → variant_below n variant.now ≡ true → IfSome result (λ id. id.index < n) }
-    ensures number { option_map (λ id. id.index) result ≡ field_number variant.now i }
+    ensures { result ≡ field_at (Some variant.now) i }
 {
     match variant.form {
         FormKind::Unit => None,
@@ -249,9 +223,7 @@ fn variant_field(variant: &VariantEntry, i: usize) -> Option<TyId>
 
 // The type of the field with this number in the list.
 fn field_id(variant: &VariantEntry, i: usize) -> Option<TyId>
-    ensures below { (n : ℕ) → variant_below n variant.now ≡ true → IfSome result (λ id. id.index < n) }
-    ensures number { option_map (λ id. id.index) result
-        ≡ option_map (λ f. f.ty) (slice_get variant.now.fields.items i) }
+    ensures { result ≡ id_at (option_map (λ f. f.ty) (slice_get variant.now.fields.items i)) }
 {
     let field = variant.fields.get(i)?;
     Some(TyId { index: field.ty })
@@ -270,6 +242,14 @@ fn variant_field_name(variant: &VariantEntry, i: usize) -> Option<&str>
             Some(field.name.as_str())
         }
     }
+}
+
+/// The part of a node with this number, if there is one.
+pub(crate) fn part_at(node: &Node, number: Option<usize>) -> Option<TyId>
+    ensures { result ≡ part_at node.now.parts.items number }
+{
+    let index = node.parts.get(number?)?;
+    Some(TyId { index: *index })
 }
 
 // Which part of a tuple a field is.

@@ -9,7 +9,7 @@ ghost use Rattle.type_names.specs.Views.{owner_view};
 ghost use Rattle.type_table.specs.declared.entries.Entry.{Entry as DeclaredEntry};
 ghost use Rattle.type_table.specs.Paths.{FoundIs, FoundOf, struct_id, found_at, found_variant, answer};
 ghost use Rattle.type_table.specs.Paths.{struct_form_by, variant_form_by, enum_entry_form, form_by};
-ghost use Rattle.type_table.specs.Tables.{IsTableOf, IsWhole};
+ghost use Rattle.type_table.specs.Tables.{IsTableOf};
 
 use crate::entries::Entry;
 use crate::table::{TyId, TypeTable};
@@ -54,7 +54,6 @@ impl TypeTable {
     /// The form of the struct or variant that a path finds; there is none exactly where it finds nothing or two
     /// different variants.
     pub fn form(&self, found: &Found) -> Option<FormKind>
-        requires whole { IsWhole self.now }
         requires of { FoundOf self.now found.now }
         ensures form { (items : List ItemTree) → (width : AnyWidth) → (told : FoundTree) →
             IsTableOf items width self.now → FoundIs self.now told found.now → result ≡ found_form items told }
@@ -67,7 +66,6 @@ impl TypeTable {
 
     // The form of what was found.
     fn form_told(&self, found: &Found) -> Option<FormKind>
-        requires whole { IsWhole self.now }
         requires of { FoundOf self.now found.now }
         ensures { result ≡ form_by self.now found.now }
     {

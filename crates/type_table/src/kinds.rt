@@ -1,14 +1,17 @@
 //! What kind of type a number stands for.
-ghost use Rattle.std.specs.Prelude.{◌≡◌, ◌<◌, ◌^◌, ◌∷◌, [], List, length, slice_get, Some};
+ghost use Rattle.std.specs.Prelude.{◌≡◌, ◌<◌, ◌^◌, List, length, slice_get, Some};
 ghost use Rattle.type_names.specs.Views.{owner_view, base_view};
 ghost use Rattle.match_model.specs.Types.{MType, DeclaredItem, NamedType, MTypes, no_types, types_list};
 ghost use Rattle.type_table.specs.declared.table.TypeTable.{TypeTable};
+ghost use Rattle.type_table.specs.declared.table.TyId.{TyId};
+ghost use Rattle.type_table.specs.Parts.{node_inner, inner_id, HoldsInner};
 ghost use Rattle.type_table.specs.Nodes.{owner_arguments};
-ghost use Rattle.type_table.specs.Tables.{IsWhole, IsOf, KindIs, table_program, table_type, table_types};
-ghost use Rattle.type_table.specs.Tables.{count_of_type, OnePart, type_parts, ItemKindIs, fields_of_entry, entry_count};
+ghost use Rattle.type_table.specs.Tables.{IsOf, KindIs, table_program, table_type, table_types};
+ghost use Rattle.type_table.specs.Tables.{count_of_type, ItemKindIs, fields_of_entry, entry_count};
 ghost use Rattle.type_table.specs.Entries.{entry_told};
 
 use crate::entries::{Entry, VariantEntry};
+use crate::fields::part_at;
 use crate::nodes::{Head, Node};
 use crate::table::{TyId, TypeTable};
 use match_model::IntKind;
@@ -35,9 +38,9 @@ pub enum TyKind {
 impl TypeTable {
     /// The kind of a type of this table.
     pub fn kind(&self, ty: TyId) -> TyKind
-        requires whole { IsWhole self.now }
         requires of { IsOf self.now ty }
-        ensures { KindIs self.now (table_type self.now ty) result }
+        ensures is { KindIs self.now (table_type self.now ty) result }
+        ensures inner { HoldsInner result (inner_id self.now ty) }
     {
         let node = self.node(ty);
         match node.head {
@@ -46,36 +49,30 @@ impl TypeTable {
             Head::Tuple => TyKind::Tuple(node.parts.len() as u32),
             Head::Point(mutable) => TyKind::Point {
                 mutable,
-                inner: self.only_part(ty),
+                inner: self.inner(ty),
             },
-            Head::Slice => TyKind::Slice(self.only_part(ty)),
-            Head::Array(n) => TyKind::Array(self.only_part(ty), n),
+            Head::Slice => TyKind::Slice(self.inner(ty)),
+            Head::Array(n) => TyKind::Array(self.inner(ty), n),
             Head::Named(owner) => self.named_kind(ty, owner),
         }
     }
 
-    /// The one part of a reference, slice or array.
-    pub(crate) fn only_part(&self, ty: TyId) -> TyId
-        requires whole { IsWhole self.now }
-        requires of { IsOf self.now ty }
-        requires one { OnePart self.now ty }
-        ensures of { IsOf self.now result }
-        ensures part { type_parts self.now ty ≡ table_type self.now result ∷ [] }
+    /// The type behind a reference, or of the items of a slice or array; of every other type the type itself.
+    pub(crate) fn inner(&self, ty: TyId) -> TyId
+        requires { IsOf self.now ty }
+        ensures { result ≡ inner_id self.now ty }
     {
-        let node = self.node(ty);
-        TyId {
-            index: node.parts[0],
-        }
+        node_inner(self.node(ty)).unwrap_or(ty)
     }
 
     // The kind of a named type.
     fn named_kind(&self, ty: TyId, owner: Owner) -> TyKind
-        requires whole { IsWhole self.now }
         requires of { IsOf self.now ty }
         requires named { (ts : MTypes) × (table_type self.now ty ≡ NamedType (owner_view owner) ts)
             × (length (types_list ts) ≡ owner_arguments (owner_view owner)) }
         requires few { count_of_type (table_program self.now) (table_type self.now ty) < 2 ^ 32 }
-        ensures { KindIs self.now (table_type self.now ty) result }
+        ensures is { KindIs self.now (table_type self.now ty) result }
+        ensures inner { (id : TyId) → HoldsInner result id }
     {
         match owner {
             Owner::Item(i) => self.item_kind(i as usize),
@@ -93,7 +90,8 @@ impl TypeTable {
     // The kind of the type that an item declares.
     fn item_kind(&self, i: usize) -> TyKind
         requires few { count_of_type (table_program self.now) (NamedType (DeclaredItem i) no_types) < 2 ^ 32 }
-        ensures { KindIs self.now (NamedType (DeclaredItem i) no_types) result }
+        ensures is { KindIs self.now (NamedType (DeclaredItem i) no_types) result }
+        ensures inner { (id : TyId) → HoldsInner result id }
     {
         match self.items.get(i) {
             Some(entry) => entry_kind(entry),
@@ -113,9 +111,25 @@ impl TypeTable {
     }
 }
 
+// What is behind a node's type.
+fn node_inner(node: &Node) -> Option<TyId>
+    ensures { result ≡ node_inner (Some node.now) }
+{
+    match node.head {
+        Head::Base(_) => None,
+        Head::Opaque(_) => None,
+        Head::Tuple => None,
+        Head::Point(_) => part_at(node, Some(0)),
+        Head::Slice => part_at(node, Some(0)),
+        Head::Array(_) => part_at(node, Some(0)),
+        Head::Named(_) => None,
+    }
+}
+
 // The kind of a type without arguments.
 fn base_kind(base: Base) -> TyKind
-    ensures { (table : TypeTable) → KindIs table (base_view base) result }
+    ensures is { (table : TypeTable) → KindIs table (base_view base) result }
+    ensures inner { (id : TyId) → HoldsInner result id }
 {
     match base {
         Base::Bool => TyKind::Bool,
@@ -140,7 +154,8 @@ fn base_kind(base: Base) -> TyKind
 // The kind of the type that an item declares.
 fn entry_kind(entry: &Entry) -> TyKind
     requires { (entry_count entry.now) < 2 ^ 32 }
-    ensures { (types : List MType) → ItemKindIs (entry_told types entry.now).item result }
+    ensures is { (types : List MType) → ItemKindIs (entry_told types entry.now).item result }
+    ensures inner { (id : TyId) → HoldsInner result id }
 {
     match entry {
         Entry::Struct { variant, .. } => TyKind::Struct(field_count(variant) as u32),

@@ -23,6 +23,7 @@
 
 mod build;
 mod cyclic;
+mod draft;
 mod edges;
 mod emptiness;
 mod endless;

@@ -3,7 +3,7 @@ ghost use Rattle.std.specs.Prelude.{◌≡◌, ◌<◌, ℕ, true, Some, List, s
 ghost use Rattle.match_model.specs.Types.{MType};
 ghost use Rattle.type_names.specs.Views.{owner_view};
 ghost use Rattle.type_table.specs.Entries.{entry_told, entry_below};
-ghost use Rattle.type_table.specs.Tables.{IsWhole, IsOf, table_program, table_type, table_told, NamedBy};
+ghost use Rattle.type_table.specs.Tables.{IsOf, table_program, table_type, table_told, NamedBy};
 ghost use Rattle.type_table.specs.Readers.{type_owner, is_enum_item, enum_owner, item_name, owner_item};
 ghost use Rattle.type_table.specs.Readers.{owner_name, behind, scrutinee_by, scrutinee_of, parameter_told};
 ghost use Rattle.type_table.specs.Nodes.{type_at};
@@ -16,7 +16,6 @@ use type_names::Owner;
 impl TypeTable {
     /// The owner of an enum type; every other type has none.
     pub fn owner(&self, ty: TyId) -> Option<Owner>
-        requires whole { IsWhole self.now }
         requires of { IsOf self.now ty }
         ensures { option_map owner_view result
             ≡ enum_owner (table_program self.now) (type_owner (table_type self.now ty)) }
@@ -27,7 +26,6 @@ impl TypeTable {
 
     /// The number of the item that declares an enum or struct type, counted from 0; every other type has none.
     pub fn item(&self, ty: TyId) -> Option<u64>
-        requires whole { IsWhole self.now }
         requires of { IsOf self.now ty }
         ensures { result ≡ owner_item (table_program self.now) (type_owner (table_type self.now ty)) }
     {
@@ -44,7 +42,6 @@ impl TypeTable {
 
     /// The name of the item that declares an enum or struct type; every other type has none.
     pub fn owner_name(&self, ty: TyId) -> Option<&str>
-        requires whole { IsWhole self.now }
         requires of { IsOf self.now ty }
         ensures { option_map (λ s. s.now) result
             ≡ owner_name (table_program self.now) (type_owner (table_type self.now ty)) }
@@ -59,7 +56,6 @@ impl TypeTable {
 
     /// Who declares a named type.
     pub(crate) fn named(&self, ty: TyId) -> Option<Owner>
-        requires whole { IsWhole self.now }
         requires of { IsOf self.now ty }
         ensures owner { option_map owner_view result ≡ type_owner (table_type self.now ty) }
         ensures by { IfSome result (NamedBy self.now ty) }
@@ -115,7 +111,6 @@ impl TypeTable {
     /// The type that the function with this item number looks at, and whether it writes `match *x`; none where it does
     /// and its parameter is no reference. What is no function has none either. Items count from 0.
     pub fn scrutinee(&self, item: u64) -> Option<(TyId, bool)>
-        requires { IsWhole self.now }
         ensures of { IfSome result (λ r. IsOf self.now r.0) }
         ensures told { option_map (λ r. (table_type self.now r.0, r.1)) result
             ≡ scrutinee_of (parameter_told (slice_get (table_told self.now) item)) }
@@ -126,7 +121,6 @@ impl TypeTable {
 
     // The type of `x`, or of `*x`.
     fn looked_at(&self, param: TyId, deref: bool) -> Option<(TyId, bool)>
-        requires whole { IsWhole self.now }
         requires of { IsOf self.now param }
         ensures of { IfSome result (λ r. IsOf self.now r.0) }
         ensures told { option_map (λ r. (table_type self.now r.0, r.1)) result
@@ -141,7 +135,6 @@ impl TypeTable {
 
     // The type behind a reference.
     fn behind(&self, ty: TyId) -> Option<TyId>
-        requires whole { IsWhole self.now }
         requires of { IsOf self.now ty }
         ensures of { IfSome result (IsOf self.now) }
         ensures type_is { option_map (table_type self.now) result ≡ behind (table_type self.now ty) }
@@ -150,7 +143,7 @@ impl TypeTable {
             Head::Base(_) => None,
             Head::Opaque(_) => None,
             Head::Tuple => None,
-            Head::Point(_) => Some(self.only_part(ty)),
+            Head::Point(_) => Some(self.inner(ty)),
             Head::Slice => None,
             Head::Array(_) => None,
             Head::Named(_) => None,
@@ -159,7 +152,6 @@ impl TypeTable {
 
     // The type of a function's parameter, and whether it writes `match *x`.
     fn parameter(&self, i: usize) -> Option<(TyId, bool)>
-        requires { IsWhole self.now }
         ensures of { IfSome result (λ r. IsOf self.now r.0) }
         ensures told { option_map (λ r. (table_type self.now r.0, r.1)) result
             ≡ parameter_told (slice_get (table_told self.now) i) }

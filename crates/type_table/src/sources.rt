@@ -1,7 +1,4 @@
 //! Tables of short sources for the tests.
-ghost use Rattle.std.specs.Prelude.{IfSome};
-ghost use Rattle.type_table.specs.Tables.{IsWhole};
-
 use crate::TypeTable;
 use decl_lexer::{LexFault, Token, lex};
 use decl_parser::parse;
@@ -24,9 +21,7 @@ pub(crate) fn file_of(alloc: Global, source: &str) -> Option<File> {
 }
 
 /// The table of a file in which no item breaks a rule.
-pub(crate) fn table_of(alloc: Global, file: &File) -> Option<TypeTable>
-    ensures { IfSome result IsWhole }
-{
+pub(crate) fn table_of(alloc: Global, file: &File) -> Option<TypeTable> {
     match TypeTable::build(alloc, file, Width::Endless) {
         Ok(table) => Some(table),
         Err(_) => None,

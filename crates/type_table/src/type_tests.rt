@@ -1,5 +1,5 @@
 //! Emptiness of types and what paths find, by short sources.
-ghost use Rattle.type_table.specs.Tables.{IsWhole, IsOf};
+ghost use Rattle.type_table.specs.Tables.{IsOf};
 
 use crate::sources::{file_of, table_of};
 use crate::{Found, Owner, TyId, TypeTable};
@@ -162,7 +162,6 @@ fn variants_shown(
     ty: TyId,
     words: &str,
 ) -> Result<String, AllocError>
-    requires whole { IsWhole table.now }
     requires of { IsOf table.now ty }
 {
     let mut text = String::new(alloc);
@@ -207,9 +206,7 @@ fn first_path(file: &File) -> Option<&Path> {
 }
 
 /// What was found, in words.
-fn found_shown(alloc: Global, table: &TypeTable, found: Found) -> Result<String, AllocError>
-    requires { IsWhole table.now }
-{
+fn found_shown(alloc: Global, table: &TypeTable, found: Found) -> Result<String, AllocError> {
     match found {
         Found::Nothing => String::from_str(alloc, "nothing"),
         Found::Twice => String::from_str(alloc, "twice"),

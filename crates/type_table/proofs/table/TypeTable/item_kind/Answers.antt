@@ -17,16 +17,16 @@ entry_kind-requires c =
     let P : ℕ → Type 0 = λ n. n < 2 ^ 32 in
     subst P (ap count_of_item item ∙ entry_counted (table_types table) c.in-Some.entry.now) c.requires.few
 
-pub returns-in-Some : goal.returns-in-Some
-returns-in-Some c =
+pub returns-in-Some-clause-is : goal.returns-in-Some-clause-is
+returns-in-Some-clause-is c =
     let table = c.args.self.now in
     let at : slice_get table.items.items c.args.i ≡ Some c.in-Some.entry.now =
     ap (λ (xs : List Entry). slice_get xs c.args.i) (sym c.deref.ensures.value) ∙ looked_up c.deref.result.now c.args.i c.in-Some.entry.now c.in-Some.ensures.lookup.0 c.in-Some.ensures.lookup.1 in
     let item = program_at table c.args.i ∙ ap (option_map {U = MItem} (λ e. (entry_told (table_types table) e).item)) at in
-    kind_of_item table c.args.i (entry_told (table_types table) c.in-Some.entry.now).item c.entry_kind.result item (c.entry_kind.ensures (table_types table))
+    kind_of_item table c.args.i (entry_told (table_types table) c.in-Some.entry.now).item c.entry_kind.result item (c.entry_kind.ensures.is (table_types table))
 
-pub returns-in-None : goal.returns-in-None
-returns-in-None c =
+pub returns-in-None-clause-is : goal.returns-in-None-clause-is
+returns-in-None-clause-is c =
     let table = c.args.self.now in
     let h = c.in-None.ensures.lookup in
     let at : slice_get table.items.items c.args.i ≡ None =

@@ -14,7 +14,7 @@ returns-in-Some-clause-of c =
     let table = c.args.self.now in
     let at : slice_get table.items.items c.args.i ≡ Some c.in-Some.entry.now =
     ap (λ (xs : List Entry). slice_get xs c.args.i) (sym c.deref.ensures.value) ∙ looked_up c.deref.result.now c.args.i c.in-Some.entry.now c.in-Some.ensures.lookup.0 c.in-Some.ensures.lookup.1 in
-    c.entry_parameter.ensures.below (length table.nodes.keys) (all_at (entry_below (length table.nodes.keys)) table.items.items c.args.i c.in-Some.entry.now c.requires.below at)
+    c.entry_parameter.ensures.below (length table.nodes.keys) (all_at (entry_below (length table.nodes.keys)) table.items.items c.args.i c.in-Some.entry.now table.whole.below at)
 
 pub returns-in-Some-clause-told : goal.returns-in-Some-clause-told
 returns-in-Some-clause-told c =

@@ -16,9 +16,9 @@ pub returns-else-not-has_variant-clause-found : goal.returns-else-not-has_varian
 returns-else-not-has_variant-clause-found c = c.has_empty_field.ensures (sym c.has_variant.ensures ∙ c.if-not-has_variant.false)
 
 pub returns-then-not-has_variant-clause-tells : goal.returns-then-not-has_variant-clause-tells
-returns-then-not-has_variant-clause-tells c = λ none.
-    tells_variant c.args.self.now c.requires.whole none c.args.ty c.requires.of c.args.variant _ (returns-then-not-has_variant-clause-found c)
+returns-then-not-has_variant-clause-tells c =
+    tells_variant c.args.self.now c.args.ty c.requires.of c.args.variant _ (returns-then-not-has_variant-clause-found c)
 
 pub returns-else-not-has_variant-clause-tells : goal.returns-else-not-has_variant-clause-tells
-returns-else-not-has_variant-clause-tells c = λ none.
-    tells_variant c.args.self.now c.requires.whole none c.args.ty c.requires.of c.args.variant _ (returns-else-not-has_variant-clause-found c)
+returns-else-not-has_variant-clause-tells c =
+    tells_variant c.args.self.now c.args.ty c.requires.of c.args.variant _ (returns-else-not-has_variant-clause-found c)

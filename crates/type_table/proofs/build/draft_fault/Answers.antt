@@ -6,7 +6,7 @@ use Rattle.type_table.specs.Faults.{Breaks, ContainsItself, IsEndless, FirstThat
 use Rattle.type_table.specs.Nodes.{AreNodes}
 use Rattle.type_table.specs.Readings.{fault_pair}
 use Rattle.type_table.proofs.FirstFaults.{program_read}
-use Rattle.type_table.proofs.build.table_fault.Goals as goal
+use Rattle.type_table.proofs.build.draft_fault.Goals as goal
 
 pub first_cyclic-requires-clause-are : goal.first_cyclic-requires-clause-are
 first_cyclic-requires-clause-are c = subst AreNodes (sym c.as_slice-nodes.ensures.keys) c.requires.whole.are
@@ -17,14 +17,14 @@ first_endless-requires-clause-are c = subst AreNodes (sym c.as_slice-nodes.ensur
 pub least_fault-requires-clause-cyclic : goal.least_fault-requires-clause-cyclic
 least_fault-requires-clause-cyclic c =
     subst (λ (p : MProgram). FirstThat (ContainsItself p) c.in_ok-cyclic.cyclic)
-    (program_read (file_view c.args.file.now) c.args.width c.args.table.now c.as_slice-nodes.result.now c.deref.result.now c.deref-3.result.now
+    (program_read (file_view c.args.file.now) c.args.width c.args.draft.now c.as_slice-nodes.result.now c.deref.result.now c.deref-3.result.now
     c.requires c.as_slice-nodes.ensures.keys c.deref.ensures.value (ap (map item_view) c.deref-3.ensures.value))
     c.in_ok-cyclic.ensures
 
 pub least_fault-requires-clause-endless : goal.least_fault-requires-clause-endless
 least_fault-requires-clause-endless c =
     subst (λ (p : MProgram). FirstThat (IsEndless p) c.in_ok-endless.endless)
-    (program_read (file_view c.args.file.now) c.args.width c.args.table.now c.as_slice-nodes.result.now c.deref-2.result.now c.deref-3.result.now
+    (program_read (file_view c.args.file.now) c.args.width c.args.draft.now c.as_slice-nodes.result.now c.deref-2.result.now c.deref-3.result.now
     c.requires c.as_slice-nodes.ensures.keys c.deref-2.ensures.value (ap (map item_view) c.deref-3.ensures.value))
     c.in_ok-endless.ensures
 
