@@ -70,6 +70,11 @@ abbrev pub starts_wild : {T : Type 0} → List (Head T) → Bool
 starts_wild [] = true
 starts_wild (h ∷ rest) = is_wild h
 
+-- the pattern is an or-pattern
+abbrev pub is_or_ctor : MCtor → Bool
+is_or_ctor OrCtor = true
+is_or_ctor _ = false
+
 -- the row's first head is an or-pattern
 abbrev pub starts_or : {T : Type 0} → List (Head T) → Bool
 starts_or (Some (de_pat c t uid at subs binds) ∷ rest) = is_or_ctor c
