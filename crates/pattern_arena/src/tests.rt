@@ -6,7 +6,10 @@ ghost use Rattle.pattern_arena.specs.Trees.{plain_arm};
 ghost use Rattle.pattern_arena.specs.Examples.{flag_arm};
 ghost use Rattle.pattern_arena.specs.Meaning.{IsWellTyped, IsExhaustive, IsArmReachable};
 
-use crate::laws::{exhaustive_where_nothing_is_left, overlap_lists_are_one, placed_patterns_stand, reading_lists_are_one};
+use crate::laws::{
+    exhaustive_where_nothing_is_left, overlap_lists_are_one, placed_patterns_stand,
+    reading_lists_are_one,
+};
 use crate::{Bound, CheckedArm, CheckedMatch, DePat, Part, Placer};
 use bumpalo::Bump;
 use match_model::Mode;
