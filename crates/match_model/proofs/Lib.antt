@@ -19,3 +19,4 @@ pub mod Carried
 pub mod TextOutside
 pub mod TextOrder
 pub mod OneOverlaps
+pub mod Falling

@@ -1,5 +1,5 @@
 -- How many things of a kind a match may have (our own choice): what a number of 32 bits names are fewer than 2^32.
-use Rattle.std.specs.Prelude.{◌<◌, ⊤, ℕ, ◌+◌, ◌^◌, map, length, sum}
+use Rattle.std.specs.Prelude.{◌<◌, ⊤, ℕ, ◌+◌, ◌^◌, List, [], ◌∷◌, length}
 use Rattle.std.specs.List.{Contains}
 use Rattle.match_model.specs.Constructors.{MCtor, OrCtor}
 use Rattle.match_model.specs.ArenaPatterns.{MDePat, de_pat, MDePats, no_de_pats, more_de_pats, de_pats_list, MDeArm, MDeMatch}
@@ -19,6 +19,11 @@ abbrev mutual
   ors_in_all no_de_pats = 0
   ors_in_all (more_de_pats p ps) = ors_in p + ors_in_all ps
 
+-- how many or-patterns the arms have
+abbrev pub ors_in_arms : {T : Type 0} → List (MDeArm T) → ℕ
+ors_in_arms [] = 0
+ors_in_arms (a ∷ arms) = ors_in a.pat + ors_in_arms arms
+
 -- what is asked of an or-pattern, and nothing of any other
 abbrev pub ForOr : MCtor → Type 0 → Type 0
 ForOr OrCtor asked = asked
@@ -37,5 +42,5 @@ abbrev mutual
 -- the match has fewer than 2^32 arms, or-patterns, and alternatives of any one or-pattern
 pub record IsCountable {T : Type 0} (m : MDeMatch T) : Type 0 where
   pub arms : length m.arms < 2 ^ 32
-  pub ors : sum (map (λ a. ors_in a.pat) m.arms) < 2 ^ 32
+  pub ors : ors_in_arms m.arms < 2 ^ 32
   pub alternatives : (a : MDeArm T) → Contains m.arms a → HasFewAlternatives a.pat

@@ -5,6 +5,7 @@ ghost use Rattle.match_model.specs.Laws.{JoinIsAssociative, CombineIsAssociative
 ghost use Rattle.match_model.specs.Laws.{VariantsAreCounted, RustValuesLaw};
 ghost use Rattle.match_model.specs.Laws.{ExhaustiveWhereNothingIsLeft, AscendingOffsetsDiffer, TextOutside, TextsAreOrderedAsBytes};
 ghost use Rattle.match_model.specs.ContextViews.{LawsAreCarried};
+ghost use Rattle.match_model.specs.Weights.{StepsLowerWeights};
 ghost use Rattle.match_model.specs.Emptiness.{RustPartsLaw, RustEmptyLaw, RustUnsureLaw};
 ghost use Rattle.match_model.specs.Readings.{ReadingsAgree};
 ghost use Rattle.match_model.specs.Uniqueness.{WalkIsOne, MeaningIsOne, UnreachableListIsOne, PiecesAreOne, WitnessListIsOne, OverlapListIsOne};
@@ -124,6 +125,11 @@ pub fn overlap_list_is_one()
     ensures { OverlapListIsOne }
 {}
 
+/// No step of a matrix adds weight; expanding an or-pattern and specialising by a constructor take some.
+pub fn steps_lower_weights<T>()
+    ensures { StepsLowerWeights T }
+{}
+
 /// The four laws of a context carry over to a context that is seen through it, one type for another, where tests tell types and
 /// values.
 pub fn laws_are_carried<S, T>()
@@ -139,6 +145,7 @@ mod tests {
     fn generic_laws_hold_at_a_type(_rt: HostRuntime) {
         parts_split::<u32>();
         laws_are_carried::<u32, bool>();
+        steps_lower_weights::<u32>();
         first_matrix_has_the_arms::<u32>();
         witness_list_is_one::<u32>();
     }

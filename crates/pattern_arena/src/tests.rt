@@ -6,12 +6,15 @@ ghost use Rattle.pattern_arena.specs.Trees.{plain_arm};
 ghost use Rattle.pattern_arena.specs.Examples.{flag_arm};
 ghost use Rattle.pattern_arena.specs.Meaning.{IsWellTyped, IsExhaustive, IsArmReachable};
 
-use crate::laws::placed_patterns_stand;
+use crate::laws::{
+    exhaustive_where_nothing_is_left, overlap_lists_are_one, placed_patterns_stand,
+    reading_lists_are_one,
+};
 use crate::{Bound, CheckedArm, CheckedMatch, DePat, Part, Placer};
 use bumpalo::Bump;
 use match_model::Mode;
 use no_memory::NoMemory;
-use pat_context::toy::ToyTy;
+use pat_context::toy::{Toy, ToyTy};
 use pat_context::{Ctor, Validity};
 use std::test::Fail;
 
@@ -109,4 +112,12 @@ fn what_was_placed_stands(rt: HostRuntime) -> Result<(), Fail> {
     assert_eq!(rt; before[1].uid, 2);
     assert_eq!(rt; next?[0].uid, 3);
     Ok(())
+}
+
+// A generic law is proved from its bounds alone, so each is called once at a type.
+#[test]
+fn laws_hold_at_the_toy_context(_rt: HostRuntime) {
+    reading_lists_are_one(&Toy);
+    overlap_lists_are_one(&Toy);
+    exhaustive_where_nothing_is_left(&Toy);
 }
