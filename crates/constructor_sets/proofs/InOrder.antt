@@ -19,7 +19,7 @@ use Rattle.match_model.proofs.Basics.{both, text_equal}
 use Rattle.range_split.proofs.Following.{Follow-ascends}
 use Rattle.range_split.proofs.Sides.{from_later}
 use Rattle.constructor_sets.specs.InOrder.{IsEarlier, IsBeforeEach, AreInOrder}
-use Rattle.constructor_sets.proofs.Belonging.{low_in}
+use Rattle.pat_context.proofs.RangeEnds.{low_in}
 use Rattle.constructor_sets.proofs.Rooms.{bounded_below}
 
 -- lists

@@ -14,7 +14,8 @@ use Rattle.match_model.specs.WitnessList.{IsWitnessList, nothing_to_match, by_ro
 use Rattle.match_model.specs.WellTyped.{IsTyped}
 use Rattle.match_model.proofs.Basics.{both}
 use Rattle.constructor_sets.specs.Columns.{one}
-use Rattle.witness_laws.specs.Covering.{is_some_there, row_takes, some_takes, fit_count, AreValues}
+use Rattle.pat_context.specs.Parts.{AreValues}
+use Rattle.witness_laws.specs.Covering.{is_some_there, row_takes, some_takes, fit_count}
 use Rattle.witness_laws.proofs.SpecialTyped.{AllTyped}
 use Rattle.witness_laws.proofs.Takes.{any-append}
 use Rattle.witness_laws.proofs.Places.{cols}

@@ -18,13 +18,14 @@ use Rattle.constructor_sets.specs.Columns.{one, hits, IsOneSided, HasRoomFor}
 use Rattle.constructor_sets.proofs.Once.{once_of}
 use Rattle.constructor_sets.proofs.Whole.{made_pieces}
 use Rattle.witness_laws.proofs.Made.{AreMadeRows, expand_made, rests_made, column_made, special_made}
-use Rattle.witness_laws.specs.Covering.{some_takes, fit_count, AreValues}
+use Rattle.pat_context.specs.Parts.{AreValues}
+use Rattle.witness_laws.specs.Covering.{some_takes, fit_count}
 use Rattle.witness_laws.specs.HeadRows.{AreTypes}
 use Rattle.witness_laws.proofs.SpecialTyped.{AllTyped, head_fitted}
 use Rattle.witness_laws.proofs.Takes.{expand_takes}
 use Rattle.witness_laws.proofs.Specials.{IsSided, AreSidedRows, special_takes}
 use Rattle.witness_laws.proofs.Wrapping.{wrapped_fits}
-use Rattle.witness_laws.proofs.Parting.{parts_values, refill}
+use Rattle.pat_context.proofs.Parting.{parts_values, refill}
 use Rattle.witness_laws.proofs.Places.{cols, wild_row_takes, length-below, values-append, rests_typed, expanded_typed, NoneOr, expanded_none, heads_good, wild_takes, all_wild, specials_typed, specials_types}
 
 -- counts

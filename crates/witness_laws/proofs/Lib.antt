@@ -6,7 +6,6 @@ pub mod Typed
 pub mod SpecialTyped
 pub mod Places
 pub mod Made
-pub mod Parting
 pub mod Exact
 pub mod Covers
 pub mod Comparing

@@ -13,7 +13,8 @@ use Rattle.match_model.specs.WitnessList.{Witnesses, taken, covered, no_row, any
 use Rattle.match_model.proofs.Basics.{untrue, nat_itself, and_true, both}
 use Rattle.constructor_sets.proofs.Whole.{made_pieces}
 use Rattle.witness_laws.specs.HeadRows.{AreTypes}
-use Rattle.witness_laws.proofs.SpecialTyped.{AllTyped, each_from, below_from}
+use Rattle.witness_laws.proofs.SpecialTyped.{AllTyped}
+use Rattle.pat_context.proofs.EachFrom.{each_from, below_from}
 use Rattle.witness_laws.proofs.Made.{AreMadeRows, expand_made, rests_made, column_made, special_made}
 use Rattle.witness_laws.proofs.Places.{cols, length-below, rests_typed, expanded_typed, expanded_none, heads_good, specials_typed, specials_types}
 use Rattle.witness_laws.proofs.Exact.{AreAllSided, all_sided, not_wild}

@@ -14,7 +14,8 @@ use Rattle.match_model.specs.WellTyped.{is_written, IsTyped, AreHeadsTyped}
 use Rattle.match_model.specs.WitnessList.{are_wild}
 use Rattle.match_model.proofs.Basics.{untrue, both}
 use Rattle.constructor_sets.specs.Columns.{is_head}
-use Rattle.witness_laws.specs.Covering.{is_some_there, head_takes, row_takes, some_takes, AreValues}
+use Rattle.pat_context.specs.Parts.{AreValues}
+use Rattle.witness_laws.specs.Covering.{is_some_there, head_takes, row_takes, some_takes}
 use Rattle.witness_laws.specs.HeadRows.{AreTypes, AreRowsTyped, AreNoneOr, opens, all_heads}
 use Rattle.witness_laws.proofs.Takes.{pat_takes, taken_by}
 use Rattle.witness_laws.proofs.Typed.{expand_good, column_good}

@@ -14,23 +14,8 @@ use Rattle.match_model.specs.WellTyped.{IsTyped, ArePartsTyped, IsHeadTyped, Are
 use Rattle.match_model.proofs.Basics.{untrue, both, nat_equal, flag_equal, text_equal}
 use Rattle.witness_laws.specs.HeadRows.{AreTypes, AreRowsTyped}
 use Rattle.witness_laws.proofs.Typed.{rows-append}
+use Rattle.pat_context.proofs.EachFrom.{each_from, below_from}
 use Rattle.pat_context.proofs.Consequences.{part_is_type}
-
--- lists from the front
-
-unfoldable pub each_from : {A : Type 0} → (ℕ → A) → ℕ → ℕ → List A
-each_from f i zero = []
-each_from f i (suc n) = f i ∷ each_from f (suc i) n
-
-from-snoc : {A : Type 0} (f : ℕ → A) (n i : ℕ) → each_from f i n ++ f (i + n) ∷ [] ≡ each_from f i (suc n)
-unfolding each_from
-from-snoc f zero i = let e : i + 0 ≡ i = omega arith in ap (λ k. f k ∷ []) e
-from-snoc f (suc n) i = let e : i + suc n ≡ suc i + n = omega arith in ap (λ xs. f i ∷ xs) (ap (λ k. each_from f (suc i) n ++ f k ∷ []) e ∙ from-snoc f n (suc i))
-
-pub below_from : {A : Type 0} (f : ℕ → A) (n : ℕ) → each_below f n ≡ each_from f 0 n
-unfolding each_from
-below_from f zero = refl
-below_from f (suc n) = let e : 0 + n ≡ n = omega arith in ap (λ xs. xs ++ f n ∷ []) (below_from f n) ∙ ap (λ k. each_from f 0 n ++ f k ∷ []) (sym e) ∙ from-snoc f n 0
 
 module _ {T : Type 0} (cx : Context T) where
   abbrev EachHead : (ℕ → T) → ℕ → List (Head T) → Type 0

@@ -10,8 +10,8 @@ use Rattle.match_model.specs.Contexts.{Context, Open}
 use Rattle.match_model.specs.ContextLaws.{PartsLaw, ValuesLaw, PartsAre, parts_count, ValueIs, BuiltOnce}
 use Rattle.match_model.specs.Rows.{part_open, parts_open}
 use Rattle.match_model.proofs.Basics.{untrue, nat_equal}
-use Rattle.witness_laws.specs.Covering.{AreValues}
-use Rattle.witness_laws.proofs.SpecialTyped.{each_from, below_from}
+use Rattle.pat_context.specs.Parts.{AreValues, MetPartsAreValues, IsRefilled, ValuesCanBeRefilled}
+use Rattle.pat_context.proofs.EachFrom.{each_from, below_from}
 
 at_least : (a b : ℕ) → nat_le a b ≡ true → a ≤ b
 at_least a b h = grind (arith, nat_tests)
@@ -176,19 +176,12 @@ module _ {T : Type 0} (IsType : T → Type 0) (IsValue : T → Bool → MValue �
       to_parts (part_open cx o piece) (sure_inside piece o.sure) (cx.sub piece o.type) (λ i. refl) (cx.arity piece o.type) 0 vs
       (subst (λ places. AreValues IsValue places vs) (below_from (part_open cx o piece) (cx.arity piece o.type)) a)
 
-  -- the value has these parts, and the piece builds it
-  pub record IsRefilled (o : Open T) (named : List (List ℕ)) (piece : MCtor) (ys : List MValue) : Type 0 where
-    pub value : MValue
-    pub is : IsValue o.type o.sure value
-    pub build : builds named piece value ≡ true
-    pub parts : parts_under piece value ≡ ys
-
   nothing : (xs : List MValue) → length xs ≡ 0 → [] ≡ xs
   nothing [] e = refl
   nothing (x ∷ xs) e = absurd (omega (arith, e))
 
   kept : (o : Open T) (named : List (List ℕ)) (piece : MCtor) (x : MValue) (ys : List MValue) → IsValue o.type o.sure x → builds named piece x ≡ true → parts_under piece x ≡ [] → cx.arity piece o.type ≡ 0 →
-      AreValues IsValue (parts_open cx o piece) ys → IsRefilled o named piece ys
+      AreValues IsValue (parts_open cx o piece) ys → IsRefilled IsValue o named piece ys
   kept o named piece x ys w b e z a = record { value = x; is = w; build = b; parts = e ∙ nothing ys ((unparted o piece ys a).0 ∙ z) }
 
   node_filled : (o : Open T) (named : List (List ℕ)) (e : Elementary) (k : ℕ) (ys : List MValue) → IsType o.type → IsTrue (is_of_set (cx.set_of o.type) e) → IsTrue (builds_one e (Node k (values_of ys))) → (e ≡ OnePoint → ⊥) →
@@ -214,7 +207,7 @@ module _ {T : Type 0} (IsType : T → Type 0) (IsValue : T → Bool → MValue �
       )
 
   row_refilled : (o : Open T) (s : MShape) (named : List (List ℕ)) (len : Option ℕ) (items : Rattle.match_model.specs.Values.MValues) → IsType o.type → cx.set_of o.type ≡ RowSet len → IsTrue (belongs (cx.set_of o.type) (RowCtor s)) →
-      IsValue o.type o.sure (Row items) → covers s (length (values_list items)) ≡ true → (ys : List MValue) → AreValues IsValue (parts_open cx o (RowCtor s)) ys → IsRefilled o named (RowCtor s) ys
+      IsValue o.type o.sure (Row items) → covers s (length (values_list items)) ≡ true → (ys : List MValue) → AreValues IsValue (parts_open cx o (RowCtor s)) ys → IsRefilled IsValue o named (RowCtor s) ys
   row_refilled o s named len items d e k w c ys a =
       let n = length (values_list items) in
       let allowed : IsTrue (allows_length len n) = length_is len o.sure items (subst (λ x. ValueIs x o.sure (Row items)) e (values.each o.type o.sure (Row items) d w)) in
@@ -228,7 +221,7 @@ module _ {T : Type 0} (IsType : T → Type 0) (IsValue : T → Bool → MValue �
       go s c (u.0 ∙ law.arity o.type (RowCtor s) d k) all mine
     where
       go : (s : MShape) → covers s (length (values_list items)) ≡ true → length ys ≡ least_length s → AllValues (cx.sub (RowCtor (FixedShape (length (values_list items)))) o.type 0) o.sure (values_list items) →
-          AllValues (cx.sub (RowCtor (FixedShape (length (values_list items)))) o.type 0) o.sure ys → IsRefilled o named (RowCtor s) ys
+          AllValues (cx.sub (RowCtor (FixedShape (length (values_list items)))) o.type 0) o.sure ys → IsRefilled IsValue o named (RowCtor s) ys
       go (FixedShape m) c l all mine =
           let same : m ≡ length (values_list items) = nat_equal m (length (values_list items)) c in
           record {
@@ -264,7 +257,7 @@ module _ {T : Type 0} (IsType : T → Type 0) (IsValue : T → Bool → MValue �
           }
 
   pub refill : (o : Open T) (piece : MCtor) (named : List (List ℕ)) (x : MValue) (set : MSet) → IsType o.type → cx.set_of o.type ≡ set → belongs set piece ≡ true → IsValue o.type o.sure x → builds named piece x ≡ true →
-      (ys : List MValue) → AreValues IsValue (parts_open cx o piece) ys → IsRefilled o named piece ys
+      (ys : List MValue) → AreValues IsValue (parts_open cx o piece) ys → IsRefilled IsValue o named piece ys
   refill o SingleCtor named (Node j parts) SingleSet d e k w b ys a =
       let p = unparted o SingleCtor ys a in
       record { value = Node 0 (values_of ys); is = node_filled o named OneSingle 0 ys d (subst (λ x. IsTrue (is_of_set x OneSingle)) (sym e) refl) refl (λ q. cc) p.0 p.1; build = refl; parts = listed ys }
@@ -295,3 +288,11 @@ module _ {T : Type 0} (IsType : T → Type 0) (IsValue : T → Bool → MValue �
   refill o WildCtor named x set d e k w b ys a = untrue b
   refill o OrCtor named x set d e k w b ys a = untrue b
   refill o piece named x set d e k w b ys a = untrue k
+
+  -- the same, as laws
+
+  pub met_parts_are_values : MetPartsAreValues IsType IsValue cx
+  met_parts_are_values o c named v d h i b = parts_values o c named v (cx.set_of o.type) d refl h i b
+
+  pub values_refilled : ValuesCanBeRefilled IsType IsValue cx
+  values_refilled o c named v parts d h i b a = refill o c named v (cx.set_of o.type) d refl h i b parts a

@@ -1,0 +1,6 @@
+use Rattle.pat_context.proofs.Decided.{ctor_values_told}
+use Rattle.pat_context.proofs.laws.ctor_values_are_told.Goals as goal
+
+pub returns : goal.returns
+returns g c =
+    ctor_values_told (g.C.PatCx.is_type c.args.cx.now) (g.C.PatCx.is_value c.args.cx.now) (g.C.PatCx.context c.args.cx.now) (g.met.C.PatCx.values c.args.cx.now) (g.met.C.PatCx.parts c.args.cx.now) (g.C.PatCx.empty_of c.args.cx.now) (g.C.PatCx.variant_empty_of c.args.cx.now) (g.met.C.PatCx.empty c.args.cx.now) (g.met.C.PatCx.unsure c.args.cx.now)
