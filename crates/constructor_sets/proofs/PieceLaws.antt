@@ -1,20 +1,18 @@
 -- The laws of the pieces of a column.
-use Rattle.std.proofs.Common.{◌≡◌, ℕ, zero, suc, ◌<◌, ◌-◌, Bool, true, false, List, [], ◌∷◌, ◌++◌, map, Option, Some, None, refl, sym, subst, arith, IsTrue}
+use Rattle.std.proofs.Common.{ℕ, zero, suc, ◌-◌, Bool, true, false, List, [], ◌∷◌, ◌++◌, map, Option, Some, None, sym, subst, arith, IsTrue}
 use Rattle.std.specs.List.{All, Contains}
 use Rattle.std.proofs.lemmas.List.{map-append}
-use Rattle.std.proofs.lemmas.List.Elements.{All-append, All-cons, All-nil, All-push}
 use Rattle.match_model.specs.Values.{MValue}
 use Rattle.match_model.specs.Numbers.{MEnd, At, MRange}
-use Rattle.match_model.specs.Constructors.{FixedShape, LongerShape, MCtor, SingleCtor, PointCtor, LaterCtor, OtherTextCtor, VariantCtor, FlagCtor, NumbersCtor, TextCtor, RowCtor, MSet, SingleSet, PointSet, FlagSet, TextSet, OpaqueSet, NothingSet, VariantSet, NumberSet, RowSet, belongs}
+use Rattle.match_model.specs.Constructors.{FixedShape, LongerShape, MCtor, LaterCtor, OtherTextCtor, VariantCtor, NumbersCtor, TextCtor, RowCtor, MSet, SingleSet, PointSet, FlagSet, TextSet, OpaqueSet, NothingSet, VariantSet, NumberSet, RowSet, belongs}
 use Rattle.match_model.specs.Contexts.{Context}
 use Rattle.match_model.specs.ContextLaws.{ValuesLaw, PartsLaw, EmptyLaw, UnsureLaw}
 use Rattle.match_model.specs.Made.{IsForward}
 use Rattle.match_model.specs.Pieces.{Follow, last_one, one_more, IsCutToo, ArePieces, each_below, lengths_end, longest_back}
 use Rattle.match_model.specs.PieceStates.{named_in}
 use Rattle.range_split.proofs.Following.{Follow-ascends}
-use Rattle.slice_split.proofs.Below.{All-each_below}
 use Rattle.pat_context.proofs.Decided.{ctor_values_told}
-use Rattle.constructor_sets.specs.Laws.{IsColumn, EachByOnePiece, PiecesFitColumns, PiecesStandInOrder, PieceValuesAreTold}
+use Rattle.constructor_sets.specs.Laws.{EachByOnePiece, PiecesFitColumns, PiecesStandInOrder, PieceValuesAreTold}
 use Rattle.constructor_sets.proofs.InOrder.{in_order_of}
 use Rattle.constructor_sets.proofs.Once.{once_by}
 use Rattle.constructor_sets.proofs.Reaching.{array_covers}

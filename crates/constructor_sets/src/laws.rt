@@ -24,3 +24,15 @@ pub fn pieces_stand_in_order()
 pub fn piece_values_are_told<C: PatCx>(cx: &C)
     ensures { PieceValuesAreTold (C.is_type cx.now) (C.is_value cx.now) (C.context cx.now) (C.empty_of cx.now) (C.variant_empty_of cx.now) }
 {}
+
+#[cfg(test)]
+mod tests {
+    use super::*;
+    use pat_context::toy::Toy;
+
+    // a generic law is proved from its bounds alone, so it is called once at a type
+    #[test]
+    fn laws_hold_at_the_toy_context(_rt: HostRuntime) {
+        piece_values_are_told(&Toy);
+    }
+}

@@ -1,5 +1,5 @@
 -- Values at the open places of a constructor's parts, and which constructors of a type have values.
-use Rattle.std.specs.Prelude.{◌≡◌, ◌⊎◌, ⊤, ℕ, Bool, true, false, not, ◌||◌, List, [], ◌∷◌, length, nat_eq, Option, Some, None, IsTrue}
+use Rattle.std.specs.Prelude.{◌≡◌, ◌⊎◌, ⊤, ℕ, Bool, true, false, not, ◌||◌, List, [], ◌∷◌, length, nat_eq, None, IsTrue}
 use Rattle.match_model.specs.Values.{MValue}
 use Rattle.match_model.specs.Constructors.{MShape, MCtor, SingleCtor, VariantCtor, RowCtor, WildCtor, OrCtor, MSet, RowSet, OpaqueSet, NothingSet, least_length, belongs, builds}
 use Rattle.match_model.specs.Contexts.{Context, Open}
