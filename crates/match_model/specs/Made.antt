@@ -17,6 +17,11 @@ pub record IsMadeRange (r : MRange) : Type 0 where
   pub low : IsHeldEnd r.low
   pub high : IsHeldEnd r.high
 
+-- the range of the constructor, where it has one, does not run backward
+abbrev pub IsForward : MCtor → Type 0
+IsForward (NumbersCtor r) = IsTrue (ends_ascend r.low r.high)
+IsForward _ = ⊤
+
 -- the range of the constructor, where it has one, can be held
 abbrev pub IsMade : MCtor → Type 0
 IsMade (NumbersCtor r) = IsMadeRange r

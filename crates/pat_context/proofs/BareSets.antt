@@ -1,8 +1,8 @@
 -- Patterns of types without constructors, and constructors of the program.
-use Rattle.std.proofs.Common.{◌≡◌, ◌⊎◌, inl, inr, Bool, true, false, ◌&&◌, Some, None, IsTrue, refl, sym, ap, ◌∙◌}
+use Rattle.std.proofs.Common.{◌≡◌, ◌⊎◌, inl, inr, false, ◌&&◌, IsTrue, refl, sym, ap, ◌∙◌}
 use Rattle.match_model.specs.Constructors.{MCtor, SingleCtor, PointCtor, LaterCtor, OtherTextCtor, VariantCtor, FlagCtor, NumbersCtor, TextCtor, RowCtor, WildCtor, OrCtor, OpaqueSet, NothingSet, MSet, belongs}
 use Rattle.match_model.specs.Contexts.{Context}
-use Rattle.match_model.specs.ArenaPatterns.{MDePat, de_pat, ctor_of}
+use Rattle.match_model.specs.ArenaPatterns.{de_pat}
 use Rattle.match_model.specs.WellTyped.{IsTyped, is_written}
 use Rattle.match_model.proofs.Basics.{untrue, both}
 use Rattle.pat_context.specs.Parts.{BarePatternsAreWild}

@@ -1,10 +1,10 @@
 -- What an elementary constructor builds, a constructor that has it builds too.
-use Rattle.std.proofs.Common.{◌≡◌, ℕ, zero, suc, ◌<◌, ℤ, Bool, true, false, not, ◌||◌, List, [], ◌∷◌, length, max, replicate, int_le, refl, ap, subst, arith}
-use Rattle.std.specs.List.{list_any, list_all}
+use Rattle.std.proofs.Common.{◌≡◌, ℕ, ℤ, Bool, true, false, not, List, length, int_le, ap, subst, arith}
+use Rattle.std.specs.List.{list_any}
 use Rattle.std.proofs.lemmas.Int.{ints}
 use Rattle.match_model.specs.Values.{MValue, Flag, Num, Text, Node, Point, Row, Later, values_list}
 use Rattle.match_model.specs.Numbers.{MRange, in_range, closed}
-use Rattle.match_model.specs.Texts.{text_eq, is_scalar}
+use Rattle.match_model.specs.Texts.{text_eq}
 use Rattle.match_model.specs.Constructors.{MShape, SingleCtor, PointCtor, LaterCtor, OtherTextCtor, VariantCtor, FlagCtor, NumbersCtor, TextCtor, RowCtor, OneSingle, OnePoint, OneLater, OneVariant, OneFlag, OneNumber, OneText, OneLength, builds, builds_one, covers}
 use Rattle.match_model.proofs.Basics.{both, untrue, nat_equal, text_equal}
 
@@ -49,37 +49,3 @@ other_built named t h _ b = untrue b
 pub row_built : (named : List (List ℕ)) (s : MShape) (n : ℕ) → covers s n ≡ true → (v : MValue) → builds_one (OneLength n) v ≡ true → builds named (RowCtor s) v ≡ true
 row_built named s n h (Row items) b = subst (λ x. covers s x ≡ true) (nat_equal n (length (values_list items)) b) h
 row_built named s n h _ b = untrue b
-
--- a text that is not in a list: one that is longer than all
-
-longest : List (List ℕ) → ℕ
-longest [] = 0
-longest (t ∷ ts) = max (length t) (longest ts)
-
-pub new_text : List (List ℕ) → List ℕ
-new_text ts = replicate (suc (longest ts)) 97
-
-all_scalar : (n : ℕ) → list_all is_scalar (replicate n 97) ≡ true
-all_scalar zero = refl
-all_scalar (suc n) = all_scalar n
-
-length-replicate : (n : ℕ) → length {A = ℕ} (replicate n 97) ≡ n
-length-replicate zero = refl
-length-replicate (suc n) = let e = length-replicate n in omega (arith, e)
-
-long_is_new : (t : List ℕ) (ts : List (List ℕ)) → longest ts < length t → list_any (text_eq t) ts ≡ false
-unfolding longest
-long_is_new t [] h = refl
-long_is_new t (u ∷ ts) h = go (text_eq t u) refl (long_is_new t ts (omega arith))
-  where
-    go : (b : Bool) → text_eq t u ≡ b → list_any (text_eq t) ts ≡ false → (b || list_any (text_eq t) ts) ≡ false
-    go true e ih = let same = ap length (text_equal t u e) in absurd (omega (arith, same))
-    go false e ih = ih
-
-pub new_is_new : (ts : List (List ℕ)) → list_any (text_eq (new_text ts)) ts ≡ false
-unfolding new_text
-new_is_new ts = long_is_new (replicate (suc (longest ts)) 97) ts (omega (arith, length-replicate (suc (longest ts))))
-
-pub new_scalar : (ts : List (List ℕ)) → list_all is_scalar (new_text ts) ≡ true
-unfolding new_text
-new_scalar ts = all_scalar (suc (longest ts))

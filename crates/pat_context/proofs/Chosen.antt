@@ -1,10 +1,10 @@
 -- Values for all parts, from a value for each; a text that is none of a list.
-use Rattle.std.proofs.Common.{◌≡◌, ◌<◌, ◌≤◌, ◌+◌, ℕ, zero, suc, Bool, true, false, List, [], ◌∷◌, length, IsTrue, refl, ap, arith, subst}
+use Rattle.std.proofs.Common.{◌≡◌, ◌<◌, ◌≤◌, ◌+◌, ℕ, zero, suc, Bool, List, [], ◌∷◌, length, refl, ap, arith}
 use Rattle.match_model.specs.Values.{MValue}
-use Rattle.match_model.specs.Constructors.{Elementary, elementary_ctor, is_of_set, sure_inside}
+use Rattle.match_model.specs.Constructors.{elementary_ctor, sure_inside}
 use Rattle.match_model.specs.Contexts.{Context}
 use Rattle.match_model.specs.ContextLaws.{PartsAre, parts_count}
-use Rattle.pat_context.specs.Laws.{ArePartsOf, PartsCanBeChosen}
+use Rattle.pat_context.specs.Laws.{PartsCanBeChosen}
 
 module _ {T : Type 0} (IsValue : T → Bool → MValue → Type 0) (sure : Bool) (sub : ℕ → T) where
   Chosen : ℕ → ℕ → Type 0

@@ -1,18 +1,18 @@
 -- Which constructors of a type have values, by the laws of its context.
-use Rattle.std.proofs.Common.{◌≡◌, ◌<◌, ◌≤◌, ◌⊎◌, inl, inr, ◌+◌, ℕ, ℤ, pos, Bool, true, false, not, ◌&&◌, ◌||◌, List, [], ◌∷◌, length, Option, Some, None, IsTrue, nat_eq, nat_le, refl, sym, subst, ap, ◌∙◌, arith}
+use Rattle.std.proofs.Common.{◌≡◌, ◌<◌, ◌≤◌, ◌⊎◌, inl, inr, ◌+◌, ℕ, ℤ, Bool, true, false, not, ◌&&◌, ◌||◌, List, [], ◌∷◌, length, Option, Some, None, IsTrue, nat_eq, nat_le, refl, sym, subst, ap, ◌∙◌, arith}
 use Rattle.std.proofs.lemmas.Bool.Decides.{nat_tests}
-use Rattle.match_model.specs.Values.{MValue, Flag, Num, Text, Node, Point, Row, Thing, Later, Unseen, values_list, parts_of}
+use Rattle.match_model.specs.Values.{MValue, Node, Row, values_list}
 use Rattle.match_model.specs.Numbers.{MEnd, Free, At, MRange, in_range, is_from, is_up_to, ends_ascend}
 use Rattle.match_model.specs.Constructors.{MShape, FixedShape, LongerShape, covers, least_length, MCtor, SingleCtor, PointCtor, LaterCtor, OtherTextCtor, VariantCtor, FlagCtor, NumbersCtor, TextCtor, RowCtor, WildCtor, OrCtor, builds, MSet, SingleSet, PointSet, FlagSet, TextSet, OpaqueSet, NothingSet, VariantSet, NumberSet, RowSet, Elementary, OneSingle, OnePoint, OneLater, OneVariant, OneFlag, OneNumber, OneText, OneLength, elementary_ctor, builds_one, is_of_set, is_free, last_range, in_either, in_second, end_belongs, greatest_held, least_held, belongs, sure_inside}
 use Rattle.match_model.specs.Contexts.{Context}
 use Rattle.match_model.specs.ContextLaws.{BuiltOnce, ValueIs, ValuesLaw, PartsLaw, PartsAre, EmptyLaw, UnsureLaw, parts_count}
-use Rattle.match_model.specs.Made.{IsMade, IsMadeSet}
+use Rattle.match_model.specs.Made.{IsForward, IsMadeSet}
 use Rattle.match_model.specs.PieceStates.{HasValue}
-use Rattle.match_model.proofs.Basics.{nat_itself, nat_equal, flag_itself, untrue, both}
+use Rattle.match_model.proofs.Basics.{nat_itself, nat_equal, untrue, both}
+use Rattle.match_model.proofs.TextOutside.{text_outside}
 use Rattle.range_split.proofs.Pairs.{some_number}
-use Rattle.pat_context.specs.Laws.{ArePartsOf}
 use Rattle.pat_context.specs.Parts.{ctor_has_value, rows_have_value, Tells, CtorValuesAreTold}
-use Rattle.pat_context.proofs.Building.{single_built, variant_built, point_built, later_built, flag_built, number_built, text_built, other_built, row_built, new_text, new_is_new, new_scalar}
+use Rattle.pat_context.proofs.Building.{single_built, variant_built, point_built, later_built, flag_built, number_built, text_built, other_built, row_built}
 use Rattle.pat_context.proofs.Chosen.{chosen_parts}
 use Rattle.pat_context.proofs.Consequences.{can_be_built}
 use Rattle.pat_context.proofs.RangeEnds.{low_in, high_in}
@@ -56,18 +56,19 @@ number_of first second r m b up =
         let n = some_number first.low first.high m.0.up in
         (n.0, all_free r n.0 e f, ap (λ y. y || in_second second n.0) n.1)
 
-served : (set : MSet) (named : List (List ℕ)) (c : MCtor) → IsMadeSet set → belongs set c ≡ true → IsMade c → Served set named c
+served : (set : MSet) (named : List (List ℕ)) (c : MCtor) → IsMadeSet set → belongs set c ≡ true → IsForward c → Served set named c
 served SingleSet named SingleCtor m h k = record { by = OneSingle; of_set = refl; is_for = tt; build = λ v b. single_built named v b }
 served PointSet named PointCtor m h k = record { by = OnePoint; of_set = refl; is_for = refl; build = λ v b. point_built named v b }
 served (VariantSet count later) named (VariantCtor j) m h k = record { by = OneVariant j; of_set = h; is_for = tt; build = λ v b. variant_built named j v b }
 served (VariantSet count later) named LaterCtor m h k = record { by = OneLater; of_set = h; is_for = refl; build = λ v b. later_built named v b }
 served FlagSet named (FlagCtor x) m h k = record { by = OneFlag x; of_set = refl; is_for = refl; build = λ v b. flag_built named x v b }
 served (NumberSet first second) named (NumbersCtor r) m h k =
-    let n = number_of first second r m h k.up in
+    let n = number_of first second r m h k in
     record { by = OneNumber n.0; of_set = n.2; is_for = (n.0, refl); build = λ v b. number_built named r n.0 n.1 v b }
 served TextSet named (TextCtor t) m h k = record { by = OneText t; of_set = h; is_for = refl; build = λ v b. text_built named t v b }
 served TextSet named OtherTextCtor m h k =
-    record { by = OneText (new_text named); of_set = new_scalar named; is_for = (new_text named, refl); build = λ v b. other_built named (new_text named) (new_is_new named) v b }
+    let t = text_outside named in
+    record { by = OneText t.0; of_set = t.1; is_for = (t.0, refl); build = λ v b. other_built named t.0 t.2 v b }
 served (RowSet None) named (RowCtor s) m h k = record { by = OneLength (least_length s); of_set = refl; is_for = tt; build = λ v b. row_built named s (least_length s) (least_covers s) v b }
 served (RowSet (Some n)) named (RowCtor s) m h k = record { by = OneLength n; of_set = nat_itself n; is_for = tt; build = λ v b. row_built named s n h v b }
 served _ named c m h k = untrue h

@@ -1,9 +1,9 @@
 pub mod Consequences
-mod Chosen
+pub mod Chosen
 pub mod RangeEnds
 pub mod Building
 pub mod EachFrom
 pub mod Parting
-mod Decided
-mod BareSets
+pub mod Decided
+pub mod BareSets
 pub mod Held

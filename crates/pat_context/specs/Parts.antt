@@ -1,10 +1,10 @@
 -- Values at the open places of a constructor's parts, and which constructors of a type have values.
-use Rattle.std.specs.Prelude.{◌≡◌, ◌⊎◌, ⊤, ℕ, Bool, true, false, not, ◌||◌, List, [], ◌∷◌, length, nat_eq, Option, Some, None, IsTrue}
+use Rattle.std.specs.Prelude.{◌≡◌, ◌⊎◌, ⊤, ℕ, Bool, true, false, not, ◌||◌, List, [], ◌∷◌, length, nat_eq, None, IsTrue}
 use Rattle.match_model.specs.Values.{MValue}
 use Rattle.match_model.specs.Constructors.{MShape, MCtor, SingleCtor, VariantCtor, RowCtor, WildCtor, OrCtor, MSet, RowSet, OpaqueSet, NothingSet, least_length, belongs, builds}
 use Rattle.match_model.specs.Contexts.{Context, Open}
 use Rattle.match_model.specs.ArenaPatterns.{MDePat, ctor_of}
-use Rattle.match_model.specs.Made.{IsMade}
+use Rattle.match_model.specs.Made.{IsForward}
 use Rattle.match_model.specs.Rows.{parts_open}
 use Rattle.match_model.specs.Witness.{parts_under}
 use Rattle.match_model.specs.WellTyped.{IsTyped}
@@ -64,7 +64,7 @@ Tells false P = ¬ P
 -- which constructors of a type have values is told by emptiness, set by set
 abbrev pub CtorValuesAreTold : {T : Type 0} → (T → Type 0) → (T → Bool → MValue → Type 0) → Context T → (is_empty : T → Bool) → (variant_empty : T → ℕ → Bool) → Type 0
 CtorValuesAreTold {T} IsType IsValue cx is_empty variant_empty =
-    (o : Open T) (named : List (List ℕ)) (c : MCtor) → IsType o.type → IsTrue (belongs (cx.set_of o.type) c) → IsMade c →
+    (o : Open T) (named : List (List ℕ)) (c : MCtor) → IsType o.type → IsTrue (belongs (cx.set_of o.type) c) → IsForward c →
     Tells (ctor_has_value cx is_empty variant_empty o.type o.sure c) (HasValue IsValue o named c)
 
 -- a pattern of an opaque type, or of a type without constructors, is a wildcard or an or-pattern

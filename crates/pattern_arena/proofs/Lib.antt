@@ -1,3 +1,4 @@
 pub mod TreeFacts
 mod FlagMatch
 pub mod OneReadingList
+pub mod Held

@@ -1,10 +1,11 @@
 //! What holds of everything that is placed, and of what a match means.
 
 ghost use Rattle.std.specs.Prelude.{◌≡◌, map, IfOk};
-ghost use Rattle.pattern_arena.specs.Trees.{tree};
+ghost use Rattle.match_model.specs.Made.{AreArmsMade};
+ghost use Rattle.pattern_arena.specs.Trees.{tree, plain_match};
 ghost use Rattle.pattern_arena.specs.Meaning.{ReadingListIsOne, OverlapListIsOne, ExhaustiveWhereNothingIsLeft};
 
-use crate::{DePat, Placer};
+use crate::{CheckedMatch, DePat, Placer};
 use no_memory::NoMemory;
 use pat_context::PatCx;
 
@@ -35,4 +36,9 @@ pub fn overlap_lists_are_one<C: PatCx>(cx: &C)
 /// context have.
 pub fn exhaustive_where_nothing_is_left<C: PatCx>(cx: &C)
     ensures { ExhaustiveWhereNothingIsLeft (C.is_value cx.now) }
+{}
+
+/// The ranges in the patterns of a match do not run backward, and their ends can be held.
+pub fn matches_are_made<T: Copy>(m: &CheckedMatch<'_, T>)
+    ensures { AreArmsMade (plain_match m.now).arms }
 {}

@@ -1,5 +1,5 @@
 -- Matrices and rows of heads: their types, their heads, their or-patterns.
-use Rattle.std.specs.Prelude.{◌≡◌, Bool, false, List, [], ◌∷◌, ⊤, Some, map}
+use Rattle.std.specs.Prelude.{◌≡◌, false, List, [], ◌∷◌, ⊤, map}
 use Rattle.match_model.specs.Contexts.{Context, Open}
 use Rattle.match_model.specs.Rows.{Head, starts_or}
 use Rattle.match_model.specs.Matrices.{MColumn, MRow, open_of}
