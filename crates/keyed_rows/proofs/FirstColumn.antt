@@ -2,13 +2,12 @@
 use Rattle.std.proofs.Common.{◌≡◌, ℕ, Bool, true, false, List, [], ◌∷◌, ◌++◌, map, Some, None, cond, refl, sym, ap, ◌∙◌}
 use Rattle.std.proofs.lemmas.List.{append-nil}
 use Rattle.match_model.specs.Constructors.{MCtor, has_piece}
-use Rattle.match_model.specs.ArenaPatterns.{MBound, de_pat, de_pats_list}
+use Rattle.match_model.specs.ArenaPatterns.{de_pat, de_pats_list}
 use Rattle.match_model.specs.Places.{MStep}
-use Rattle.match_model.specs.Trees.{MBind}
 use Rattle.match_model.specs.Rows.{Head, Choice, is_wild, choices_of, row_rest, starts_wild, specialised_heads, heads_of}
 use Rattle.match_model.specs.Matrices.{MRow, row_with, bind_at, head_binds, first_binds, expand_first, expand_rows, specialised_rows, default_rows}
 use Rattle.match_model.specs.Lists.{Every}
-use Rattle.match_model.specs.Steps.{Replacement, own_binds, expand_head, specialise_head, default_head, with_others, replacements_at, row_replaced, rows_at}
+use Rattle.match_model.specs.Steps.{own_binds, expand_head, specialise_head, default_head, with_others, replacements_at, row_replaced, rows_at}
 
 -- the row has a head in the first column
 pub record HasHead {T : Type 0} (r : MRow T) : Type 0 where

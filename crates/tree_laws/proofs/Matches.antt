@@ -1,5 +1,5 @@
 -- The nodes of every well-typed match: right, defined, nothing looked at twice, all alive, none twice.
-use Rattle.std.proofs.Common.{◌≡◌, ◌⊎◌, inl, inr, ℕ, zero, suc, Bool, true, List, [], ◌∷◌, Some, slice_get, refl, sym, ◌∙◌, subst, arith}
+use Rattle.std.proofs.Common.{◌≡◌, inl, inr, ℕ, zero, suc, Bool, true, List, [], ◌∷◌, Some, slice_get, refl, sym, ◌∙◌, subst, arith}
 use Rattle.std.specs.List.{list_all, Contains}
 use Rattle.match_model.specs.Values.{MValue, Unseen}
 use Rattle.match_model.specs.Contexts.{Context}

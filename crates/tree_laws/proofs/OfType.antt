@@ -1,5 +1,5 @@
 -- The places and cases of a lowered tree are of the match's type.
-use Rattle.std.proofs.Common.{◌≡◌, ◌<◌, inl, inr, ℕ, zero, suc, Bool, true, false, ◌&&◌, List, [], ◌∷◌, ◌++◌, map, length, cond, nat_eq, Option, Some, None, slice_get, Ordering, Less, Equal, Greater, refl, sym, ap, ◌∙◌, subst, IsTrue}
+use Rattle.std.proofs.Common.{◌≡◌, inl, inr, ℕ, Bool, true, false, List, [], ◌∷◌, ◌++◌, map, cond, nat_eq, Some, None, slice_get, Ordering, Less, Equal, Greater, refl, sym, ap, ◌∙◌, subst}
 use Rattle.std.specs.List.{list_all}
 use Rattle.std.specs.Ordering.{match_ordering}
 use Rattle.match_model.specs.Texts.{compare_texts}
@@ -10,8 +10,8 @@ use Rattle.match_model.specs.Contexts.{Context}
 use Rattle.match_model.specs.ContextLaws.{PartsLaw, ValuesLaw}
 use Rattle.match_model.specs.ArenaPatterns.{MPart, WholePart, MiddlePart, MBound, de_pat, de_pats_list}
 use Rattle.match_model.specs.Pieces.{ArePieces}
-use Rattle.match_model.specs.Places.{MStep, MiddleStep}
-use Rattle.match_model.specs.Trees.{MCase, ElseCase, MBind, MBranch, MNode}
+use Rattle.match_model.specs.Places.{MiddleStep}
+use Rattle.match_model.specs.Trees.{MBind, MBranch, MNode}
 use Rattle.match_model.specs.Rows.{Head, Choice, choices_of, heads_of}
 use Rattle.match_model.specs.Matrices.{MColumn, MRow, bind_at, head_binds, part_columns}
 use Rattle.match_model.specs.WellTyped.{part_is_of, is_written, IsTyped, IsHeadTyped, AreHeadsTyped}
@@ -22,7 +22,7 @@ use Rattle.match_model.specs.Steps.{Replacement, own_binds, expand_head, special
 use Rattle.match_model.specs.RowOrder.{AreInOrder}
 use Rattle.match_model.specs.DecisionTrees.{MTree, SwitchTree, AskTree, TakeTree, MissTree, VoidTree, MBranches, no_branch, more_branches, all_head_binds, by_name, row_binds, case_of}
 use Rattle.match_model.specs.Lowering.{ctors_at, Lowers, no_value_left, no_row_left, takes, asks, drops, opens, switches, Branches, no_else, with_else, no_case, one_case}
-use Rattle.match_model.specs.SharedTrees.{CaseTree, case_trees, Walks, known, to_take, to_miss, to_void, to_ask, to_switch, WalksAll, nothing, last_first, IsBranchOf, IsNodeOf, switch_of, ask_of, take_of, miss_of, void_of, IsShared}
+use Rattle.match_model.specs.SharedTrees.{case_trees, Walks, known, to_take, to_miss, to_void, to_ask, to_switch, WalksAll, nothing, last_first, IsBranchOf, IsNodeOf, switch_of, ask_of, take_of, miss_of, void_of, IsShared}
 use Rattle.match_model.proofs.Basics.{both, and_true, untrue, nat_equal}
 use Rattle.keyed_rows.proofs.Parting.{among-map, among-every}
 use Rattle.keyed_rows.proofs.RowOrder.{among-flat, every-among}
@@ -301,18 +301,26 @@ module _ {T : Type 0} (IsType : T → Type 0) (cx : Context T) (V : T → Bool �
           Ready i columns rows → slice_get columns i ≡ Some c → ArePieces (cx.set_of c.type) (ctors_at i rows) all → ((x : MCtor) → Among x pieces → Among x all) → ColumnsOf columns → RowsOf rows → CasesOf cx root c.type branches × AreTreesOf cx root branches
       branches-of _ _ _ _ _ _ _ (no_else i c columns rows all none) ready there are sub e h = (tt, tt)
       branches-of _ _ _ _ _ _ _ (with_else i c columns rows next all piece tree m v o t) ready there are sub e h =
-          let at : IsColumnOf cx root c = column-at (IsColumnOf cx root) columns i c e there in
-          ((refl, tt),
-           (lowered-of (replaced_at i columns []) next tree t (engine.dropped i c columns rows next ready there o) (replaced-every (IsColumnOf cx root) i columns [] e tt)
-            (step-of default_head i c columns rows next ready.good.rows_are there at (default-of c.type) o h), tt))
+          let at : IsColumnOf cx root c = column-at (IsColumnOf cx root) columns i c e there in (
+            (refl, tt),
+            (
+              lowered-of (replaced_at i columns []) next tree t (engine.dropped i c columns rows next ready there o) (replaced-every (IsColumnOf cx root) i columns [] e tt)
+                  (step-of default_head i c columns rows next ready.good.rows_are there at (default-of c.type) o h),
+              tt,
+            ),
+          )
       branches-of _ _ _ _ _ _ _ (no_case i c columns rows all piece pieces branches x k) ready there are sub e h = branches-of i c columns rows all pieces branches k ready there are (λ y m. sub y (inr m)) e h
       branches-of _ _ _ _ _ _ _ (one_case i c columns rows next all piece pieces tree branches pr v o t k) ready there are sub e h =
           let at : IsColumnOf cx root c = column-at (IsColumnOf cx root) columns i c e there in
           let column : IsGoodColumn IsType c = column-at (IsGoodColumn IsType) columns i c ready.good.columns_are there in
           let mine : Among piece all = sub piece (inl refl) in
           let fit : IsFit cx i c rows all piece = pieces-fit IsType cx V values decides i c columns rows all piece ready there are mine in
-          let rest = branches-of i c columns rows all pieces branches k ready there are (λ y m. sub y (inr m)) e h in
-          ((case-of-ctor cx root c.type piece fit.belong, rest.0),
-           (lowered-of (replaced_at i columns (part_columns cx c piece)) next tree t (engine.entered i c columns rows next all piece ready there are mine o)
-            (replaced-every (IsColumnOf cx root) i columns (part_columns cx c piece) e (parts-of c piece column.type fit.belong at))
-            (step-of (specialise_head piece (cx.arity piece c.type)) i c columns rows next ready.good.rows_are there at (special-of piece (cx.arity piece c.type) c.type) o h), rest.1))
+          let rest = branches-of i c columns rows all pieces branches k ready there are (λ y m. sub y (inr m)) e h in (
+            (case-of-ctor cx root c.type piece fit.belong, rest.0),
+            (
+              lowered-of (replaced_at i columns (part_columns cx c piece)) next tree t (engine.entered i c columns rows next all piece ready there are mine o)
+                  (replaced-every (IsColumnOf cx root) i columns (part_columns cx c piece) e (parts-of c piece column.type fit.belong at))
+                  (step-of (specialise_head piece (cx.arity piece c.type)) i c columns rows next ready.good.rows_are there at (special-of piece (cx.arity piece c.type) c.type) o h),
+              rest.1,
+            ),
+          )

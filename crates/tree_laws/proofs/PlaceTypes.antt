@@ -2,12 +2,12 @@
 use Rattle.std.proofs.Common.{◌≡◌, ◌<◌, ◌≤◌, ℕ, zero, suc, ◌+◌, ◌-◌, Bool, true, false, ◌&&◌, cond, List, [], ◌∷◌, ◌++◌, nat_eq, nat_lt, nat_le, Option, Some, None, refl, sym, ap, ◌∙◌, subst, arith}
 use Rattle.std.proofs.lemmas.Bool.Decides.{nat_tests}
 use Rattle.match_model.specs.Values.{MValue}
-use Rattle.match_model.specs.Constructors.{FixedShape, LongerShape, MShape, MCtor, SingleCtor, PointCtor, LaterCtor, OtherTextCtor, WildCtor, OrCtor, VariantCtor, FlagCtor, NumbersCtor, TextCtor, RowCtor, MSet, SingleSet, PointSet, FlagSet, TextSet, OpaqueSet, NothingSet, VariantSet, NumberSet, RowSet, least_length, shape_belongs, belongs}
+use Rattle.match_model.specs.Constructors.{FixedShape, LongerShape, MShape, MCtor, SingleCtor, PointCtor, LaterCtor, OtherTextCtor, VariantCtor, FlagCtor, NumbersCtor, TextCtor, RowCtor, MSet, SingleSet, PointSet, FlagSet, TextSet, VariantSet, NumberSet, RowSet, least_length, shape_belongs, belongs}
 use Rattle.match_model.specs.Contexts.{Context}
 use Rattle.match_model.specs.ContextLaws.{PartsLaw}
 use Rattle.match_model.specs.Places.{MStep, ThroughStep, FieldStep, FrontStep, BackStep, MiddleStep}
 use Rattle.match_model.specs.Matrices.{part_step}
-use Rattle.match_model.specs.OfType.{has_ctor, Entered, entered, type_entered, type_at_place, place_is_of}
+use Rattle.match_model.specs.OfType.{has_ctor, entered, type_entered, type_at_place, place_is_of}
 use Rattle.match_model.proofs.Basics.{and_true, untrue}
 
 module _ {T : Type 0} (cx : Context T) where
