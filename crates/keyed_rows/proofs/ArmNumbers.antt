@@ -1,7 +1,6 @@
 -- Where no two patterns of a match have one uid, each alternative decides what the numbering says.
 use Rattle.std.proofs.Common.{◌≡◌, ℕ, suc, ◌+◌, Bool, true, false, List, [], ◌∷◌, ◌++◌, map, nat_eq, cond, refl, sym, ap, subst, ◌∙◌}
 use Rattle.std.specs.List.{AllByRecursion, flat_map, IsDistinct}
-use Rattle.std.proofs.lemmas.List.{map-append}
 use Rattle.std.proofs.lemmas.Map.Keys.{IsDistinct-head, IsDistinct-tail}
 use Rattle.match_model.specs.Constructors.{MCtor, OrCtor}
 use Rattle.match_model.specs.ArenaPatterns.{MDePat, de_pat, MDePats, no_de_pats, more_de_pats, uid_of, MDeArm, MDeMatch}
@@ -9,8 +8,7 @@ use Rattle.match_model.specs.WellTyped.{uids_in, uids_in_all}
 use Rattle.match_model.specs.Lists.{Every, Ordered}
 use Rattle.match_model.specs.Keys.{Decision}
 use Rattle.match_model.specs.Numbering.{own_count, or_count, AreAlternatives, IsDecided, IsNumbered, AreNumbered, AreArmsNumbered, Decided, is_choice, own_decision, decisions_in, decisions_below, decision_of, match_decisions}
-use Rattle.match_model.proofs.Basics.{nat_equal, nat_itself}
-use Rattle.keyed_rows.proofs.Lists.{every-append}
+use Rattle.match_model.proofs.Basics.{nat_itself}
 
 -- some of a list, in its order
 data IsPartOf : List ℕ → List ℕ → Type 0 where
@@ -109,8 +107,7 @@ module _ {T : Type 0} where
       numbered-below : (choice : Bool) (n k m : ℕ) (ps : MDePats T) → Finds decides (decisions_below choice n k m ps) → AreNumbered decides m ps
       numbered-below choice n k m no_de_pats f = tt
       numbered-below choice n k m (more_de_pats p ps) f =
-          let r = every-both (λ d. decides d.uid ≡ d.decision) (own_decision choice (uid_of p) n k ++ decisions_in m p) (decisions_below choice n (suc k) (or_count p + m) ps) f in
-          (
+          let r = every-both (λ d. decides d.uid ≡ d.decision) (own_decision choice (uid_of p) n k ++ decisions_in m p) (decisions_below choice n (suc k) (or_count p + m) ps) f in (
             numbered m p (every-both (λ d. decides d.uid ≡ d.decision) (own_decision choice (uid_of p) n k) (decisions_in m p) r.0).1,
             numbered-below choice n (suc k) (or_count p + m) ps r.1,
           )

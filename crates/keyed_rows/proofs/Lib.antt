@@ -5,6 +5,7 @@ pub mod Canonical
 pub mod Dividing
 pub mod ExpandKeeps
 pub mod Expanding
+pub mod FirstColumn
 pub mod FirstRow
 pub mod Leaf
 pub mod Lists

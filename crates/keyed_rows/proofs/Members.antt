@@ -1,5 +1,5 @@
 -- What a list contains, by number and by recursion.
-use Rattle.std.proofs.Common.{◌≡◌, ◌<◌, inl, inr, ℕ, zero, suc, List, [], ◌∷◌, length, sym, arith}
+use Rattle.std.proofs.Common.{◌<◌, inl, inr, zero, suc, List, [], ◌∷◌, length, sym, arith}
 use Rattle.std.specs.List.{Contains}
 use Rattle.match_model.specs.Lists.{Among}
 

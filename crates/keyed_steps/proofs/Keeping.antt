@@ -34,7 +34,7 @@ use Rattle.keyed_steps.proofs.PartTypes.{columns-good}
 use Rattle.keyed_steps.proofs.Standing.{column-at, good-at, good-from}
 use Rattle.keyed_steps.proofs.Same.{counted}
 
-replaced-every : {A : Type 0} (P : A → Type 0) (i : ℕ) (xs new : List A) → Every P xs → Every P new → Every P (replaced_at i xs new)
+pub replaced-every : {A : Type 0} (P : A → Type 0) (i : ℕ) (xs new : List A) → Every P xs → Every P new → Every P (replaced_at i xs new)
 replaced-every P i [] new h k = tt
 replaced-every P zero (x ∷ xs) new h k = every-append P new xs k h.1
 replaced-every P (suc i) (x ∷ xs) new h k = (h.0, replaced-every P i xs new h.1 k)

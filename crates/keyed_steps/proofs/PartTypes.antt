@@ -45,7 +45,7 @@ step-straight (FlagCtor b) i = tt
 step-straight (NumbersCtor r) i = tt
 step-straight (TextCtor t) i = tt
 
-every-below : {A : Type 0} (P : A → Type 0) (f : ℕ → A) (n : ℕ) → ((i : ℕ) → i < n → P (f i)) → Every P (each_below f n)
+pub every-below : {A : Type 0} (P : A → Type 0) (f : ℕ → A) (n : ℕ) → ((i : ℕ) → i < n → P (f i)) → Every P (each_below f n)
 every-below P f zero h = tt
 every-below P f (suc n) h = every-append P (each_below f n) (f n ∷ []) (every-below P f n (λ i l. h i (omega (arith, l)))) (h n (omega arith), tt)
 

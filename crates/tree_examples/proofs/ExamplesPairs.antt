@@ -1,23 +1,23 @@
 -- Worked examples: the printed trees of matches on two flags, with an or-pattern under a guard and with a shared node.
-use Rattle.std.proofs.Common.{◌≡◌, ◌<◌, ◌≤◌, ◌⊎◌, inl, inr, ℕ, zero, suc, Bool, true, false, List, [], ◌∷◌, Some, slice_get, refl, sym, subst, arith, IsTrue}
+use Rattle.std.proofs.Common.{◌≡◌, ◌<◌, ◌≤◌, ◌⊎◌, inl, inr, ℕ, zero, suc, true, false, List, [], ◌∷◌, Some, slice_get, refl, sym, subst, arith, IsTrue}
 use Rattle.std.specs.List.{Contains}
 use Rattle.match_model.specs.declared.Mode.TheVariants.{Move}
 use Rattle.match_model.specs.Types.{MType, BoolType}
 use Rattle.match_model.specs.Values.{MValue, Flag, Unseen}
 use Rattle.match_model.specs.Constructors.{MCtor, FlagCtor, SingleCtor, WildCtor, OrCtor}
 use Rattle.match_model.specs.ArenaPatterns.{MDePat, de_pat, no_de_pats, de_pats_of, MDeMatch, WholePart}
-use Rattle.match_model.specs.Places.{MStep, FieldStep}
-use Rattle.match_model.specs.Trees.{FlagCase, ElseCase, MBind, MBranch, MNode, SwitchNode, AskNode, TakeNode}
-use Rattle.match_model.specs.Matrices.{MColumn, MRow, first_matrix, part_columns}
+use Rattle.match_model.specs.Places.{FieldStep}
+use Rattle.match_model.specs.Trees.{FlagCase, ElseCase, MBind, MNode, SwitchNode, AskNode, TakeNode}
+use Rattle.match_model.specs.Matrices.{MColumn, MRow, first_matrix}
 use Rattle.match_model.specs.RustTypes.{rust_context, RustValue}
 use Rattle.match_model.specs.PieceStates.{is_present}
-use Rattle.match_model.specs.DecisionTrees.{IsMissing, MTree, SwitchTree, AskTree, TakeTree, no_branch, more_branches}
+use Rattle.match_model.specs.DecisionTrees.{MTree, SwitchTree, AskTree, TakeTree, no_branch, more_branches}
 use Rattle.match_model.specs.Lists.{Among}
 use Rattle.match_model.specs.Keys.{Decision}
 use Rattle.match_model.specs.Numbering.{match_decisions}
-use Rattle.match_model.specs.Steps.{expand_head, specialise_head, default_head, replaced_at, rows_at}
+use Rattle.match_model.specs.Steps.{expand_head, specialise_head, default_head, rows_at}
 use Rattle.match_model.specs.Lowering.{ctors_at, all_wild_at, Lowers, takes, asks, opens, switches, with_else, no_case, one_case}
-use Rattle.match_model.specs.FewestBranches.{as_cases, nothing_missing, branch_of, is_asked, IsFewest}
+use Rattle.match_model.specs.FewestBranches.{as_cases, nothing_missing, branch_of, is_asked}
 use Rattle.match_model.specs.SharedTrees.{known, to_take, to_ask, to_switch, nothing, last_first, switch_of, ask_of, take_of}
 use Rattle.match_model.specs.MatchTree.{IsMatchTree, lowered}
 use Rattle.tree_laws.proofs.OneTree.{clash}
@@ -76,8 +76,8 @@ x_wild u = de_pat WildCtor BoolType u u no_de_pats (record { name = x_name; mode
 abbrev either_side : MDePat MType
 either_side =
     de_pat OrCtor flag_pair 1 1 (de_pats_of (
-      de_pat SingleCtor flag_pair 2 1 (de_pats_of (flag_pat 3 true ∷ x_wild 4 ∷ [])) []
-      ∷ de_pat SingleCtor flag_pair 5 13 (de_pats_of (x_wild 6 ∷ flag_pat 7 true ∷ [])) [] ∷ [])) []
+    de_pat SingleCtor flag_pair 2 1 (de_pats_of (flag_pat 3 true ∷ x_wild 4 ∷ [])) []
+    ∷ de_pat SingleCtor flag_pair 5 13 (de_pats_of (x_wild 6 ∷ flag_pat 7 true ∷ [])) [] ∷ [])) []
 
 abbrev wild_pair : MDePat MType
 wild_pair = de_pat WildCtor flag_pair 8 30 no_de_pats []

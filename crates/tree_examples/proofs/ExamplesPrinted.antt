@@ -1,12 +1,11 @@
 -- Worked examples: the printed trees of small matches over Rust's types.
-use Rattle.std.proofs.Common.{◌≡◌, ◌<◌, ◌≤◌, ◌⊎◌, inl, inr, ℕ, zero, suc, Bool, true, false, List, [], ◌∷◌, Some, slice_get, refl, arith, IsTrue}
-use Rattle.match_model.specs.declared.Mode.TheVariants.{Move}
+use Rattle.std.proofs.Common.{◌≡◌, ◌<◌, ◌≤◌, ◌⊎◌, inl, inr, ℕ, zero, suc, true, false, List, [], ◌∷◌, Some, slice_get, refl, arith, IsTrue}
 use Rattle.match_model.specs.Types.{MType, BoolType}
 use Rattle.match_model.specs.Values.{MValue, Flag, Num, Text, Node, Point, Row, Thing, Later, Unseen}
-use Rattle.match_model.specs.Constructors.{FlagCtor, SingleCtor, WildCtor, OrCtor}
-use Rattle.match_model.specs.ArenaPatterns.{MDePat, de_pat, no_de_pats, de_pats_of, MDeMatch, WholePart}
-use Rattle.match_model.specs.Places.{MStep, FieldStep}
-use Rattle.match_model.specs.Trees.{FlagCase, ElseCase, MBind, MNode, SwitchNode, AskNode, TakeNode, MissNode, VoidNode}
+use Rattle.match_model.specs.Constructors.{FlagCtor, WildCtor, OrCtor}
+use Rattle.match_model.specs.ArenaPatterns.{MDePat, de_pat, no_de_pats, de_pats_of, MDeMatch}
+use Rattle.match_model.specs.Places.{MStep}
+use Rattle.match_model.specs.Trees.{FlagCase, ElseCase, SwitchNode, AskNode, TakeNode, MissNode, VoidNode}
 use Rattle.match_model.specs.Matrices.{MColumn, MRow, first_matrix}
 use Rattle.match_model.specs.RustTypes.{rust_context, RustValue}
 use Rattle.match_model.specs.PieceStates.{is_present}
@@ -15,13 +14,12 @@ use Rattle.match_model.specs.Lists.{Among}
 use Rattle.match_model.specs.Keys.{Decision, key_of, IsBefore}
 use Rattle.match_model.specs.Numbering.{match_decisions}
 use Rattle.match_model.specs.Steps.{expand_head, specialise_head, default_head, rows_at}
-use Rattle.match_model.specs.RowOrder.{RowFirst}
-use Rattle.match_model.specs.Lowering.{ctors_at, all_wild_at, Lowers, no_value_left, no_row_left, takes, asks, drops, opens, switches, no_else, with_else, no_case, one_case}
-use Rattle.match_model.specs.FewestBranches.{AreBranches, no_branches, as_cases, nothing_missing, something_missing, no_branch_of, branch_of, is_asked, IsFewest}
-use Rattle.match_model.specs.SharedTrees.{Walks, known, to_take, to_miss, to_void, to_ask, to_switch, nothing, last_first, IsShared, switch_of, ask_of, take_of, miss_of, void_of}
+use Rattle.match_model.specs.Lowering.{ctors_at, all_wild_at, no_value_left, no_row_left, takes, asks, drops, switches, with_else, no_case, one_case}
+use Rattle.match_model.specs.FewestBranches.{AreBranches, no_branches, as_cases, something_missing, no_branch_of, branch_of, is_asked, IsFewest}
+use Rattle.match_model.specs.SharedTrees.{to_take, to_miss, to_void, to_ask, to_switch, nothing, last_first, switch_of, ask_of, take_of, miss_of, void_of}
 use Rattle.match_model.specs.MatchTree.{IsMatchTree, lowered}
 use Rattle.tree_laws.proofs.FewestPlaces.{fewest-of}
-use Rattle.tree_examples.proofs.Small.{program, marked_enum, empty_enum, flag_pair, x_name, tuple, flag_pat, as_they_are}
+use Rattle.tree_examples.proofs.Small.{program, marked_enum, empty_enum, flag_pat, as_they_are}
 
 -- no tree stands in an empty list, and trees of different kinds are different
 pub no_tree : (t : MTree) → ¬ Among t []

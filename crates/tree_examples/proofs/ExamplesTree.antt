@@ -2,7 +2,7 @@
 use Rattle.std.proofs.Common.{◌≡◌, ℕ, pos, Bool, true, false, List, [], ◌∷◌, map, length, Some, None, slice_get, refl, inl, arith}
 use Rattle.match_model.specs.declared.Mode.TheVariants.{Move, Ref}
 use Rattle.match_model.specs.Types.{MType, BoolType}
-use Rattle.match_model.specs.Values.{MValue, Flag, Node, Point, Text, Unseen, no_values}
+use Rattle.match_model.specs.Values.{MValue, Flag, Node, Point, Text, no_values}
 use Rattle.match_model.specs.Numbers.{MRange, Free, At}
 use Rattle.match_model.specs.Patterns.{MPat, SpanPat}
 use Rattle.match_model.specs.Match.{ArmWays, arm_ways, alternative, no_alternative}
@@ -10,8 +10,8 @@ use Rattle.match_model.specs.Select.{Took, Missed, Short, tries_from}
 use Rattle.match_model.specs.Places.{ThroughStep, FieldStep, FrontStep, BackStep, MiddleStep, part_at, position_at}
 use Rattle.match_model.specs.Trees.{FlagCase, VariantCase, ElseCase, LengthCase, LongerCase, SpanCase, TextCase, case_has, MBind, MBranch, MNode, SwitchNode, AskNode, TakeNode, MissNode, successors, GoesOn, by_case, by_refusal, at_once, after, Means, looked_at, number_for, one_has}
 use Rattle.match_model.specs.Overlaps.{Overlaps}
-use Rattle.match_model.specs.Constructors.{LongerShape, FlagCtor, NumbersCtor, RowCtor, WildCtor, OrCtor, PointCtor}
-use Rattle.match_model.specs.ArenaPatterns.{WholePart, MDePat, de_pat, no_de_pats, de_pats_of, MDeArm, MDeMatch}
+use Rattle.match_model.specs.Constructors.{LongerShape, NumbersCtor, RowCtor, WildCtor, OrCtor, PointCtor}
+use Rattle.match_model.specs.ArenaPatterns.{WholePart, MDePat, de_pat, no_de_pats, de_pats_of, MDeArm}
 use Rattle.match_model.specs.ArenaWays.{arena_ways, arena_arm, arena_alternatives}
 use Rattle.match_model.specs.ArenaUnreachable.{in_reading_order}
 use Rattle.match_model.specs.Unreachable.{Entry}

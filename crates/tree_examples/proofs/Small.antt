@@ -8,7 +8,7 @@ use Rattle.match_model.specs.Values.{MValue, Num, Node, Row, values_of}
 use Rattle.match_model.specs.Ways.{Binding}
 use Rattle.match_model.specs.Constructors.{FlagCtor}
 use Rattle.match_model.specs.ArenaPatterns.{MDePat, de_pat, no_de_pats}
-use Rattle.match_model.specs.Matrices.{MColumn, MRow}
+use Rattle.match_model.specs.Matrices.{MRow}
 use Rattle.match_model.specs.Lists.{Ordered}
 use Rattle.match_model.specs.Keys.{Decision}
 use Rattle.match_model.specs.RowOrder.{RowFirst, AreInOrder}

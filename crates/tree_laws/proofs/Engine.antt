@@ -10,7 +10,6 @@ use Rattle.match_model.specs.Lists.{Among}
 use Rattle.keyed_rows.proofs.Parting.{among-every}
 use Rattle.match_model.specs.Lowering.{ctors_at}
 use Rattle.keyed_steps.specs.Engine.{IsEngine}
-use Rattle.match_model.specs.Made.{IsMade, IsMadePat}
 use Rattle.constructor_sets.proofs.Once.{once_of}
 use Rattle.keyed_steps.specs.Good.{IsGood, IsReady}
 use Rattle.keyed_steps.specs.Piecewise.{PiecesCut, IsFit}

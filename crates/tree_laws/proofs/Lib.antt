@@ -6,9 +6,11 @@ pub mod Lively
 pub mod Matches
 pub mod Meaning
 pub mod Numbers
+pub mod OfType
 pub mod OneFewest
 pub mod OneTree
 pub mod PiecesCut
+pub mod PlaceTypes
 pub mod PiecesDistinct
 pub mod PiecesFit
 pub mod Spreading

@@ -1,6 +1,6 @@
 -- The nodes of every well-typed match: right, defined, nothing looked at twice, all alive, none twice.
-use Rattle.std.proofs.Common.{◌≡◌, ◌⊎◌, inl, inr, ℕ, zero, suc, Bool, true, List, [], ◌∷◌, Some, slice_get, refl, sym, ◌∙◌, subst, arith}
-use Rattle.std.specs.List.{Contains}
+use Rattle.std.proofs.Common.{◌≡◌, inl, inr, ℕ, zero, suc, Bool, true, List, [], ◌∷◌, Some, slice_get, refl, sym, ◌∙◌, subst, arith}
+use Rattle.std.specs.List.{list_all, Contains}
 use Rattle.match_model.specs.Values.{MValue, Unseen}
 use Rattle.match_model.specs.Contexts.{Context}
 use Rattle.match_model.specs.ContextLaws.{PartsLaw, ValuesLaw}
@@ -12,6 +12,7 @@ use Rattle.match_model.specs.Trees.{MBranch, MNode, SwitchNode, VoidNode, succes
 use Rattle.match_model.specs.Matrices.{MColumn, MRow, first_rows, first_matrix}
 use Rattle.match_model.specs.DecisionTrees.{MTree}
 use Rattle.match_model.specs.WellTyped.{IsTyped, names_differ, IsWellTyped}
+use Rattle.match_model.specs.OfType.{place_is_of, tree_is_of}
 use Rattle.match_model.specs.MatchTree.{AreNodesOf, nothing_to_lower, lowered, IsMatchTree, AreGoodNodes}
 use Rattle.match_model.specs.SharedTrees.{IsShared}
 use Rattle.match_model.specs.Keys.{Decision}
@@ -27,6 +28,7 @@ use Rattle.match_model.specs.Made.{IsMadePat, AreArmsMade}
 use Rattle.keyed_steps.specs.Good.{IsGoodRow, IsGood, IsReady}
 use Rattle.keyed_steps.proofs.Differing.{fine-from}
 use Rattle.tree_laws.proofs.Engine.{context-engine}
+use Rattle.tree_laws.proofs.OfType.{shared-of, lowered-of}
 
 -- an arm: typed, with names that differ, of constructors that a program writes
 pub record IsGoodArm {T : Type 0} (cx : Context T) (t : T) (a : MDeArm T) : Type 0 where
@@ -105,3 +107,17 @@ module _ {T : Type 0} (IsType : T → Type 0) (cx : Context T) (V : T → Bool �
   one-match-tree m _ _ (lowered v t ns h l s) (lowered u r ms k b q) =
       let same : r ≡ t = one-fewest-tree cx V (match_decisions m) ((u : MValue) → InMatchDomain V m u → u ≡ Unseen) (first_matrix m).columns (first_matrix m).rows r t b l in
       one-shared t ns ms s (subst (λ x. IsShared x ms) same q)
+
+  -- its places and cases are of the match's type
+  pub tree-of-type : PartsLaw IsType V cx → ValuesLaw IsType V cx → (Chooses : List (MColumn T) → List (MRow T) → ℕ → Type 0) (m : MDeMatch T) (nodes : List MNode) →
+      IsWellTyped IsType cx m → AreArmsMade m.arms → AreNodesOf cx V Chooses m nodes → tree_is_of cx m.type nodes ≡ true
+  tree-of-type law values Chooses m _ w made (nothing_to_lower none) = refl
+  tree-of-type law values Chooses m _ w made (lowered v tree nodes inside lowers shared) =
+      let arms : Every (IsGoodArm cx m.type) m.arms = arms-good IsType cx V law values (match_decisions m) m w made in
+      let good : IsGood IsType cx (match_decisions m) (first_matrix m).columns (first_matrix m).rows = record { columns_are = (record { type = w.type; straight = tt }, tt); rows_are = first-good IsType cx V law values (match_decisions m) m.type m.sure 0 m.arms arms (arms-numbered m w.uids) } in
+      shared-of cx m.type tree nodes
+      (lowered-of IsType cx V law values (match_decisions m) m.type Chooses ((u : MValue) → InMatchDomain V m u → u ≡ Unseen) (first_matrix m).columns (first_matrix m).rows tree lowers good (refl, tt) (nothing-caught 0 m.arms)) shared
+    where
+      nothing-caught : (j : ℕ) (arms : List (MDeArm T)) → Every (λ (r : MRow T). list_all (λ b. place_is_of cx m.type b.place) r.caught ≡ true) (first_rows j arms)
+      nothing-caught j [] = tt
+      nothing-caught j (a ∷ arms) = (refl, nothing-caught (suc j) arms)

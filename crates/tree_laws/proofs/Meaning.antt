@@ -1,6 +1,5 @@
 -- A tree of keyed rows does with a value what is tried first, and looks at no position twice.
-use Rattle.std.proofs.Common.{◌≡◌, ◌≢◌, ◌<◌, ◌⊎◌, inl, inr, ℕ, zero, suc, ◌+◌, Bool, true, false, List, [], ◌∷◌, ◌++◌, map, length, Some, slice_get, refl, sym, ap, ◌∙◌, arith, subst, IsTrue, append_assoc}
-use Rattle.std.specs.List.{Contains}
+use Rattle.std.proofs.Common.{◌≡◌, ◌≢◌, ◌⊎◌, inl, inr, ℕ, zero, suc, ◌+◌, Bool, true, false, List, [], ◌∷◌, ◌++◌, map, length, Some, slice_get, refl, sym, ap, ◌∙◌, arith, subst, IsTrue, append_assoc}
 use Rattle.match_model.specs.Values.{MValue}
 use Rattle.match_model.specs.Ways.{Way}
 use Rattle.match_model.specs.Constructors.{MCtor, builds}

@@ -20,7 +20,7 @@ use Rattle.keyed_rows.proofs.Parting.{among-every}
 use Rattle.keyed_rows.proofs.RowOrder.{every-among}
 use Rattle.match_model.specs.Lowering.{ctors_at}
 use Rattle.constructor_sets.specs.Columns.{is_head, IsOneSided, HasRoomFor, AreColumnPieces}
-use Rattle.match_model.specs.Made.{IsMade, IsMadePat}
+use Rattle.match_model.specs.Made.{IsMade}
 use Rattle.constructor_sets.proofs.Whole.{made_pieces}
 use Rattle.keyed_steps.specs.Fits.{IsPlain, HasRoom, FitsPiece, HeadFits}
 use Rattle.keyed_steps.specs.Good.{IsMadeHead, IsPlainHead, IsGoodRow, IsGoodColumn, IsReady}

@@ -9,6 +9,7 @@ use Rattle.match_model.specs.Made.{AreArmsMade}
 use Rattle.match_model.specs.Trees.{MNode}
 use Rattle.match_model.specs.Matrices.{MColumn, MRow}
 use Rattle.match_model.specs.WellTyped.{IsWellTyped}
+use Rattle.match_model.specs.OfType.{tree_is_of}
 use Rattle.match_model.specs.MatchTree.{AreNodesOf, IsMatchTree, AreGoodNodes}
 
 -- the nodes are good for the match: they do with each value of its domain what the match selects
@@ -24,6 +25,19 @@ abbrev pub TreesAreGood : {T : Type 0} → (T → Type 0) → (T → Bool → MV
 TreesAreGood {T} IsType IsValue cx =
     (chooses : List (MColumn T) → List (MRow T) → ℕ → Bool) (m : MDeMatch T) (nodes : List MNode) →
     IsWellTyped IsType cx m → AreArmsMade m.arms → AreNodesOf cx IsValue (ChosenBy chooses) m nodes → AreGoodFor IsValue m nodes
+
+-- the places and cases of every tree of a well-typed match are of its type
+abbrev pub TreesAreOfType : {T : Type 0} → (T → Type 0) → (T → Bool → MValue → Type 0) → Context T → Type 0
+TreesAreOfType {T} IsType IsValue cx =
+    (chooses : List (MColumn T) → List (MRow T) → ℕ → Bool) (m : MDeMatch T) (nodes : List MNode) →
+    IsWellTyped IsType cx m → AreArmsMade m.arms → AreNodesOf cx IsValue (ChosenBy chooses) m nodes →
+    IsTrue (tree_is_of cx m.type nodes)
+
+-- those of the printed tree are
+abbrev pub MatchTreesAreOfType : {T : Type 0} → (T → Type 0) → (T → Bool → MValue → Type 0) → Context T → Type 0
+MatchTreesAreOfType {T} IsType IsValue cx =
+    (m : MDeMatch T) (nodes : List MNode) →
+    IsWellTyped IsType cx m → AreArmsMade m.arms → IsMatchTree cx IsValue m nodes → IsTrue (tree_is_of cx m.type nodes)
 
 -- the tree of a well-typed match that is printed is good
 abbrev pub MatchTreesAreGood : {T : Type 0} → (T → Type 0) → (T → Bool → MValue → Type 0) → Context T → Type 0

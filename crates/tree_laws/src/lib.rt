@@ -9,7 +9,7 @@
 //! tells, the same stands as the lemma `good-tree` in `proofs/Matches.antt`.
 #![tactic(auto)]
 
-ghost use Rattle.tree_laws.specs.Laws.{TreesAreGood, MatchTreesAreGood, MatchTreeIsOne};
+ghost use Rattle.tree_laws.specs.Laws.{TreesAreGood, MatchTreesAreGood, TreesAreOfType, MatchTreesAreOfType, MatchTreeIsOne};
 
 use pat_context::PatCx;
 
@@ -20,6 +20,12 @@ use pat_context::PatCx;
 pub fn trees_are_good<C: PatCx>(cx: &C)
     ensures any { TreesAreGood (C.is_type cx.now) (C.is_value cx.now) (C.context cx.now) }
     ensures printed { MatchTreesAreGood (C.is_type cx.now) (C.is_value cx.now) (C.context cx.now) }
+{}
+
+/// The places and cases of a tree of a well-typed match, whichever place is looked at next, are of the match's type.
+pub fn trees_are_of_the_type<C: PatCx>(cx: &C)
+    ensures any { TreesAreOfType (C.is_type cx.now) (C.is_value cx.now) (C.context cx.now) }
+    ensures printed { MatchTreesAreOfType (C.is_type cx.now) (C.is_value cx.now) (C.context cx.now) }
 {}
 
 /// A match has one tree that is printed.
