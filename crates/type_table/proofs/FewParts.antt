@@ -37,7 +37,7 @@ entry_count_few types entries.Import few = none_few
 
 module _ (t : TypeTable) where
   -- the same of the item with this number
-  item_count_few : (i : ℕ) → count_of_item (slice_get (table_program t).items i) < 4294967296
+  pub item_count_few : (i : ℕ) → count_of_item (slice_get (table_program t).items i) < 4294967296
   item_count_few i = by (slice_get t.items.items i) refl
     where
       by : (o : Option Entry) → slice_get t.items.items i ≡ o → count_of_item (slice_get (table_program t).items i) < 4294967296

@@ -23,6 +23,7 @@ pub mod EmptyVariants
 pub mod EmptyTypes
 pub mod FewParts
 pub mod ContextLemmas
+pub mod LookupLemmas
 pub mod PathLemmas
 pub mod FoundForms
 pub mod AllRules

@@ -178,7 +178,7 @@ parts_is heads.Slice ps fits = one_of ps fits
 parts_is (heads.Array n) ps fits = one_of ps fits
 parts_is (heads.Named o) ps fits = list_back ps
 
-node_there : {A : Type 0} (xs : List A) (i : ℕ) → i < length xs → (x : A) × (slice_get xs i ≡ Some x)
+pub node_there : {A : Type 0} (xs : List A) (i : ℕ) → i < length xs → (x : A) × (slice_get xs i ≡ Some x)
 node_there [] i lt = absurd (omega arith)
 node_there (x ∷ xs) zero lt = (x, refl)
 node_there (x ∷ xs) (suc i) lt = node_there xs i (omega arith)

@@ -10,6 +10,7 @@ pub mod Whole
 pub mod Tables
 pub mod Parts
 pub mod TableContext
+pub mod Lookups
 pub mod Paths
 pub mod Marks
 pub mod Readers

@@ -3,7 +3,7 @@ ghost use Rattle.std.specs.Prelude.{◌≡◌, ℕ, List, slice_get, option_map,
 ghost use Rattle.decl_syntax.specs.Items.{ItemTree};
 ghost use Rattle.decl_syntax.specs.Patterns.{PathTree, path_view};
 ghost use Rattle.match_model.specs.declared.Width.{Width as AnyWidth};
-ghost use Rattle.type_names.specs.Finding.{FoundTree, path_finds, found_form, is_found};
+ghost use Rattle.type_names.specs.Finding.{FoundTree, name_finds, path_finds, found_form, is_found};
 ghost use Rattle.type_names.specs.declared.meanings.Owner.TheVariants.{Option as OptionOwner};
 ghost use Rattle.type_names.specs.Views.{owner_view};
 ghost use Rattle.type_table.specs.declared.entries.Entry.{Entry as DeclaredEntry};
@@ -36,6 +36,17 @@ impl TypeTable {
             FoundIs self.now (path_finds items (path_view path.now)) result }
     {
         let target = self.finder.find(&self.names, path);
+        self.found(target)
+    }
+
+    /// What a bare name finds in the file of the table, as [`TypeTable::find`] tells of a path.
+    ///
+    /// Source: the Rust Reference, "Identifier patterns".
+    pub fn find_name(&self, name: &str) -> Found
+        ensures { (items : List ItemTree) → (width : AnyWidth) → IsTableOf items width self.now →
+            FoundIs self.now (name_finds items name.now) result }
+    {
+        let target = self.finder.find_name(name);
         self.found(target)
     }
 

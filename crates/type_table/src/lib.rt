@@ -18,7 +18,8 @@
 //! breaks a rule, with the least rule that it breaks, from the first item that breaks each rule. `build` makes the
 //! table or gives that fault.
 //!
-//! `finding` tells what a path in a pattern finds, and the form of it.
+//! `finding` tells what a path or a bare name in a pattern finds, and the form of it; `lookups` finds variants and fields
+//! by name.
 #![tactic(auto)]
 
 mod build;
@@ -36,6 +37,7 @@ mod finding;
 mod kinds;
 mod known;
 mod laws;
+mod lookups;
 mod nodes;
 mod readers;
 #[cfg(test)]
