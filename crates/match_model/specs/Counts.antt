@@ -32,7 +32,8 @@ ForOr _ asked = ⊤
 abbrev mutual
   -- no or-pattern of the pattern has 2^32 alternatives
   pub HasFewAlternatives : {T : Type 0} → MDePat T → Type 0
-  HasFewAlternatives (de_pat c t uid at subs binds) = ForOr c (length (de_pats_list subs) < 2 ^ 32) × HaveFewAlternatives subs
+  HasFewAlternatives (de_pat c t uid at subs binds) =
+      ForOr c (length (de_pats_list subs) < 2 ^ 32) × HaveFewAlternatives subs
 
   -- no or-pattern of the patterns has 2^32 alternatives
   pub HaveFewAlternatives : {T : Type 0} → MDePats T → Type 0

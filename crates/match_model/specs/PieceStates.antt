@@ -20,11 +20,13 @@ abbrev pub is_present : (heads : List MCtor) → (piece : MCtor) → Bool
 is_present heads piece = list_any (λ h. has_piece h piece) heads
 
 -- the piece has a value there, and a head of the column has it
-abbrev pub IsPresentPiece : {T : Type 0} → (T → Bool → MValue → Type 0) → Open T → (named : List (List ℕ)) → (heads : List MCtor) → MCtor → Type 0
+abbrev pub IsPresentPiece : {T : Type 0} → (T → Bool → MValue → Type 0) → Open T →
+    (named : List (List ℕ)) → (heads : List MCtor) → MCtor → Type 0
 IsPresentPiece IsValue o named heads piece = HasValue IsValue o named piece × (is_present heads piece ≡ true)
 
 -- the piece has a value there, and no head of the column has it
-abbrev pub IsMissingPiece : {T : Type 0} → (T → Bool → MValue → Type 0) → Open T → (named : List (List ℕ)) → (heads : List MCtor) → MCtor → Type 0
+abbrev pub IsMissingPiece : {T : Type 0} → (T → Bool → MValue → Type 0) → Open T →
+    (named : List (List ℕ)) → (heads : List MCtor) → MCtor → Type 0
 IsMissingPiece IsValue o named heads piece = HasValue IsValue o named piece × (is_present heads piece ≡ false)
 
 -- the piece has no value there

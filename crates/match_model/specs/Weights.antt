@@ -50,8 +50,8 @@ IsSmaller m n =
     (rows_weight m.rows < rows_weight n.rows)
     ⊎ ((rows_weight m.rows ≡ rows_weight n.rows) × (length m.columns < length n.columns))
 
--- no step of a matrix adds weight. Or-patterns that are expanded, and a constructor by which rows are specialised, take some;
--- where the first column has neither, the default rows have a column less
+-- no step of a matrix adds weight. Or-patterns that are expanded, and a constructor by which rows are specialised, take
+-- some; where the first column has neither, the default rows have a column less
 pub record StepsLowerWeights (T : Type 0) : Type 0 where
   pub expanded : (place : List MStep) (rows : List (MRow T)) → rows_weight (expand_rows place rows) ≤ rows_weight rows
   pub fewer_ors : (place : List MStep) (rows : List (MRow T)) → IsTrue (list_any first_or rows) →

@@ -3,7 +3,8 @@
 ghost use Rattle.match_model.specs.Laws.{OrIsConcatenation, GoesThrough, MissedWhereUncovered, FirstWayIsTaken};
 ghost use Rattle.match_model.specs.Laws.{JoinIsAssociative, CombineIsAssociative, BareWayIsUnit, PartsSplit, FirstMatrixHasTheArms};
 ghost use Rattle.match_model.specs.Laws.{VariantsAreCounted, RustValuesLaw};
-ghost use Rattle.match_model.specs.Laws.{ExhaustiveWhereNothingIsLeft, AscendingOffsetsDiffer, TextOutside, TextsAreOrderedAsBytes};
+ghost use Rattle.match_model.specs.Laws.{ExhaustiveWhereNothingIsLeft, AscendingOffsetsDiffer};
+ghost use Rattle.match_model.specs.Laws.{TextOutside, TextsAreOrderedAsBytes};
 ghost use Rattle.match_model.specs.ContextViews.{LawsAreCarried};
 ghost use Rattle.match_model.specs.Weights.{StepsLowerWeights};
 ghost use Rattle.match_model.specs.Emptiness.{RustPartsLaw, RustEmptyLaw, RustUnsureLaw};
@@ -130,8 +131,8 @@ pub fn steps_lower_weights<T>()
     ensures { StepsLowerWeights T }
 {}
 
-/// The four laws of a context carry over to a context that is seen through it, one type for another, where tests tell types and
-/// values.
+/// The four laws of a context carry over to a context that is seen through it, one type for another, where tests tell
+/// types and values.
 pub fn laws_are_carried<S, T>()
     ensures { LawsAreCarried S T }
 {}

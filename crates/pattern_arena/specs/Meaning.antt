@@ -36,7 +36,8 @@ IsAlternativeReachable IsValue m j uid =
 
 -- the entries are what is unreachable, in reading order: by arm and then by offset
 abbrev pub IsReadingListOf : {T : Type 0} → (IsValue : T → Bool → MValue → Type 0) → CheckedMatch T → List Entry → Type 0
-IsReadingListOf IsValue m entries = IsReadingList (InMatchDomain IsValue (plain_match m)) (match_arms (plain_match m)) entries
+IsReadingListOf IsValue m entries =
+    IsReadingList (InMatchDomain IsValue (plain_match m)) (match_arms (plain_match m)) entries
 
 -- which arm takes the value and which guards are asked, where they give these answers
 abbrev pub select : {T : Type 0} → CheckedMatch T → MValue → (answers : List Bool) → Selected
@@ -51,13 +52,15 @@ Overlaps IsValue m first second x =
 abbrev pub ReadingListIsOne : {T : Type 0} → (IsValue : T → Bool → MValue → Type 0) → Type 0
 ReadingListIsOne {T} IsValue =
     (m : MDeMatch T) (es fs : List Entry) →
-    IsReadingList (InMatchDomain IsValue m) (match_arms m) es → IsReadingList (InMatchDomain IsValue m) (match_arms m) fs → es ≡ fs
+    IsReadingList (InMatchDomain IsValue m) (match_arms m) es →
+    IsReadingList (InMatchDomain IsValue m) (match_arms m) fs → es ≡ fs
 
 -- a match has one list of overlaps, whatever values the types have
 abbrev pub OverlapListIsOne : {T : Type 0} → (IsValue : T → Bool → MValue → Type 0) → Type 0
 OverlapListIsOne {T} IsValue =
     (m : MDeMatch T) (os ps : List MOverlap) →
-    IsOverlapList (InMatchDomain IsValue m) (match_arms m) os → IsOverlapList (InMatchDomain IsValue m) (match_arms m) ps → os ≡ ps
+    IsOverlapList (InMatchDomain IsValue m) (match_arms m) os →
+    IsOverlapList (InMatchDomain IsValue m) (match_arms m) ps → os ≡ ps
 
 -- a match is exhaustive exactly where an exact cover of what it leaves out is empty, whatever values the types have
 abbrev pub ExhaustiveWhereNothingIsLeft : {T : Type 0} → (IsValue : T → Bool → MValue → Type 0) → Type 0

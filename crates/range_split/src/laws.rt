@@ -1,4 +1,5 @@
-//! What follows from a split's contract, and what is true of every range: each function has an empty body, and its contract is a law.
+//! What follows from a split's contract, and what is true of every range: each function has an empty body, and its
+//! contract is a law.
 
 ghost use Rattle.range_split.specs.Laws.{SplitIsDetermined, NumberIsInOnePiece, RangeHasNumber};
 
