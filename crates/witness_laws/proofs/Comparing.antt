@@ -30,7 +30,8 @@ and_then-same Same = refl
 and_then-same Before = refl
 and_then-same NotBefore = refl
 
-pub split_compare : (n : ℕ) (w u : List MWitness) → and_then (compare_stacks (take n w) (take n u)) (compare_stacks (drop n w) (drop n u)) ≡ compare_stacks w u
+pub split_compare : (n : ℕ) (w u : List MWitness) →
+    and_then (compare_stacks (take n w) (take n u)) (compare_stacks (drop n w) (drop n u)) ≡ compare_stacks w u
 split_compare zero w u = refl
 split_compare (suc n) [] u = refl
 split_compare (suc n) (x ∷ w) [] = short (drop n w)
@@ -39,15 +40,18 @@ split_compare (suc n) (x ∷ w) [] = short (drop n w)
     short [] = refl
     short (x ∷ w) = refl
 split_compare (suc n) (x ∷ w) (y ∷ u) =
-    and_then-assoc (compare_witness x y) (compare_stacks (take n w) (take n u)) (compare_stacks (drop n w) (drop n u)) ∙ ap (and_then (compare_witness x y)) (split_compare n w u)
+    and_then-assoc (compare_witness x y) (compare_stacks (take n w) (take n u)) (compare_stacks (drop n w) (drop n u))
+    ∙ ap (and_then (compare_witness x y)) (split_compare n w u)
 
 -- one piece before another, whatever their parts are
 abbrev pub IsPieceBefore : (named : List (List ℕ)) → (p : MCtor) → ℕ → (q : MCtor) → ℕ → Type 0
-IsPieceBefore named p n q m = (ws us : List MWitness) → length ws ≡ n → length us ≡ m → compare_witness (witness_of p named ws) (witness_of q named us) ≡ Before
+IsPieceBefore named p n q m =
+    (ws us : List MWitness) → length ws ≡ n → length us ≡ m → compare_witness (witness_of p named ws) (witness_of q named us) ≡ Before
 
 -- a piece beside itself is told by its parts
 abbrev pub IsPieceSame : (named : List (List ℕ)) → (p : MCtor) → ℕ → Type 0
-IsPieceSame named p n = (ws us : List MWitness) → length ws ≡ n → length us ≡ n → compare_witness (witness_of p named ws) (witness_of p named us) ≡ compare_stacks ws us
+IsPieceSame named p n =
+    (ws us : List MWitness) → length ws ≡ n → length us ≡ n → compare_witness (witness_of p named ws) (witness_of p named us) ≡ compare_stacks ws us
 
 -- beside itself
 
@@ -67,7 +71,8 @@ flag_same true = refl
 flag_same false = refl
 
 -- without parts
-leaf : (ws us : List MWitness) (n : ℕ) → n ≡ 0 → length ws ≡ n → length us ≡ n → (c : Compared) → c ≡ Same → c ≡ compare_stacks ws us
+leaf : (ws us : List MWitness) (n : ℕ) → n ≡ 0 → length ws ≡ n → length us ≡ n → (c : Compared) → c ≡ Same →
+    c ≡ compare_stacks ws us
 leaf [] [] n z e f c h = h
 leaf [] (u ∷ us) n z e f c h = absurd (omega (arith, z, f))
 leaf (w ∷ ws) us n z e f c h = absurd (omega (arith, z, e))
@@ -86,7 +91,8 @@ shape_same f g longer b c e h =
 listed_length : (ws : List MWitness) → length (witnesses_list (witnesses_of ws)) ≡ length ws
 listed_length ws = ap length (as_list ws)
 
-row_same : (s : MShape) (ws us : List MWitness) → length ws ≡ least_length s → length us ≡ least_length s → compare_witness (slice_witness s ws) (slice_witness s us) ≡ compare_stacks ws us
+row_same : (s : MShape) (ws us : List MWitness) → length ws ≡ least_length s → length us ≡ least_length s →
+    compare_witness (slice_witness s ws) (slice_witness s us) ≡ compare_stacks ws us
 row_same (FixedShape m) ws us e f =
     ap (λ x. and_then x (and_then (compare_stacks ws us) Same))
     (shape_same (length (witnesses_list (witnesses_of ws))) (length (witnesses_list (witnesses_of us))) false 0 0 (listed_length ws ∙ e ∙ sym f ∙ sym (listed_length us)) refl)
@@ -102,7 +108,8 @@ row_same (LongerShape g c) ws us e f =
     (listed_length (take g ws) ∙ lw ∙ sym lu ∙ sym (listed_length (take g us))) (listed_length (drop g ws) ∙ back ∙ sym (listed_length (drop g us))))
     ∙ split_compare g ws us
 
-pub piece_same : (named : List (List ℕ)) (p : MCtor) (n : ℕ) → (is_wild_ctor p || is_or_ctor p) ≡ false → ArityIs p n → IsPieceSame named p n
+pub piece_same : (named : List (List ℕ)) (p : MCtor) (n : ℕ) → (is_wild_ctor p || is_or_ctor p) ≡ false →
+    ArityIs p n → IsPieceSame named p n
 piece_same named SingleCtor n x a ws us e f = refl
 piece_same named (VariantCtor k) n x a ws us e f = ap (λ c. and_then c (compare_stacks ws us)) (nat_same k)
 piece_same named PointCtor n x a (w ∷ []) (u ∷ []) e f = sym (and_then-same (compare_witness w u))
@@ -112,9 +119,12 @@ piece_same named PointCtor n x a (w ∷ []) [] e f = absurd (omega (arith, a, f)
 piece_same named PointCtor n x a (w ∷ []) (u ∷ v ∷ us) e f = absurd (omega (arith, a, f))
 piece_same named LaterCtor n x a ws us e f = leaf ws us n a e f Same refl
 piece_same named (FlagCtor b) n x a ws us e f = leaf ws us n a e f (compare_flag b b) (flag_same b)
-piece_same named (NumbersCtor r) n x a ws us e f = leaf ws us n a e f (compare_range r r) (ap (λ c. and_then c (compare_high r.high r.high)) (low_same r.low) ∙ high_same r.high)
-piece_same named (TextCtor t) n x a ws us e f = leaf ws us n a e f (compare_text t t) (ap (λ b. compared b (Rattle.std.specs.Ordering.is_lt (Rattle.match_model.specs.Texts.compare_texts t t))) (text_itself t))
-piece_same named OtherTextCtor n x a ws us e f = leaf ws us n a e f (compared (pointwise text_eq named named) false) (ap (λ b. compared b false) ((lists_equiv nat_list_eq_equiv).refl named))
+piece_same named (NumbersCtor r) n x a ws us e f =
+    leaf ws us n a e f (compare_range r r) (ap (λ c. and_then c (compare_high r.high r.high)) (low_same r.low) ∙ high_same r.high)
+piece_same named (TextCtor t) n x a ws us e f =
+    leaf ws us n a e f (compare_text t t) (ap (λ b. compared b (Rattle.std.specs.Ordering.is_lt (Rattle.match_model.specs.Texts.compare_texts t t))) (text_itself t))
+piece_same named OtherTextCtor n x a ws us e f =
+    leaf ws us n a e f (compared (pointwise text_eq named named) false) (ap (λ b. compared b false) ((lists_equiv nat_list_eq_equiv).refl named))
 piece_same named (RowCtor s) n x a ws us e f = row_same s ws us (e ∙ a) (f ∙ a)
 piece_same named WildCtor n x a ws us e f = untrue (sym x)
 piece_same named OrCtor n x a ws us e f = untrue (sym x)
@@ -130,10 +140,14 @@ nat_before a b l = ap (λ x. compared x (nat_lt a b)) (differ a b l) ∙ ap (com
     less : (a b : ℕ) → a < b → nat_lt a b ≡ true
     less a b l = grind (arith, nat_tests)
 
-shape_before : (f : ℕ) (longer : Bool) (b g : ℕ) (wider : Bool) (c : ℕ) → f + b < g + c → (x : Compared) → and_then (compare_shape f longer b g wider c) x ≡ Before
-shape_before f longer b g wider c l x = ap (λ y. and_then (and_then y (compared (nat_eq f g && beq longer wider) false)) x) (nat_before (f + b) (g + c) l)
+shape_before : (f : ℕ) (longer : Bool) (b g : ℕ) (wider : Bool) (c : ℕ) → f + b < g + c → (x : Compared) →
+    and_then (compare_shape f longer b g wider c) x ≡ Before
+shape_before f longer b g wider c l x =
+    ap (λ y. and_then (and_then y (compared (nat_eq f g && beq longer wider) false)) x) (nat_before (f + b) (g + c) l)
 
-row_before : (s r : MShape) → least_length s < least_length r → (ws us : List MWitness) → length ws ≡ least_length s → length us ≡ least_length r → compare_witness (slice_witness s ws) (slice_witness r us) ≡ Before
+row_before : (s r : MShape) → least_length s < least_length r → (ws us : List MWitness) →
+    length ws ≡ least_length s → length us ≡ least_length r →
+    compare_witness (slice_witness s ws) (slice_witness r us) ≡ Before
 row_before (FixedShape m) (FixedShape k) l ws us e f =
     let a = listed_length ws in
     let b = listed_length us in
@@ -166,11 +180,14 @@ row_before (LongerShape h i) (LongerShape g c) l ws us e f =
     shape_before (length (witnesses_list (witnesses_of (take h ws)))) true (length (witnesses_list (witnesses_of (drop h ws)))) (length (witnesses_list (witnesses_of (take g us)))) true (length (witnesses_list (witnesses_of (drop g us))))
     (omega (arith, l, a, x, b, d, lw, dw, lu, du, e, f)) (and_then (compare_stacks (take h ws) (take g us)) (compare_stacks (drop h ws) (drop g us)))
 
-pub piece_before : (named : List (List ℕ)) (p q : MCtor) (n m : ℕ) → IsEarlier p q → ArityIs p n → ArityIs q m → IsPieceBefore named p n q m
+pub piece_before : (named : List (List ℕ)) (p q : MCtor) (n m : ℕ) → IsEarlier p q → ArityIs p n → ArityIs q m →
+    IsPieceBefore named p n q m
 piece_before named (FlagCtor false) (FlagCtor true) n m h a b ws us e f = refl
-piece_before named (VariantCtor j) (VariantCtor k) n m h a b ws us e f = ap (λ c. and_then c (compare_stacks ws us)) (nat_before j k h)
+piece_before named (VariantCtor j) (VariantCtor k) n m h a b ws us e f =
+    ap (λ c. and_then c (compare_stacks ws us)) (nat_before j k h)
 piece_before named (VariantCtor j) LaterCtor n m h a b ws us e f = refl
-piece_before named (NumbersCtor r) (NumbersCtor s) n m h a b ws us e f = ap (λ c. and_then c (compare_high r.high s.high)) h
+piece_before named (NumbersCtor r) (NumbersCtor s) n m h a b ws us e f =
+    ap (λ c. and_then c (compare_high r.high s.high)) h
 piece_before named (TextCtor t) (TextCtor u) n m h a b ws us e f = h
 piece_before named (TextCtor t) OtherTextCtor n m h a b ws us e f = refl
 piece_before named (RowCtor s) (RowCtor r) n m h a b ws us e f = row_before s r h ws us (e ∙ a) (f ∙ b)

@@ -53,11 +53,13 @@ abbrev AreMadeChoices : {T : Type 0} → List (Choice T) → Type 0
 AreMadeChoices [] = Unit {0}
 AreMadeChoices (c ∷ cs) = IsMadePat c.pat × AreMadeChoices cs
 
-choices-append : {T : Type 0} (xs ys : List (Choice T)) → AreMadeChoices xs → AreMadeChoices ys → AreMadeChoices (xs ++ ys)
+choices-append : {T : Type 0} (xs ys : List (Choice T)) → AreMadeChoices xs → AreMadeChoices ys →
+    AreMadeChoices (xs ++ ys)
 choices-append [] ys h k = k
 choices-append (x ∷ xs) ys h k = (h.0, choices-append xs ys h.1 k)
 
-choices-map : {T : Type 0} (f : Choice T → Choice T) → ((c : Choice T) → (f c).pat ≡ c.pat) → (cs : List (Choice T)) → AreMadeChoices cs → AreMadeChoices (map f cs)
+choices-map : {T : Type 0} (f : Choice T → Choice T) → ((c : Choice T) → (f c).pat ≡ c.pat) →
+    (cs : List (Choice T)) → AreMadeChoices cs → AreMadeChoices (map f cs)
 choices-map f k [] h = tt
 choices-map f k (c ∷ cs) h = (subst IsMadePat (sym (k c)) h.0, choices-map f k cs h.1)
 
@@ -68,21 +70,26 @@ keeps_pat (more_de_pats p (more_de_pats q qs)) uid c = refl
 
 mutual
   choices_made : {T : Type 0} (p : MDePat T) → IsMadePat p → AreMadeChoices (choices_of p)
-  choices_made {T} (de_pat c t uid at subs binds) h = go c h.0 h.1 (choices-map (with_binds binds) (λ d. refl) (all_choices_of (choice_among subs) subs) (alternatives_made (choice_among subs) (λ x d. keeps_pat subs x d) subs h.1))
+  choices_made {T} (de_pat c t uid at subs binds) h =
+      go c h.0 h.1 (choices-map (with_binds binds) (λ d. refl) (all_choices_of (choice_among subs) subs) (alternatives_made (choice_among subs) (λ x d. keeps_pat subs x d) subs h.1))
     where
-      go : (c : MCtor) → IsMade c → AreMadePats subs → AreMadeChoices (map (with_binds binds) (all_choices_of (choice_among subs) subs)) →
+      go : (c : MCtor) → IsMade c → AreMadePats subs →
+          AreMadeChoices (map (with_binds binds) (all_choices_of (choice_among subs) subs)) →
           AreMadeChoices (choices_by c (map (with_binds binds) (all_choices_of (choice_among subs) subs)) (record { pat = de_pat c t uid at subs binds; chosen = []; binds = [] } ∷ []))
       go OrCtor m s f = f
       go _ m s f = ((m, s), tt)
 
-  alternatives_made : {T : Type 0} (choose : ℕ → Choice T → Choice T) → ((u : ℕ) (d : Choice T) → (choose u d).pat ≡ d.pat) → (ps : MDePats T) → AreMadePats ps → AreMadeChoices (all_choices_of choose ps)
+  alternatives_made : {T : Type 0} (choose : ℕ → Choice T → Choice T) →
+      ((u : ℕ) (d : Choice T) → (choose u d).pat ≡ d.pat) → (ps : MDePats T) → AreMadePats ps →
+      AreMadeChoices (all_choices_of choose ps)
   alternatives_made choose k no_de_pats h = tt
   alternatives_made choose k (more_de_pats p ps) h =
       choices-append (map (choose (uid_of p)) (choices_of p)) (all_choices_of choose ps) (choices-map (choose (uid_of p)) (λ d. k (uid_of p) d) (choices_of p) (choices_made p h.0)) (alternatives_made choose k ps h.1)
 
 -- the steps keep it
 
-spread_made : {T : Type 0} (rest : List (Head T)) (cs : List (Choice T)) → AreMadeHeads rest → AreMadeChoices cs → AreMadeRows (map (λ c. Some c.pat ∷ rest) cs)
+spread_made : {T : Type 0} (rest : List (Head T)) (cs : List (Choice T)) → AreMadeHeads rest → AreMadeChoices cs →
+    AreMadeRows (map (λ c. Some c.pat ∷ rest) cs)
 spread_made rest [] h k = tt
 spread_made rest (c ∷ cs) h k = ((k.0, h), spread_made rest cs h k.1)
 
@@ -106,7 +113,8 @@ column_made ([] ∷ hss) h = column_made hss h.1
 column_made ((None ∷ hs) ∷ hss) h = column_made hss h.1
 column_made ((Some (de_pat c t uid at subs binds) ∷ hs) ∷ hss) h = go c h.0.0.0 (column_made hss h.1)
   where
-    go : (c : MCtor) → IsMade c → All IsMade (column_of hss) → All IsMade (column_of ((Some (de_pat c t uid at subs binds) ∷ hs) ∷ hss))
+    go : (c : MCtor) → IsMade c → All IsMade (column_of hss) →
+        All IsMade (column_of ((Some (de_pat c t uid at subs binds) ∷ hs) ∷ hss))
     go WildCtor m k = k
     go OrCtor m k = All-cons IsMade OrCtor (column_of hss) m k
     go SingleCtor m k = All-cons IsMade SingleCtor (column_of hss) m k
@@ -120,7 +128,8 @@ column_made ((Some (de_pat c t uid at subs binds) ∷ hs) ∷ hss) h = go c h.0.
     go (RowCtor i) m k = All-cons IsMade (RowCtor i) (column_of hss) m k
 
 heads_made : {T : Type 0} (c : MCtor) (hs : List (Head T)) (n : ℕ) → AreMadeHeads hs → AreMadeHeads (heads_of c hs n)
-heads_made {T} (RowCtor (LongerShape f b)) hs n h = heads-append (take f hs) (wildcards (n - (f + b)) ++ drop f hs) (heads-take f hs h) (heads-append (wildcards (n - (f + b))) (drop f hs) (wilds_made T (n - (f + b))) (heads-drop f hs h))
+heads_made {T} (RowCtor (LongerShape f b)) hs n h =
+    heads-append (take f hs) (wildcards (n - (f + b)) ++ drop f hs) (heads-take f hs h) (heads-append (wildcards (n - (f + b))) (drop f hs) (wilds_made T (n - (f + b))) (heads-drop f hs h))
 heads_made (RowCtor (FixedShape m)) hs n h = h
 heads_made {T} WildCtor hs n h = wilds_made T n
 heads_made OrCtor hs n h = h
@@ -133,15 +142,19 @@ heads_made (FlagCtor i) hs n h = h
 heads_made (NumbersCtor i) hs n h = h
 heads_made (TextCtor i) hs n h = h
 
-special_one : {T : Type 0} (piece : MCtor) (n : ℕ) (hs : List (Head T)) → AreMadeHeads hs → AreMadeRows (specialised_heads piece n hs)
+special_one : {T : Type 0} (piece : MCtor) (n : ℕ) (hs : List (Head T)) → AreMadeHeads hs →
+    AreMadeRows (specialised_heads piece n hs)
 special_one piece n [] h = tt
 special_one {T} piece n (None ∷ rest) h = (heads-append (wildcards n) rest (wilds_made T n) h.1, tt)
 special_one piece n (Some (de_pat c t uid at subs binds) ∷ rest) h = go (has_piece c piece)
   where
     go : (b : Bool) → AreMadeRows (cond b ((heads_of c (map Some (de_pats_list subs)) n ++ rest) ∷ []) [])
-    go true = (heads-append (heads_of c (map Some (de_pats_list subs)) n) rest (heads_made c (map Some (de_pats_list subs)) n (subs_made subs h.0.1)) h.1, tt)
+    go true =
+        (heads-append (heads_of c (map Some (de_pats_list subs)) n) rest (heads_made c (map Some (de_pats_list subs)) n (subs_made subs h.0.1)) h.1, tt)
     go false = tt
 
-pub special_made : {T : Type 0} (piece : MCtor) (n : ℕ) (hss : List (List (Head T))) → AreMadeRows hss → AreMadeRows (all_specialised piece n hss)
+pub special_made : {T : Type 0} (piece : MCtor) (n : ℕ) (hss : List (List (Head T))) → AreMadeRows hss →
+    AreMadeRows (all_specialised piece n hss)
 special_made piece n [] h = tt
-special_made piece n (hs ∷ hss) h = rows-append (specialised_heads piece n hs) (all_specialised piece n hss) (special_one piece n hs h.0) (special_made piece n hss h.1)
+special_made piece n (hs ∷ hss) h =
+    rows-append (specialised_heads piece n hs) (all_specialised piece n hss) (special_one piece n hs h.0) (special_made piece n hss h.1)

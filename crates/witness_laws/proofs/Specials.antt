@@ -33,11 +33,14 @@ and-assoc : (a b c : Bool) → ((a && b) && c) ≡ (a && (b && c))
 and-assoc true b c = refl
 and-assoc false b c = refl
 
-pub row-append : {T : Type 0} (hs gs : List (Head T)) (xs ys : List MValue) → length hs ≡ length xs → row_takes (hs ++ gs) (xs ++ ys) ≡ (row_takes hs xs && row_takes gs ys)
+pub row-append : {T : Type 0} (hs gs : List (Head T)) (xs ys : List MValue) → length hs ≡ length xs →
+    row_takes (hs ++ gs) (xs ++ ys) ≡ (row_takes hs xs && row_takes gs ys)
 row-append [] gs [] ys e = refl
 row-append [] gs (x ∷ xs) ys e = absurd (omega (arith, e))
 row-append (h ∷ hs) gs [] ys e = absurd (omega (arith, e))
-row-append (h ∷ hs) gs (x ∷ xs) ys e = ap (λ b. head_takes h x && b) (row-append hs gs xs ys (omega (arith, e))) ∙ sym (and-assoc (head_takes h x) (row_takes hs xs) (row_takes gs ys))
+row-append (h ∷ hs) gs (x ∷ xs) ys e =
+    ap (λ b. head_takes h x && b) (row-append hs gs xs ys (omega (arith, e)))
+    ∙ sym (and-assoc (head_takes h x) (row_takes hs xs) (row_takes gs ys))
 
 wilds_take : (T : Type 0) (n : ℕ) (xs : List MValue) → length xs ≡ n → row_takes (wildcards {T = T} n) xs ≡ true
 wilds_take T zero [] e = refl
@@ -50,7 +53,8 @@ wilds_length T zero = refl
 wilds_length T (suc n) = let e = wilds_length T n in omega (arith, e)
 
 -- heads at both ends, with wildcards between
-ends_take : {T : Type 0} (f b n : ℕ) (hs : List (Head T)) (xs : List MValue) → length hs ≡ f + b → length xs ≡ n → f + b ≤ n →
+ends_take : {T : Type 0} (f b n : ℕ) (hs : List (Head T)) (xs : List MValue) → length hs ≡ f + b → length xs ≡ n →
+    f + b ≤ n →
     row_takes (take f hs ++ (wildcards (n - (f + b)) ++ drop f hs)) xs ≡ row_takes hs (take f xs ++ drop (n - b) xs)
 ends_take {T} f b n hs xs lh lx l =
     let m = n - (f + b) in
@@ -86,28 +90,38 @@ pub at_least : (a b : ℕ) → nat_le a b ≡ true → a ≤ b
 at_least a b h = grind (arith, nat_tests)
 
 -- the heads of a pattern's parts take the parts of the piece where the pattern takes the value
-heads_take : {T : Type 0} (c piece : MCtor) (subs : MDePats T) (n : ℕ) (v : MValue) (named : List (List ℕ)) (other : Bool) → is_or_ctor c ≡ false → has_piece c piece ≡ true → HasRoomFor piece c →
+heads_take : {T : Type 0} (c piece : MCtor) (subs : MDePats T) (n : ℕ) (v : MValue) (named : List (List ℕ)) (other : Bool) →
+    is_or_ctor c ≡ false → has_piece c piece ≡ true → HasRoomFor piece c →
     builds named piece v ≡ true → (is_wild_ctor c || builds [] c v) ≡ true → length (parts_under piece v) ≡ n → ((f b : ℕ) → c ≡ RowCtor (LongerShape f b) → length (map Some (de_pats_list subs)) ≡ f + b) →
     row_takes (heads_of c (map Some (de_pats_list subs)) n) (parts_under piece v) ≡ taken_by c subs v other
 heads_take {T} WildCtor piece subs n v named other o h r b k l g = wilds_take T n (parts_under piece v) l
 heads_take OrCtor piece subs n v named other o h r b k l g = untrue (sym o)
-heads_take SingleCtor SingleCtor subs n v named other o h r b k l g = ap (λ x. x && row_takes (map Some (de_pats_list subs)) (parts_of v)) (sym k)
+heads_take SingleCtor SingleCtor subs n v named other o h r b k l g =
+    ap (λ x. x && row_takes (map Some (de_pats_list subs)) (parts_of v)) (sym k)
 heads_take SingleCtor _ subs n v named other o h r b k l g = untrue h
-heads_take PointCtor PointCtor subs n v named other o h r b k l g = ap (λ x. x && row_takes (map Some (de_pats_list subs)) (parts_of v)) (sym k)
+heads_take PointCtor PointCtor subs n v named other o h r b k l g =
+    ap (λ x. x && row_takes (map Some (de_pats_list subs)) (parts_of v)) (sym k)
 heads_take PointCtor _ subs n v named other o h r b k l g = untrue h
-heads_take LaterCtor LaterCtor subs n v named other o h r b k l g = ap (λ x. x && row_takes (map Some (de_pats_list subs)) (parts_of v)) (sym k)
+heads_take LaterCtor LaterCtor subs n v named other o h r b k l g =
+    ap (λ x. x && row_takes (map Some (de_pats_list subs)) (parts_of v)) (sym k)
 heads_take LaterCtor _ subs n v named other o h r b k l g = untrue h
-heads_take OtherTextCtor OtherTextCtor subs n v named other o h r b k l g = ap (λ x. x && row_takes (map Some (de_pats_list subs)) (parts_of v)) (sym k)
+heads_take OtherTextCtor OtherTextCtor subs n v named other o h r b k l g =
+    ap (λ x. x && row_takes (map Some (de_pats_list subs)) (parts_of v)) (sym k)
 heads_take OtherTextCtor _ subs n v named other o h r b k l g = untrue h
-heads_take (VariantCtor i) (VariantCtor j) subs n v named other o h r b k l g = ap (λ x. x && row_takes (map Some (de_pats_list subs)) (parts_of v)) (sym k)
+heads_take (VariantCtor i) (VariantCtor j) subs n v named other o h r b k l g =
+    ap (λ x. x && row_takes (map Some (de_pats_list subs)) (parts_of v)) (sym k)
 heads_take (VariantCtor i) _ subs n v named other o h r b k l g = untrue h
-heads_take (FlagCtor i) (FlagCtor j) subs n v named other o h r b k l g = ap (λ x. x && row_takes (map Some (de_pats_list subs)) (parts_of v)) (sym k)
+heads_take (FlagCtor i) (FlagCtor j) subs n v named other o h r b k l g =
+    ap (λ x. x && row_takes (map Some (de_pats_list subs)) (parts_of v)) (sym k)
 heads_take (FlagCtor i) _ subs n v named other o h r b k l g = untrue h
-heads_take (NumbersCtor i) (NumbersCtor j) subs n v named other o h r b k l g = ap (λ x. x && row_takes (map Some (de_pats_list subs)) (parts_of v)) (sym k)
+heads_take (NumbersCtor i) (NumbersCtor j) subs n v named other o h r b k l g =
+    ap (λ x. x && row_takes (map Some (de_pats_list subs)) (parts_of v)) (sym k)
 heads_take (NumbersCtor i) _ subs n v named other o h r b k l g = untrue h
-heads_take (TextCtor i) (TextCtor j) subs n v named other o h r b k l g = ap (λ x. x && row_takes (map Some (de_pats_list subs)) (parts_of v)) (sym k)
+heads_take (TextCtor i) (TextCtor j) subs n v named other o h r b k l g =
+    ap (λ x. x && row_takes (map Some (de_pats_list subs)) (parts_of v)) (sym k)
 heads_take (TextCtor i) _ subs n v named other o h r b k l g = untrue h
-heads_take (RowCtor (FixedShape i)) (RowCtor (FixedShape j)) subs n v named other o h r b k l g = ap (λ x. x && row_takes (map Some (de_pats_list subs)) (parts_of v)) (sym k)
+heads_take (RowCtor (FixedShape i)) (RowCtor (FixedShape j)) subs n v named other o h r b k l g =
+    ap (λ x. x && row_takes (map Some (de_pats_list subs)) (parts_of v)) (sym k)
 heads_take (RowCtor (LongerShape f e)) (RowCtor (FixedShape j)) subs n v named other o h r b k l g =
     let hs = map Some (de_pats_list subs) in
     let rows : (v : MValue) → builds named (RowCtor (FixedShape j)) v ≡ true → length (parts_of v) ≡ j = long in
@@ -140,7 +154,8 @@ heads_take (RowCtor (FixedShape i)) _ subs n v named other o h r b k l g = untru
 heads_take (RowCtor (LongerShape f e)) _ subs n v named other o h r b k l g = untrue h
 
 -- a pattern whose constructor does not build the value takes it not
-none_take : {T : Type 0} (c : MCtor) (subs : MDePats T) (v : MValue) (other : Bool) → is_or_ctor c ≡ false → (is_wild_ctor c || builds [] c v) ≡ false → taken_by c subs v other ≡ false
+none_take : {T : Type 0} (c : MCtor) (subs : MDePats T) (v : MValue) (other : Bool) → is_or_ctor c ≡ false →
+    (is_wild_ctor c || builds [] c v) ≡ false → taken_by c subs v other ≡ false
 none_take WildCtor subs v other o k = untrue (sym k)
 none_take OrCtor subs v other o k = untrue (sym o)
 none_take SingleCtor subs v other o k = ap (λ b. b && row_takes (map Some (de_pats_list subs)) (parts_of v)) k
@@ -151,7 +166,8 @@ none_take (VariantCtor i) subs v other o k = ap (λ b. b && row_takes (map Some 
 none_take (FlagCtor i) subs v other o k = ap (λ b. b && row_takes (map Some (de_pats_list subs)) (parts_of v)) k
 none_take (NumbersCtor i) subs v other o k = ap (λ b. b && row_takes (map Some (de_pats_list subs)) (parts_of v)) k
 none_take (TextCtor i) subs v other o k = ap (λ b. b && row_takes (map Some (de_pats_list subs)) (parts_of v)) k
-none_take (RowCtor s) subs v other o k = ap (λ b. b && row_takes (map Some (de_pats_list subs)) (parts_met (RowCtor s) (parts_of v))) k
+none_take (RowCtor s) subs v other o k =
+    ap (λ b. b && row_takes (map Some (de_pats_list subs)) (parts_met (RowCtor s) (parts_of v))) k
 
 -- what the first head of a row is for a piece of so many parts: no or-pattern, with all of the piece or nothing, and with
 -- as many heads for its parts
@@ -171,11 +187,14 @@ or_false : (b : Bool) → (b || false) ≡ b
 or_false true = refl
 or_false false = refl
 
-special_one : {T : Type 0} (named : List (List ℕ)) (piece : MCtor) (n : ℕ) (v : MValue) (vs : List MValue) → builds named piece v ≡ true → length (parts_under piece v) ≡ n → (row : List (Head T)) → IsSidedRow named piece n row →
+special_one : {T : Type 0} (named : List (List ℕ)) (piece : MCtor) (n : ℕ) (v : MValue) (vs : List MValue) →
+    builds named piece v ≡ true → length (parts_under piece v) ≡ n → (row : List (Head T)) →
+    IsSidedRow named piece n row →
     some_takes (specialised_heads piece n row) (parts_under piece v ++ vs) ≡ row_takes row (v ∷ vs)
 special_one named piece n v vs b l [] s = refl
 special_one {T} named piece n v vs b l (None ∷ rest) s =
-    or_false (row_takes (wildcards n ++ rest) (parts_under piece v ++ vs)) ∙ row-append (wildcards n) rest (parts_under piece v) vs (wilds_length T n ∙ sym l)
+    or_false (row_takes (wildcards n ++ rest) (parts_under piece v ++ vs))
+    ∙ row-append (wildcards n) rest (parts_under piece v) vs (wilds_length T n ∙ sym l)
     ∙ ap (λ c. c && row_takes rest vs) (wilds_take T n (parts_under piece v) l)
 special_one {T} named piece n v vs b l (Some (de_pat c t uid at subs binds) ∷ rest) s = go (has_piece c piece) refl
   where
@@ -195,7 +214,9 @@ AreSidedRows named piece n [] = Unit {0}
 AreSidedRows named piece n (row ∷ rows) = IsSidedRow named piece n row × AreSidedRows named piece n rows
 
 -- the rows of a piece take the parts of a value that it builds where the rows take the value
-pub special_takes : {T : Type 0} (named : List (List ℕ)) (piece : MCtor) (n : ℕ) (v : MValue) (vs : List MValue) → builds named piece v ≡ true → length (parts_under piece v) ≡ n → (rows : List (List (Head T))) → AreSidedRows named piece n rows →
+pub special_takes : {T : Type 0} (named : List (List ℕ)) (piece : MCtor) (n : ℕ) (v : MValue) (vs : List MValue) →
+    builds named piece v ≡ true → length (parts_under piece v) ≡ n → (rows : List (List (Head T))) →
+    AreSidedRows named piece n rows →
     some_takes (flat_map (specialised_heads piece n) rows) (parts_under piece v ++ vs) ≡ some_takes rows (v ∷ vs)
 special_takes named piece n v vs b l [] s = refl
 special_takes named piece n v vs b l (row ∷ rows) s =

@@ -31,7 +31,8 @@ some-combine (w ∷ ws) (u ∷ us) = refl
 
 -- the parts of a pattern
 
-pub subs_take : {T : Type 0} (subs : MDePats T) (parts : List NumberedPart) → is_some_there (subs_ways subs parts) ≡ row_takes (map Some (de_pats_list subs)) (map (λ n. n.part) parts)
+pub subs_take : {T : Type 0} (subs : MDePats T) (parts : List NumberedPart) →
+    is_some_there (subs_ways subs parts) ≡ row_takes (map Some (de_pats_list subs)) (map (λ n. n.part) parts)
 subs_take no_de_pats [] = refl
 subs_take no_de_pats (n ∷ parts) = refl
 subs_take (more_de_pats p ps) [] = refl
@@ -54,7 +55,8 @@ map-drop f zero xs = refl
 map-drop f (suc n) [] = refl
 map-drop f (suc n) (x ∷ xs) = map-drop f n xs
 
-pub met_parts : (c : MCtor) (i : ℕ) (vs : List MValue) → map (λ n. n.part) (parts_met c (numbered_from i vs)) ≡ parts_met c vs
+pub met_parts : (c : MCtor) (i : ℕ) (vs : List MValue) →
+    map (λ n. n.part) (parts_met c (numbered_from i vs)) ≡ parts_met c vs
 met_parts (RowCtor (LongerShape f b)) i vs =
     let ns = numbered_from i vs in
     let part : NumberedPart → MValue = λ n. n.part in
@@ -79,11 +81,15 @@ met_parts (TextCtor t) i vs = numbered_parts i vs
 abbrev pub ctor_takes : {T : Type 0} → MCtor → MDePats T → MValue → Bool
 ctor_takes c subs v = builds [] c v && row_takes (map Some (de_pats_list subs)) (parts_met c (parts_of v))
 
-built_takes : {T : Type 0} (c : MCtor) (subs : MDePats T) (v : MValue) → is_some_there (ways_where (parts_built c v) (λ parts. subs_ways subs parts)) ≡ ctor_takes c subs v
+built_takes : {T : Type 0} (c : MCtor) (subs : MDePats T) (v : MValue) →
+    is_some_there (ways_where (parts_built c v) (λ parts. subs_ways subs parts)) ≡ ctor_takes c subs v
 built_takes c subs v = go (builds [] c v)
   where
-    go : (b : Bool) → is_some_there (ways_where (some_if b (parts_met c (numbered_from 0 (parts_of v)))) (λ parts. subs_ways subs parts)) ≡ (b && row_takes (map Some (de_pats_list subs)) (parts_met c (parts_of v)))
-    go true = subs_take subs (parts_met c (numbered_from 0 (parts_of v))) ∙ ap (row_takes (map Some (de_pats_list subs))) (met_parts c 0 (parts_of v))
+    go : (b : Bool) →
+        is_some_there (ways_where (some_if b (parts_met c (numbered_from 0 (parts_of v)))) (λ parts. subs_ways subs parts)) ≡ (b && row_takes (map Some (de_pats_list subs)) (parts_met c (parts_of v)))
+    go true =
+        subs_take subs (parts_met c (numbered_from 0 (parts_of v)))
+        ∙ ap (row_takes (map Some (de_pats_list subs))) (met_parts c 0 (parts_of v))
     go false = refl
 
 abbrev pub taken_by : {T : Type 0} → MCtor → MDePats T → MValue → (alternatives : Bool) → Bool
@@ -95,12 +101,16 @@ taken_by c subs v a = ctor_takes c subs v
 pub pat_takes : {T : Type 0} (c : MCtor) (t : T) (uid at : ℕ) (subs : MDePats T) (binds : List MBound) (v : MValue) →
     head_takes (Some (de_pat c t uid at subs binds)) v ≡ taken_by c subs v (is_some_there (arena_alternatives_ways (chosen_of subs) subs v))
 pat_takes c t uid at subs binds v =
-    some-map (with_bounds binds v) (ways_by_ctor c at (λ u. arena_alternatives_ways (chosen_of subs) subs u) (λ parts. subs_ways subs parts) v) ∙ go c
+    some-map (with_bounds binds v) (ways_by_ctor c at (λ u. arena_alternatives_ways (chosen_of subs) subs u) (λ parts. subs_ways subs parts) v)
+    ∙ go c
   where
-    go : (c : MCtor) → is_some_there (ways_by_ctor c at (λ u. arena_alternatives_ways (chosen_of subs) subs u) (λ parts. subs_ways subs parts) v) ≡ taken_by c subs v (is_some_there (arena_alternatives_ways (chosen_of subs) subs v))
+    go : (c : MCtor) →
+        is_some_there (ways_by_ctor c at (λ u. arena_alternatives_ways (chosen_of subs) subs u) (λ parts. subs_ways subs parts) v) ≡ taken_by c subs v (is_some_there (arena_alternatives_ways (chosen_of subs) subs v))
     go WildCtor = refl
     go OrCtor = refl
-    go (NumbersCtor r) = some-map (with_spans_of (span_way at r)) (ways_where (parts_built (NumbersCtor r) v) (λ parts. subs_ways subs parts)) ∙ built_takes (NumbersCtor r) subs v
+    go (NumbersCtor r) =
+        some-map (with_spans_of (span_way at r)) (ways_where (parts_built (NumbersCtor r) v) (λ parts. subs_ways subs parts))
+        ∙ built_takes (NumbersCtor r) subs v
     go SingleCtor = built_takes SingleCtor subs v
     go PointCtor = built_takes PointCtor subs v
     go LaterCtor = built_takes LaterCtor subs v
@@ -122,14 +132,18 @@ or-assoc false b c = refl
 
 pub any-append : {A : Type 0} (f : A → Bool) (xs ys : List A) → list_any f (xs ++ ys) ≡ (list_any f xs || list_any f ys)
 any-append f [] ys = refl
-any-append f (x ∷ xs) ys = ap (λ b. f x || b) (any-append f xs ys) ∙ sym (or-assoc (f x) (list_any f xs) (list_any f ys))
+any-append f (x ∷ xs) ys =
+    ap (λ b. f x || b) (any-append f xs ys) ∙ sym (or-assoc (f x) (list_any f xs) (list_any f ys))
 
 abbrev some_choice : {T : Type 0} → MValue → List (Choice T) → Bool
 some_choice v cs = list_any (λ c. head_takes (Some c.pat) v) cs
 
-choice-map : {T : Type 0} (v : MValue) (f : Choice T → Choice T) → ((c : Choice T) → (f c).pat ≡ c.pat) → (cs : List (Choice T)) → some_choice v (map f cs) ≡ some_choice v cs
+choice-map : {T : Type 0} (v : MValue) (f : Choice T → Choice T) → ((c : Choice T) → (f c).pat ≡ c.pat) →
+    (cs : List (Choice T)) → some_choice v (map f cs) ≡ some_choice v cs
 choice-map v f k [] = refl
-choice-map v f k (c ∷ cs) = ap (λ p. head_takes (Some p) v || some_choice v (map f cs)) (k c) ∙ ap (λ b. head_takes (Some c.pat) v || b) (choice-map v f k cs)
+choice-map v f k (c ∷ cs) =
+    ap (λ p. head_takes (Some p) v || some_choice v (map f cs)) (k c)
+    ∙ ap (λ b. head_takes (Some c.pat) v || b) (choice-map v f k cs)
 
 keeps_pat : {T : Type 0} (subs : MDePats T) (uid : ℕ) (c : Choice T) → (choice_among subs uid c).pat ≡ c.pat
 keeps_pat no_de_pats uid c = refl
@@ -145,7 +159,8 @@ mutual
       or_false true = refl
       or_false false = refl
 
-      go : (c : MCtor) → some_choice v (map (with_binds binds) (all_choices_of (choice_among subs) subs)) ≡ is_some_there (arena_alternatives_ways (chosen_of subs) subs v) →
+      go : (c : MCtor) →
+          some_choice v (map (with_binds binds) (all_choices_of (choice_among subs) subs)) ≡ is_some_there (arena_alternatives_ways (chosen_of subs) subs v) →
           some_choice v (choices_by c (map (with_binds binds) (all_choices_of (choice_among subs) subs)) (record { pat = de_pat c t uid at subs binds; chosen = []; binds = [] } ∷ []))
           ≡ head_takes (Some (de_pat c t uid at subs binds)) v
       go OrCtor e = e ∙ sym (pat_takes OrCtor t uid at subs binds v)
@@ -160,7 +175,8 @@ mutual
       go (TextCtor x) e = or_false (head_takes (Some (de_pat (TextCtor x) t uid at subs binds)) v)
       go (RowCtor s) e = or_false (head_takes (Some (de_pat (RowCtor s) t uid at subs binds)) v)
 
-  alternatives_take : {T : Type 0} (choose : ℕ → Choice T → Choice T) (chosen : ℕ → Way → Way) → ((u : ℕ) (d : Choice T) → (choose u d).pat ≡ d.pat) → (ps : MDePats T) (v : MValue) →
+  alternatives_take : {T : Type 0} (choose : ℕ → Choice T → Choice T) (chosen : ℕ → Way → Way) →
+      ((u : ℕ) (d : Choice T) → (choose u d).pat ≡ d.pat) → (ps : MDePats T) (v : MValue) →
       some_choice v (all_choices_of choose ps) ≡ is_some_there (arena_alternatives_ways chosen ps v)
   alternatives_take choose chosen k no_de_pats v = refl
   alternatives_take choose chosen k (more_de_pats p ps) v =
@@ -176,7 +192,8 @@ spread_take : {T : Type 0} (rest : List (Head T)) (v : MValue) (vs : List MValue
     some_takes (map (λ c. Some c.pat ∷ rest) cs) (v ∷ vs) ≡ (some_choice v cs && row_takes rest vs)
 spread_take rest v vs [] = refl
 spread_take rest v vs (c ∷ cs) =
-    ap (λ b. (head_takes (Some c.pat) v && row_takes rest vs) || b) (spread_take rest v vs cs) ∙ shuffle (head_takes (Some c.pat) v) (some_choice v cs) (row_takes rest vs)
+    ap (λ b. (head_takes (Some c.pat) v && row_takes rest vs) || b) (spread_take rest v vs cs)
+    ∙ shuffle (head_takes (Some c.pat) v) (some_choice v cs) (row_takes rest vs)
   where
     shuffle : (a b c : Bool) → ((a && c) || (b && c)) ≡ ((a || b) && c)
     shuffle true true true = refl
@@ -199,11 +216,14 @@ expand_one {T} (Some p ∷ rest) [] = none (choices_of p)
     none : (cs : List (Choice T)) → some_takes (map (λ c. Some c.pat ∷ rest) cs) [] ≡ false
     none [] = refl
     none (c ∷ cs) = none cs
-expand_one (Some p ∷ rest) (v ∷ vs) = spread_take rest v vs (choices_of p) ∙ ap (λ b. b && row_takes rest vs) (choices_take p v)
+expand_one (Some p ∷ rest) (v ∷ vs) =
+    spread_take rest v vs (choices_of p) ∙ ap (λ b. b && row_takes rest vs) (choices_take p v)
 
 -- expanding or-patterns keeps what rows take
-pub expand_takes : {T : Type 0} (rows : List (List (Head T))) (vs : List MValue) → some_takes (flat_map expand_row rows) vs ≡ some_takes rows vs
+pub expand_takes : {T : Type 0} (rows : List (List (Head T))) (vs : List MValue) →
+    some_takes (flat_map expand_row rows) vs ≡ some_takes rows vs
 expand_takes [] vs = refl
 expand_takes (r ∷ rows) vs =
-    any-append (λ x. row_takes x vs) (expand_row r) (flat_map expand_row rows) ∙ ap (λ b. b || some_takes (flat_map expand_row rows) vs) (expand_one r vs)
+    any-append (λ x. row_takes x vs) (expand_row r) (flat_map expand_row rows)
+    ∙ ap (λ b. b || some_takes (flat_map expand_row rows) vs) (expand_one r vs)
     ∙ ap (λ b. row_takes r vs || b) (expand_takes rows vs)

@@ -24,7 +24,8 @@ module _ {T : Type 0} (cx : Context T) where
   each-append P [] ds h k = k
   each-append P (c ∷ cs) ds h k = (h.0, each-append P cs ds h.1 k)
 
-  each-map : (P : MDePat T → Type 0) (f : Choice T → Choice T) → ((c : Choice T) → (f c).pat ≡ c.pat) → (cs : List (Choice T)) → EachPat P cs → EachPat P (map f cs)
+  each-map : (P : MDePat T → Type 0) (f : Choice T → Choice T) → ((c : Choice T) → (f c).pat ≡ c.pat) →
+      (cs : List (Choice T)) → EachPat P cs → EachPat P (map f cs)
   each-map P f k [] h = tt
   each-map P f k (c ∷ cs) h = (subst P (sym (k c)) h.0, each-map P f k cs h.1)
 
@@ -41,12 +42,16 @@ module _ {T : Type 0} (cx : Context T) where
     choices_good t (de_pat c u uid at subs binds) h =
         go c h (λ k. alternatives_good t (choice_among subs) (λ x d. keeps_pat subs x d) subs k)
       where
-        go : (c : MCtor) → IsTyped cx t (de_pat c u uid at subs binds) → (AreAllTyped cx t subs → EachPat (GoodChoice t) (all_choices_of (choice_among subs) subs)) →
+        go : (c : MCtor) → IsTyped cx t (de_pat c u uid at subs binds) →
+            (AreAllTyped cx t subs → EachPat (GoodChoice t) (all_choices_of (choice_among subs) subs)) →
             EachPat (GoodChoice t) (choices_by c (map (with_binds binds) (all_choices_of (choice_among subs) subs)) (record { pat = de_pat c u uid at subs binds; chosen = []; binds = [] } ∷ []))
-        go OrCtor h f = each-map (GoodChoice t) (with_binds binds) (λ d. refl) (all_choices_of (choice_among subs) subs) (f h.2)
+        go OrCtor h f =
+            each-map (GoodChoice t) (with_binds binds) (λ d. refl) (all_choices_of (choice_among subs) subs) (f h.2)
         go _ h f = ((h, refl), tt)
 
-    alternatives_good : (t : T) (choose : ℕ → Choice T → Choice T) → ((u : ℕ) (d : Choice T) → (choose u d).pat ≡ d.pat) → (ps : MDePats T) → AreAllTyped cx t ps → EachPat (GoodChoice t) (all_choices_of choose ps)
+    alternatives_good : (t : T) (choose : ℕ → Choice T → Choice T) →
+        ((u : ℕ) (d : Choice T) → (choose u d).pat ≡ d.pat) → (ps : MDePats T) → AreAllTyped cx t ps →
+        EachPat (GoodChoice t) (all_choices_of choose ps)
     alternatives_good t choose k no_de_pats h = tt
     alternatives_good t choose k (more_de_pats p ps) h =
         each-append (GoodChoice t) (map (choose (uid_of p)) (choices_of p)) (all_choices_of choose ps)
@@ -54,7 +59,8 @@ module _ {T : Type 0} (cx : Context T) where
 
   -- rows
 
-  pub rows-append : (columns : List (MColumn T)) (xs ys : List (MRow T)) → AreRowsTyped cx columns xs → AreRowsTyped cx columns ys → AreRowsTyped cx columns (xs ++ ys)
+  pub rows-append : (columns : List (MColumn T)) (xs ys : List (MRow T)) → AreRowsTyped cx columns xs →
+      AreRowsTyped cx columns ys → AreRowsTyped cx columns (xs ++ ys)
   rows-append columns [] ys h k = k
   rows-append columns (x ∷ xs) ys h k = (h.0, rows-append columns xs ys h.1 k)
 
@@ -62,7 +68,8 @@ module _ {T : Type 0} (cx : Context T) where
   none-append [] ys h k = k
   none-append (x ∷ xs) ys h k = (h.0, none-append xs ys h.1 k)
 
-  spread_good : (c : MColumn T) (columns : List (MColumn T)) (place : List MStep) (r : MRow T) (rest : List (Head T)) → AreHeadsTyped cx columns rest → (cs : List (Choice T)) → EachPat (GoodChoice c.type) cs →
+  spread_good : (c : MColumn T) (columns : List (MColumn T)) (place : List MStep) (r : MRow T) (rest : List (Head T)) →
+      AreHeadsTyped cx columns rest → (cs : List (Choice T)) → EachPat (GoodChoice c.type) cs →
       AreRowsTyped cx (c ∷ columns) (map (λ d. row_with r (Some d.pat ∷ rest) d.chosen (map (bind_at place) d.binds)) cs) × AreNoneOr (map (λ d. row_with r (Some d.pat ∷ rest) d.chosen (map (bind_at place) d.binds)) cs)
   spread_good c columns place r rest h [] g = (tt, tt)
   spread_good c columns place r rest h (d ∷ ds) g =
@@ -72,13 +79,17 @@ module _ {T : Type 0} (cx : Context T) where
       not_or : (p : MDePat T) → starts_or (Some p ∷ []) ≡ false → starts_or (Some p ∷ rest) ≡ false
       not_or (de_pat c t uid at subs binds) e = e
 
-  expand_row_good : (c : MColumn T) (columns : List (MColumn T)) (place : List MStep) (r : MRow T) (hs : List (Head T)) → r.heads ≡ hs → AreHeadsTyped cx (c ∷ columns) hs →
+  expand_row_good : (c : MColumn T) (columns : List (MColumn T)) (place : List MStep) (r : MRow T) (hs : List (Head T)) →
+      r.heads ≡ hs → AreHeadsTyped cx (c ∷ columns) hs →
       AreRowsTyped cx (c ∷ columns) (expand_first place r hs) × AreNoneOr (expand_first place r hs)
   expand_row_good c columns place r [] e h = absurd h
-  expand_row_good c columns place r (None ∷ rest) e h = ((subst (AreHeadsTyped cx (c ∷ columns)) (sym e) h, tt), (ap starts_or e, tt))
-  expand_row_good c columns place r (Some p ∷ rest) e h = spread_good c columns place r rest h.1 (choices_of p) (choices_good c.type p h.0)
+  expand_row_good c columns place r (None ∷ rest) e h =
+      ((subst (AreHeadsTyped cx (c ∷ columns)) (sym e) h, tt), (ap starts_or e, tt))
+  expand_row_good c columns place r (Some p ∷ rest) e h =
+      spread_good c columns place r rest h.1 (choices_of p) (choices_good c.type p h.0)
 
-  pub expand_good : (c : MColumn T) (columns : List (MColumn T)) (place : List MStep) (rows : List (MRow T)) → AreRowsTyped cx (c ∷ columns) rows →
+  pub expand_good : (c : MColumn T) (columns : List (MColumn T)) (place : List MStep) (rows : List (MRow T)) →
+      AreRowsTyped cx (c ∷ columns) rows →
       AreRowsTyped cx (c ∷ columns) (expand_rows place rows) × AreNoneOr (expand_rows place rows)
   expand_good c columns place [] h = (tt, tt)
   expand_good c columns place (r ∷ rows) h =
@@ -86,27 +97,33 @@ module _ {T : Type 0} (cx : Context T) where
       let k = expand_good c columns place rows h.1 in
       (rows-append (c ∷ columns) (expand_first place r r.heads) (expand_rows place rows) s.0 k.0, none-append (expand_first place r r.heads) (expand_rows place rows) s.1 k.1)
 
-  rest_typed : (c : MColumn T) (columns : List (MColumn T)) (hs : List (Head T)) → AreHeadsTyped cx (c ∷ columns) hs → AreHeadsTyped cx columns (row_rest hs)
+  rest_typed : (c : MColumn T) (columns : List (MColumn T)) (hs : List (Head T)) →
+      AreHeadsTyped cx (c ∷ columns) hs → AreHeadsTyped cx columns (row_rest hs)
   rest_typed c columns [] h = absurd h
   rest_typed c columns (x ∷ hs) h = h.1
 
-  pub default_good : (c : MColumn T) (columns : List (MColumn T)) (place : List MStep) (rows : List (MRow T)) → AreRowsTyped cx (c ∷ columns) rows → AreRowsTyped cx columns (default_rows place rows)
+  pub default_good : (c : MColumn T) (columns : List (MColumn T)) (place : List MStep) (rows : List (MRow T)) →
+      AreRowsTyped cx (c ∷ columns) rows → AreRowsTyped cx columns (default_rows place rows)
   default_good c columns place [] h = tt
   default_good c columns place (r ∷ rows) h = go (first_wild r) (default_good c columns place rows h.1)
     where
-      go : (w : Bool) → AreRowsTyped cx columns (default_rows place rows) → AreRowsTyped cx columns (cond w (row_with r (row_rest r.heads) [] (first_binds place r.heads) ∷ []) [] ++ default_rows place rows)
+      go : (w : Bool) → AreRowsTyped cx columns (default_rows place rows) →
+          AreRowsTyped cx columns (cond w (row_with r (row_rest r.heads) [] (first_binds place r.heads) ∷ []) [] ++ default_rows place rows)
       go true k = (rest_typed c columns r.heads h.0, k)
       go false k = k
 
   -- the constructors of the column are heads of the set
 
-  ctor_good : (t : T) (p : MDePat T) (c : MCtor) → IsTyped cx t p → starts_or (Some p ∷ []) ≡ false → first_ctor (Some p ∷ []) ≡ Some c → is_head (cx.set_of t) c ≡ true
+  ctor_good : (t : T) (p : MDePat T) (c : MCtor) → IsTyped cx t p → starts_or (Some p ∷ []) ≡ false →
+      first_ctor (Some p ∷ []) ≡ Some c → is_head (cx.set_of t) c ≡ true
   ctor_good t (de_pat d u uid at subs binds) c h o e = go d c h o e
     where
-      same : (d c : MCtor) → Some d ≡ Some c → IsTrue (belongs (cx.set_of t) d && is_written d) → is_wild_ctor d ≡ false → is_head (cx.set_of t) c ≡ true
+      same : (d c : MCtor) → Some d ≡ Some c → IsTrue (belongs (cx.set_of t) d && is_written d) →
+          is_wild_ctor d ≡ false → is_head (cx.set_of t) c ≡ true
       same d c e b w = let s : d ≡ c = cc in subst (λ x. is_head (cx.set_of t) x ≡ true) s (ap (λ y. y || (belongs (cx.set_of t) d && is_written d)) w ∙ b)
 
-      go : (d c : MCtor) → IsTyped cx t (de_pat d u uid at subs binds) → is_or_ctor d ≡ false → ctor_unless_wild d ≡ Some c → is_head (cx.set_of t) c ≡ true
+      go : (d c : MCtor) → IsTyped cx t (de_pat d u uid at subs binds) → is_or_ctor d ≡ false →
+          ctor_unless_wild d ≡ Some c → is_head (cx.set_of t) c ≡ true
       go WildCtor c h o e = cc
       go OrCtor c h o e = untrue (sym o)
       go SingleCtor c h o e = same SingleCtor c e h.2.0 refl
@@ -119,18 +136,23 @@ module _ {T : Type 0} (cx : Context T) where
       go (TextCtor x) c h o e = same (TextCtor x) c e h.2.0 refl
       go (RowCtor s) c h o e = same (RowCtor s) c e h.2.0 refl
 
-  pub column_good : (c : MColumn T) (columns : List (MColumn T)) (rows : List (MRow T)) → AreRowsTyped cx (c ∷ columns) rows → AreNoneOr rows →
+  pub column_good : (c : MColumn T) (columns : List (MColumn T)) (rows : List (MRow T)) →
+      AreRowsTyped cx (c ∷ columns) rows → AreNoneOr rows →
       All (λ h. IsTrue (is_head (cx.set_of c.type) h)) (column_of (all_heads rows))
   column_good c columns [] h o = All-nil (λ x. IsTrue (is_head (cx.set_of c.type) x))
   column_good c columns (r ∷ rows) h o = go r.heads h.0 o.0 (column_good c columns rows h.1 o.1)
     where
-      add : (m : Option MCtor) → ((d : MCtor) → m ≡ Some d → is_head (cx.set_of c.type) d ≡ true) → All (λ x. IsTrue (is_head (cx.set_of c.type) x)) (column_of (all_heads rows)) →
+      add : (m : Option MCtor) → ((d : MCtor) → m ≡ Some d → is_head (cx.set_of c.type) d ≡ true) →
+          All (λ x. IsTrue (is_head (cx.set_of c.type) x)) (column_of (all_heads rows)) →
           All (λ x. IsTrue (is_head (cx.set_of c.type) x)) (cons_option m (column_of (all_heads rows)))
       add None f k = k
-      add (Some d) f k = All-cons (λ x. IsTrue (is_head (cx.set_of c.type) x)) d (column_of (all_heads rows)) (f d refl) k
+      add (Some d) f k =
+          All-cons (λ x. IsTrue (is_head (cx.set_of c.type) x)) d (column_of (all_heads rows)) (f d refl) k
 
-      go : (hs : List (Head T)) → AreHeadsTyped cx (c ∷ columns) hs → starts_or hs ≡ false → All (λ x. IsTrue (is_head (cx.set_of c.type) x)) (column_of (all_heads rows)) →
+      go : (hs : List (Head T)) → AreHeadsTyped cx (c ∷ columns) hs → starts_or hs ≡ false →
+          All (λ x. IsTrue (is_head (cx.set_of c.type) x)) (column_of (all_heads rows)) →
           All (λ x. IsTrue (is_head (cx.set_of c.type) x)) (column_of (hs ∷ all_heads rows))
       go [] t o k = absurd t
       go (None ∷ rest) t o k = k
-      go (Some (de_pat d u uid at subs binds) ∷ rest) t o k = add (ctor_unless_wild d) (λ e f. ctor_good c.type (de_pat d u uid at subs binds) e t.0 o f) k
+      go (Some (de_pat d u uid at subs binds) ∷ rest) t o k =
+          add (ctor_unless_wild d) (λ e f. ctor_good c.type (de_pat d u uid at subs binds) e t.0 o f) k

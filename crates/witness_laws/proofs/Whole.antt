@@ -21,18 +21,22 @@ use Rattle.witness_laws.proofs.Covers.{AreArmsTyped, rows_made, rows_typed, unco
 use Rattle.witness_laws.proofs.Exact.{built}
 use Rattle.witness_laws.proofs.OfTypes.{AreAllOf, stacks_of}
 
-pub arms_typed : {T : Type 0} (cx : Context T) (t : T) (arms : List (MDeArm T)) → ((a : MDeArm T) → Contains arms a → IsTyped cx t a.pat) → AreArmsTyped cx t arms
+pub arms_typed : {T : Type 0} (cx : Context T) (t : T) (arms : List (MDeArm T)) →
+    ((a : MDeArm T) → Contains arms a → IsTyped cx t a.pat) → AreArmsTyped cx t arms
 arms_typed cx t [] f = tt
-arms_typed cx t (a ∷ arms) f = (f a (0, omega arith, refl), arms_typed cx t arms (λ b (k, l, e). f b (suc k, omega (arith, l), e)))
+arms_typed cx t (a ∷ arms) f =
+    (f a (0, omega arith, refl), arms_typed cx t arms (λ b (k, l, e). f b (suc k, omega (arith, l), e)))
 
 -- stacks of one witness
 
-after_at : (w : MWitness) (us : List MWitness) → AreAfter (w ∷ []) (map (λ x. x ∷ []) us) → (j : ℕ) (u : MWitness) → slice_get us j ≡ Some u → compare_witness w u ≡ Before
+after_at : (w : MWitness) (us : List MWitness) → AreAfter (w ∷ []) (map (λ x. x ∷ []) us) → (j : ℕ) (u : MWitness) →
+    slice_get us j ≡ Some u → compare_witness w u ≡ Before
 after_at w [] h j u e = cc
 after_at w (x ∷ us) h zero u e = let s : x ≡ u = cc in subst (λ y. compare_witness w y ≡ Before) s (sym (and_then-same (compare_witness w x)) ∙ h.0)
 after_at w (x ∷ us) h (suc j) u e = after_at w us h.1 j u e
 
-ascend_at : (ws : List MWitness) → DoAscend (map (λ x. x ∷ []) ws) → (i j : ℕ) (w u : MWitness) → slice_get ws i ≡ Some w → slice_get ws j ≡ Some u → i < j → compare_witness w u ≡ Before
+ascend_at : (ws : List MWitness) → DoAscend (map (λ x. x ∷ []) ws) → (i j : ℕ) (w u : MWitness) →
+    slice_get ws i ≡ Some w → slice_get ws j ≡ Some u → i < j → compare_witness w u ≡ Before
 ascend_at [] h i j w u e f l = cc
 ascend_at (x ∷ ws) h zero zero w u e f l = absurd (omega (arith, l))
 ascend_at (x ∷ ws) h zero (suc j) w u e f l = let s : x ≡ w = cc in subst (λ y. compare_witness y u ≡ Before) s (after_at x ws h.0 j u f)
@@ -56,11 +60,14 @@ module _ {T : Type 0} (IsType : T → Type 0) (IsValue : T → Bool → MValue �
   no_bare (RowSet l) sure x v h n k = (built IsType IsValue cx values law (RowSet l) sure v tt k).0
 
   -- the domain of a match with a witness has no bare unseen
-  pub seen_all : (m : MDeMatch T) (ws : List MWitness) → IsType m.type → IsWitnessList cx IsValue m ws → (w : MWitness) → Contains ws w → (v : MValue) → InMatchDomain IsValue m v → v ≢ Unseen
+  pub seen_all : (m : MDeMatch T) (ws : List MWitness) → IsType m.type → IsWitnessList cx IsValue m ws →
+      (w : MWitness) → Contains ws w → (v : MValue) → InMatchDomain IsValue m v → v ≢ Unseen
   seen_all m ws d (nothing_to_match f) w (k, l, e) v a = absurd (omega (arith, l))
-  seen_all m ws d (by_rows x us k n y) w c v a = no_bare (cx.set_of m.type) m.sure x v (values.each m.type m.sure x d k) n (values.each m.type m.sure v d a)
+  seen_all m ws d (by_rows x us k n y) w c v a =
+      no_bare (cx.set_of m.type) m.sure x v (values.each m.type m.sure x d k) n (values.each m.type m.sure v d a)
 
-  ascending_is : (m : MDeMatch T) (ws : List MWitness) → IsType m.type → AreArmsTyped cx m.type m.arms → AreArmsMade m.arms → IsWitnessList cx IsValue m ws → (i j : ℕ) (w u : MWitness) →
+  ascending_is : (m : MDeMatch T) (ws : List MWitness) → IsType m.type → AreArmsTyped cx m.type m.arms →
+      AreArmsMade m.arms → IsWitnessList cx IsValue m ws → (i j : ℕ) (w u : MWitness) →
       slice_get ws i ≡ Some w → slice_get ws j ≡ Some u → i < j → compare_witness w u ≡ Before
   ascending_is m ws d h y (nothing_to_match f) i j w u a b l = cc
   ascending_is m ws d h y (by_rows x us k n r) i j w u a b l =
@@ -82,7 +89,9 @@ module _ {T : Type 0} (IsType : T → Type 0) (IsValue : T → Bool → MValue �
   pub empties_of : EmptyIsExhaustive IsType IsValue cx
   empties_of m ws k = empty_exactly (InMatchDomain IsValue m) (match_arms m) ws (covers_of m ws k)
 
-  each_of : (m : MDeMatch T) (us : List MWitness) → AreAllOf cx (record { type = m.type; sure = m.sure } ∷ []) (map (λ z. z ∷ []) us) → (w : MWitness) → Contains us w → IsTrue (witness_is_of cx m.type w)
+  each_of : (m : MDeMatch T) (us : List MWitness) →
+      AreAllOf cx (record { type = m.type; sure = m.sure } ∷ []) (map (λ z. z ∷ []) us) → (w : MWitness) →
+      Contains us w → IsTrue (witness_is_of cx m.type w)
   each_of m [] h w (k, l, e) = absurd (omega (arith, l))
   each_of m (u ∷ us) h w (zero, l, e) = subst (λ x. witness_is_of cx m.type x ≡ true) e h.0.0
   each_of m (u ∷ us) h w (suc k, l, e) = each_of m us h.1 w (k, omega (arith, l), e)
@@ -90,7 +99,8 @@ module _ {T : Type 0} (IsType : T → Type 0) (IsValue : T → Bool → MValue �
   pub types_of : WitnessesAreOfType IsType IsValue cx
   types_of m ws k = go ws k.listed
     where
-      go : (ws : List MWitness) → IsWitnessList cx IsValue m ws → (w : MWitness) → Contains ws w → IsTrue (witness_is_of cx m.type w)
+      go : (ws : List MWitness) → IsWitnessList cx IsValue m ws → (w : MWitness) → Contains ws w →
+          IsTrue (witness_is_of cx m.type w)
       go ws (nothing_to_match f) w (n, l, e) = absurd (omega (arith, l))
       go ws (by_rows x us a n r) w c =
           each_of m us

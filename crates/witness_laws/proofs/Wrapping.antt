@@ -16,12 +16,15 @@ and-assoc true b c = refl
 and-assoc false b c = refl
 
 -- witnesses in two parts
-pub split_fits : (n : ℕ) (ws : List MWitness) (xs vs : List MValue) → length xs ≡ n → (all_fit (witnesses_of (take n ws)) xs && all_fit (witnesses_of (drop n ws)) vs) ≡ all_fit (witnesses_of ws) (xs ++ vs)
+pub split_fits : (n : ℕ) (ws : List MWitness) (xs vs : List MValue) → length xs ≡ n →
+    (all_fit (witnesses_of (take n ws)) xs && all_fit (witnesses_of (drop n ws)) vs) ≡ all_fit (witnesses_of ws) (xs ++ vs)
 split_fits zero ws [] vs e = refl
 split_fits zero ws (x ∷ xs) vs e = absurd (omega (arith, e))
 split_fits (suc n) ws [] vs e = absurd (omega (arith, e))
 split_fits (suc n) [] (x ∷ xs) vs e = refl
-split_fits (suc n) (w ∷ ws) (x ∷ xs) vs e = and-assoc (fits w x) (all_fit (witnesses_of (take n ws)) xs) (all_fit (witnesses_of (drop n ws)) vs) ∙ ap (λ b. fits w x && b) (split_fits n ws xs vs (omega (arith, e)))
+split_fits (suc n) (w ∷ ws) (x ∷ xs) vs e =
+    and-assoc (fits w x) (all_fit (witnesses_of (take n ws)) xs) (all_fit (witnesses_of (drop n ws)) vs)
+    ∙ ap (λ b. fits w x && b) (split_fits n ws xs vs (omega (arith, e)))
 
 pub as_list : (ws : List MWitness) → witnesses_list (witnesses_of ws) ≡ ws
 as_list [] = refl
@@ -37,7 +40,8 @@ no_items [] e = refl
 no_items (x ∷ xs) e = absurd (omega (arith, e))
 
 -- a constructor without parts
-leaf : (b : Bool) (n : ℕ) (ws : List MWitness) (xs vs : List MValue) → n ≡ 0 → (b ≡ true → length xs ≡ n) → (b && all_fit (witnesses_of (drop n ws)) vs) ≡ (b && all_fit (witnesses_of ws) (xs ++ vs))
+leaf : (b : Bool) (n : ℕ) (ws : List MWitness) (xs vs : List MValue) → n ≡ 0 → (b ≡ true → length xs ≡ n) →
+    (b && all_fit (witnesses_of (drop n ws)) vs) ≡ (b && all_fit (witnesses_of ws) (xs ++ vs))
 leaf b n ws xs vs e f =
     under b (all_fit (witnesses_of (drop n ws)) vs) (all_fit (witnesses_of ws) (xs ++ vs))
     (λ h. ap (λ k. all_fit (witnesses_of (drop k ws)) vs) e ∙ ap (λ ys. all_fit (witnesses_of ws) (ys ++ vs)) (sym (no_items xs (f h ∙ e))))
@@ -46,7 +50,8 @@ leaf b n ws xs vs e f =
 node : (b a : Bool) (n : ℕ) (ws : List MWitness) (xs vs : List MValue) → a ≡ b → (b ≡ true → length xs ≡ n) →
     ((a && all_fit (witnesses_of (take n ws)) xs) && all_fit (witnesses_of (drop n ws)) vs) ≡ (b && all_fit (witnesses_of ws) (xs ++ vs))
 node b a n ws xs vs e f =
-    and-assoc a (all_fit (witnesses_of (take n ws)) xs) (all_fit (witnesses_of (drop n ws)) vs) ∙ ap (λ c. c && (all_fit (witnesses_of (take n ws)) xs && all_fit (witnesses_of (drop n ws)) vs)) e
+    and-assoc a (all_fit (witnesses_of (take n ws)) xs) (all_fit (witnesses_of (drop n ws)) vs)
+    ∙ ap (λ c. c && (all_fit (witnesses_of (take n ws)) xs && all_fit (witnesses_of (drop n ws)) vs)) e
     ∙ under b (all_fit (witnesses_of (take n ws)) xs && all_fit (witnesses_of (drop n ws)) vs) (all_fit (witnesses_of ws) (xs ++ vs)) (λ h. split_fits n ws xs vs (f h))
 
 eq-flip : (a b : ℕ) → nat_eq a b ≡ nat_eq b a
@@ -65,12 +70,14 @@ row_fixed k m n ws items vs e a =
     let back = all_fit no_witnesses (drop (length items - 0) items) in
     let same : k + 0 ≡ m = omega (arith, e, a) in
     let none : back ≡ true = ap (all_fit no_witnesses) (drop_all (length items - 0) items (omega arith)) in
-    and-assoc (nat_eq (k + 0) (length items)) (front && back) b ∙ ap (λ i. nat_eq i (length items) && ((front && back) && b)) same
+    and-assoc (nat_eq (k + 0) (length items)) (front && back) b
+    ∙ ap (λ i. nat_eq i (length items) && ((front && back) && b)) same
     ∙ under (nat_eq m (length items)) ((front && back) && b) (all_fit (witnesses_of ws) (items ++ vs))
     (λ h. let l : m ≡ length items = nat_equal m (length items) h in
     let kl : k ≡ length items = omega (arith, l, e, a) in
     let nl : length items ≡ n = omega (arith, l, a) in
-    ap (λ x. (front && x) && b) none ∙ ap (λ x. x && b) (and_true front) ∙ ap (λ xs. all_fit (witnesses_of (take n ws)) xs && b) (ap (λ i. take i items) kl ∙ take-length items)
+    ap (λ x. (front && x) && b) none ∙ ap (λ x. x && b) (and_true front)
+    ∙ ap (λ xs. all_fit (witnesses_of (take n ws)) xs && b) (ap (λ i. take i items) kl ∙ take-length items)
     ∙ split_fits n ws items vs nl)
   where
     and_true : (x : Bool) → (x && true) ≡ x
@@ -78,28 +85,36 @@ row_fixed k m n ws items vs e a =
     and_true false = refl
 
 -- a row from a length on
-row_longer : (k j g c n : ℕ) (ws : List MWitness) (items vs : List MValue) → k ≡ g → j ≡ c → (nat_le (g + c) (length items) ≡ true → length (take g items ++ drop (length items - c) items) ≡ n) →
+row_longer : (k j g c n : ℕ) (ws : List MWitness) (items vs : List MValue) → k ≡ g → j ≡ c →
+    (nat_le (g + c) (length items) ≡ true → length (take g items ++ drop (length items - c) items) ≡ n) →
     ((nat_le (k + j) (length items) && (all_fit (witnesses_of (take g (take n ws))) (take k items) && all_fit (witnesses_of (drop g (take n ws))) (drop (length items - j) items))) && all_fit (witnesses_of (drop n ws)) vs)
     ≡ (nat_le (g + c) (length items) && all_fit (witnesses_of ws) ((take g items ++ drop (length items - c) items) ++ vs))
 row_longer k j g c n ws items vs e d f =
     let b = all_fit (witnesses_of (drop n ws)) vs in
     let front = λ (i : ℕ). all_fit (witnesses_of (take g (take n ws))) (take i items) in
     let back = λ (i : ℕ). all_fit (witnesses_of (drop g (take n ws))) (drop (length items - i) items) in
-    and-assoc (nat_le (k + j) (length items)) (front k && back j) b ∙ ap (λ i. nat_le (i + j) (length items) && ((front i && back j) && b)) e ∙ ap (λ i. nat_le (g + i) (length items) && ((front g && back i) && b)) d
+    and-assoc (nat_le (k + j) (length items)) (front k && back j) b
+    ∙ ap (λ i. nat_le (i + j) (length items) && ((front i && back j) && b)) e
+    ∙ ap (λ i. nat_le (g + i) (length items) && ((front g && back i) && b)) d
     ∙ under (nat_le (g + c) (length items)) ((front g && back c) && b) (all_fit (witnesses_of ws) ((take g items ++ drop (length items - c) items) ++ vs))
     (λ h. ap (λ x. x && b) (split_fits g (take n ws) (take g items) (drop (length items - c) items) (length-take-le g items (omega (arith, at_least (g + c) (length items) h))))
     ∙ split_fits n ws (take g items ++ drop (length items - c) items) vs (f h))
 
 -- a stack wrapped in a piece fits where the piece builds the value and the stack fits its parts
-pub wrapped_fits : (piece : MCtor) (named : List (List ℕ)) (n : ℕ) (ws : List MWitness) (v : MValue) (vs : List MValue) → (is_wild_ctor piece || is_or_ctor piece) ≡ false → ArityIs piece n → n ≤ length ws → (builds named piece v ≡ true → length (parts_under piece v) ≡ n) →
+pub wrapped_fits : (piece : MCtor) (named : List (List ℕ)) (n : ℕ) (ws : List MWitness) (v : MValue) (vs : List MValue) →
+    (is_wild_ctor piece || is_or_ctor piece) ≡ false → ArityIs piece n → n ≤ length ws →
+    (builds named piece v ≡ true → length (parts_under piece v) ≡ n) →
     all_fit (witnesses_of (wrapped piece named n ws)) (v ∷ vs) ≡ (builds named piece v && all_fit (witnesses_of ws) (parts_under piece v ++ vs))
-wrapped_fits SingleCtor named n ws (Node k parts) vs x a l f = node (nat_eq k 0) (nat_eq 0 k) n ws (values_list parts) vs (eq-flip 0 k) f
+wrapped_fits SingleCtor named n ws (Node k parts) vs x a l f =
+    node (nat_eq k 0) (nat_eq 0 k) n ws (values_list parts) vs (eq-flip 0 k) f
 wrapped_fits SingleCtor named n ws _ vs x a l f = refl
-wrapped_fits (VariantCtor j) named n ws (Node k parts) vs x a l f = node (nat_eq k j) (nat_eq j k) n ws (values_list parts) vs (eq-flip j k) f
+wrapped_fits (VariantCtor j) named n ws (Node k parts) vs x a l f =
+    node (nat_eq k j) (nat_eq j k) n ws (values_list parts) vs (eq-flip j k) f
 wrapped_fits (VariantCtor j) named n ws _ vs x a l f = refl
 wrapped_fits PointCtor named n ws (Point m u) vs x a l f = go n ws a l
   where
-    go : (n : ℕ) (ws : List MWitness) → n ≡ 1 → n ≤ length ws → (fits (first_witness (take n ws)) u && all_fit (witnesses_of (drop n ws)) vs) ≡ all_fit (witnesses_of ws) (u ∷ vs)
+    go : (n : ℕ) (ws : List MWitness) → n ≡ 1 → n ≤ length ws →
+        (fits (first_witness (take n ws)) u && all_fit (witnesses_of (drop n ws)) vs) ≡ all_fit (witnesses_of ws) (u ∷ vs)
     go zero ws a l = absurd (omega (arith, a))
     go (suc n) [] a l = absurd (omega (arith, l))
     go (suc n) (w ∷ ws) a l = let z : n ≡ 0 = omega (arith, a) in ap (λ k. fits w u && all_fit (witnesses_of (drop k ws)) vs) z
