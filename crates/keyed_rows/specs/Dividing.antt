@@ -26,7 +26,8 @@ IsHeadNumbered decides n (Some p) = IsNumbered decides n p
 -- the heads' or-patterns have ascending numbers from `low` on, and below `high`
 abbrev pub HeadsWithin : {T : Type 0} → (decides : ℕ → Decision) → (low high : ℕ) → List (Head T) → Type 0
 HeadsWithin decides low high [] = low ≤ high
-HeadsWithin decides low high (h ∷ hs) = (n : ℕ) × (low ≤ n) × IsHeadNumbered decides n h × HeadsWithin decides (head_count h + n) high hs
+HeadsWithin decides low high (h ∷ hs) = (n : ℕ) × (low ≤ n) × IsHeadNumbered decides n h
+    × HeadsWithin decides (head_count h + n) high hs
 
 -- the key decides none of these
 abbrev pub IsOpen : Key → (low high : ℕ) → Type 0
@@ -35,7 +36,8 @@ IsOpen k low high = (o : ℕ) → low ≤ o → o < high → k o ≡ None
 -- the heads' or-patterns have ascending numbers from `low` on, and none of them is decided
 abbrev pub AreFree : {T : Type 0} → (decides : ℕ → Decision) → Key → (low : ℕ) → List (Head T) → Type 0
 AreFree decides k low [] = ⊤
-AreFree decides k low (h ∷ hs) = (n : ℕ) × (low ≤ n) × IsHeadNumbered decides n h × IsOpen k n (head_count h + n) × AreFree decides k (head_count h + n) hs
+AreFree decides k low (h ∷ hs) = (n : ℕ) × (low ≤ n) × IsHeadNumbered decides n h × IsOpen k n (head_count h + n)
+    × AreFree decides k (head_count h + n) hs
 
 -- the head's or-patterns have numbers above `d`
 abbrev pub IsAbove : {T : Type 0} → (decides : ℕ → Decision) → ℕ → Head T → Type 0
@@ -60,13 +62,16 @@ pub record AreReplacements {T : Type 0} (decides : ℕ → Decision) (y z : Repl
   pub second_above : Every (IsAbove decides before.at) z.heads
 
 -- what a step does with a head
-pub record IsDivided {T : Type 0} (decides : ℕ → Decision) (low high width : ℕ) (ys : List (Replacement T)) : Type 0 where
+pub record IsDivided {T : Type 0} (decides : ℕ → Decision) (low high width : ℕ)
+    (ys : List (Replacement T)) : Type 0 where
   pub each : Every (IsReplacement decides low high width) ys
   pub parted : Ordered (AreReplacements decides) ys
 
 -- the step does so with each good head
-abbrev pub Divides : {T : Type 0} → (decides : ℕ → Decision) → (Good : Head T → Type 0) → (width : ℕ) → (Head T → List (Replacement T)) → Type 0
-Divides {T} decides Good width f = (h : Head T) (n : ℕ) → Good h → IsHeadNumbered decides n h → IsDivided decides n (head_count h + n) width (f h)
+abbrev pub Divides : {T : Type 0} → (decides : ℕ → Decision) → (Good : Head T → Type 0) → (width : ℕ) →
+    (Head T → List (Replacement T)) → Type 0
+Divides {T} decides Good width f = (h : Head T) (n : ℕ) → Good h → IsHeadNumbered decides n h →
+    IsDivided decides n (head_count h + n) width (f h)
 
 -- the head of column `i` is good
 abbrev pub GoodAt : {T : Type 0} → (Head T → Type 0) → ℕ → List (Head T) → Type 0
@@ -77,4 +82,5 @@ GoodAt Good (suc i) (h ∷ hs) = GoodAt Good i hs
 -- a head that has the piece has as many parts
 abbrev pub HasCount : {T : Type 0} → (piece : MCtor) → ℕ → Head T → Type 0
 HasCount piece m None = ⊤
-HasCount {T} piece m (Some (de_pat c t uid at subs binds)) = has_piece c piece ≡ true → length (heads_of c (map {A = MDePat T} {B = Head T} Some (de_pats_list subs)) m) ≡ m
+HasCount {T} piece m (Some (de_pat c t uid at subs binds)) = has_piece c piece ≡ true →
+    length (heads_of c (map {A = MDePat T} {B = Head T} Some (de_pats_list subs)) m) ≡ m

@@ -13,13 +13,16 @@ abbrev pub AreAlike : {T : Type 0} → (decides : ℕ → Decision) → ℕ → 
 AreAlike decides d [] [] = ⊤
 AreAlike decides d [] (h ∷ hs) = ⊥
 AreAlike decides d (h ∷ hs) [] = ⊥
-AreAlike decides d (h ∷ hs) (g ∷ gs) = ((h ≡ g) ⊎ (IsAbove decides d h × IsAbove decides d g)) × AreAlike decides d hs gs
+AreAlike decides d (h ∷ hs) (g ∷ gs) = ((h ≡ g) ⊎ (IsAbove decides d h × IsAbove decides d g))
+    × AreAlike decides d hs gs
 
 -- the first or-pattern that two rows of an arm decided differently; what comes before it is the same in both
-pub record IsParted {T : Type 0} (decides : ℕ → Decision) (k : Key) (hs : List (Head T)) (l : Key) (gs : List (Head T)) : Type 0 where
+pub record IsParted {T : Type 0} (decides : ℕ → Decision) (k : Key) (hs : List (Head T)) (l : Key)
+    (gs : List (Head T)) : Type 0 where
   pub before : IsBefore k l
   pub alike : AreAlike decides before.at hs gs
 
 -- the same, and what comes before that or-pattern is alike in both
 abbrev pub RowParted : {T : Type 0} → (decides : ℕ → Decision) → MRow T → MRow T → Type 0
-RowParted decides r s = (r.arm < s.arm) ⊎ ((r.arm ≡ s.arm) × IsParted decides (row_key decides r) r.heads (row_key decides s) s.heads)
+RowParted decides r s = (r.arm < s.arm) ⊎ ((r.arm ≡ s.arm)
+    × IsParted decides (row_key decides r) r.heads (row_key decides s) s.heads)

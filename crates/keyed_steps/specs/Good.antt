@@ -33,7 +33,8 @@ IsPlainHead None = ⊤
 IsPlainHead (Some (de_pat c t uid at subs binds)) = IsPlain c
 
 -- a row: well typed, with names that differ, or-patterns with numbers that are not decided, and constructors that are made
-pub record IsGoodRow {T : Type 0} (cx : Context T) (decides : ℕ → Decision) (columns : List (MColumn T)) (r : MRow T) : Type 0 where
+pub record IsGoodRow {T : Type 0} (cx : Context T) (decides : ℕ → Decision) (columns : List (MColumn T))
+    (r : MRow T) : Type 0 where
   pub typed : AreHeadsTyped cx columns r.heads
   pub names : heads_names_differ (map (λ b. b.name) r.caught) r.heads ≡ true
   pub free : AreFree decides (row_key decides r) 0 r.heads
@@ -44,11 +45,13 @@ pub record IsGoodColumn {T : Type 0} (IsType : T → Type 0) (c : MColumn T) : T
   pub type : IsType c.type
   pub straight : IsStraight c.place
 
-pub record IsGood {T : Type 0} (IsType : T → Type 0) (cx : Context T) (decides : ℕ → Decision) (columns : List (MColumn T)) (rows : List (MRow T)) : Type 0 where
+pub record IsGood {T : Type 0} (IsType : T → Type 0) (cx : Context T) (decides : ℕ → Decision)
+    (columns : List (MColumn T)) (rows : List (MRow T)) : Type 0 where
   pub columns_are : Every (IsGoodColumn IsType) columns
   pub rows_are : Every (IsGoodRow cx decides columns) rows
 
 -- the same, and no or-pattern in column `i`
-pub record IsReady {T : Type 0} (IsType : T → Type 0) (cx : Context T) (decides : ℕ → Decision) (i : ℕ) (columns : List (MColumn T)) (rows : List (MRow T)) : Type 0 where
+pub record IsReady {T : Type 0} (IsType : T → Type 0) (cx : Context T) (decides : ℕ → Decision) (i : ℕ)
+    (columns : List (MColumn T)) (rows : List (MRow T)) : Type 0 where
   pub good : IsGood IsType cx decides columns rows
   pub plain : Every (λ r. GoodAt IsPlainHead i r.heads) rows

@@ -29,11 +29,13 @@ keyed_try decides v r w = record {
 }
 
 -- what there is to try of a row
-abbrev pub row_keyed_tries : {T : Type 0} → (decides : ℕ → Decision) → List (MColumn T) → MValue → MRow T → List KeyedTry
+abbrev pub row_keyed_tries : {T : Type 0} → (decides : ℕ → Decision) → List (MColumn T) → MValue → MRow T →
+    List KeyedTry
 row_keyed_tries decides columns v r = map (keyed_try decides v r) (heads_ways columns r.heads v)
 
 -- what there is to try of rows
-abbrev pub keyed_tries : {T : Type 0} → (decides : ℕ → Decision) → List (MColumn T) → MValue → List (MRow T) → List KeyedTry
+abbrev pub keyed_tries : {T : Type 0} → (decides : ℕ → Decision) → List (MColumn T) → MValue → List (MRow T) →
+    List KeyedTry
 keyed_tries decides columns v rows = flat_map (row_keyed_tries decides columns v) rows
 
 -- the one is tried first: its arm is, or in one arm what it decided
@@ -41,12 +43,14 @@ abbrev pub TryFirst : KeyedTry → KeyedTry → Type 0
 TryFirst t u = (t.arm < u.arm) ⊎ ((t.arm ≡ u.arm) × IsBefore t.key u.key)
 
 -- the keyed ways of a matrix on a value, in the order in which they are tried
-pub record AreKeyedWays {T : Type 0} (decides : ℕ → Decision) (m : MMatrix T) (v : MValue) (tries : List KeyedTry) : Type 0 where
+pub record AreKeyedWays {T : Type 0} (decides : ℕ → Decision) (m : MMatrix T) (v : MValue)
+    (tries : List KeyedTry) : Type 0 where
   pub ordered : Ordered TryFirst tries
   pub same : SameMembers (keyed_tries decides m.columns v m.rows) tries
 
 -- a way without a guard is taken; a guard takes the next answer
-abbrev pub select_keyed_one : KeyedTry → (guarded : Bool) → (answers : List Bool) → (others : List Bool → Selected) → Selected
+abbrev pub select_keyed_one : KeyedTry → (guarded : Bool) → (answers : List Bool) → (others : List Bool → Selected) →
+    Selected
 select_keyed_one t false answers others = record { asked = []; outcome = Took t.arm t.bindings }
 select_keyed_one t true [] others = record { asked = []; outcome = Short }
 select_keyed_one t true (true ∷ answers) others =

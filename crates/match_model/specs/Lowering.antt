@@ -31,9 +31,12 @@ mutual
   pub data Lowers {T : Type 0} (cx : Context T) (IsValue : T → Bool → MValue → Type 0) (decides : ℕ → Decision)
       (Chooses : List (MColumn T) → List (MRow T) → ℕ → Type 0) (BareOnly : Type 0) :
       List (MColumn T) → List (MRow T) → MTree → Type 0 where
-    no_value_left : (columns : List (MColumn T)) → BareOnly → Lowers cx IsValue decides Chooses BareOnly columns [] VoidTree
-    no_row_left : (columns : List (MColumn T)) → ¬ BareOnly → Lowers cx IsValue decides Chooses BareOnly columns [] MissTree
-    takes : (columns : List (MColumn T)) (r : MRow T) (rows : List (MRow T)) → IsTrue (all_wild r) → r.guarded ≡ false →
+    no_value_left : (columns : List (MColumn T)) → BareOnly →
+        Lowers cx IsValue decides Chooses BareOnly columns [] VoidTree
+    no_row_left : (columns : List (MColumn T)) → ¬ BareOnly →
+        Lowers cx IsValue decides Chooses BareOnly columns [] MissTree
+    takes : (columns : List (MColumn T)) (r : MRow T) (rows : List (MRow T)) → IsTrue (all_wild r) →
+        r.guarded ≡ false →
         Lowers cx IsValue decides Chooses BareOnly columns (r ∷ rows) (TakeTree r.arm (row_binds columns r))
     asks : (columns : List (MColumn T)) (r : MRow T) (rows : List (MRow T)) (refused : MTree) →
         IsTrue (all_wild r) → r.guarded ≡ true →
@@ -45,14 +48,16 @@ mutual
         AreInOrder decides (rows_at default_head c.place i expanded) next →
         Lowers cx IsValue decides Chooses BareOnly (replaced_at i columns []) next tree →
         Lowers cx IsValue decides Chooses BareOnly columns rows tree
-    opens : (i : ℕ) (c : MColumn T) (columns : List (MColumn T)) (rows expanded next : List (MRow T)) (piece : MCtor) (tree : MTree) →
+    opens : (i : ℕ) (c : MColumn T) (columns : List (MColumn T)) (rows expanded next : List (MRow T)) (piece : MCtor)
+        (tree : MTree) →
         Chooses columns rows i → slice_get columns i ≡ Some c →
         AreInOrder decides (rows_at expand_head c.place i rows) expanded → all_wild_at i expanded ≡ false →
         IsTrue (is_switchless (cx.set_of c.type)) → ArePieces (cx.set_of c.type) (ctors_at i expanded) (piece ∷ []) →
         AreInOrder decides (rows_at (specialise_head piece (cx.arity piece c.type)) c.place i expanded) next →
         Lowers cx IsValue decides Chooses BareOnly (replaced_at i columns (part_columns cx c piece)) next tree →
         Lowers cx IsValue decides Chooses BareOnly columns rows tree
-    switches : (i : ℕ) (c : MColumn T) (columns : List (MColumn T)) (rows expanded : List (MRow T)) (pieces : List MCtor) (branches : MBranches) →
+    switches : (i : ℕ) (c : MColumn T) (columns : List (MColumn T)) (rows expanded : List (MRow T))
+        (pieces : List MCtor) (branches : MBranches) →
         Chooses columns rows i → slice_get columns i ≡ Some c →
         AreInOrder decides (rows_at expand_head c.place i rows) expanded → all_wild_at i expanded ≡ false →
         is_switchless (cx.set_of c.type) ≡ false → ArePieces (cx.set_of c.type) (ctors_at i expanded) pieces →
@@ -65,20 +70,25 @@ mutual
       (Chooses : List (MColumn T) → List (MRow T) → ℕ → Type 0) (BareOnly : Type 0) :
       ℕ → MColumn T → List (MColumn T) → List (MRow T) → (all pieces : List MCtor) → MBranches → Type 0 where
     no_else : (i : ℕ) (c : MColumn T) (columns : List (MColumn T)) (rows : List (MRow T)) (all : List MCtor) →
-        ((piece : MCtor) → IsMissing all (ctors_at i rows) piece → ¬ HasValue IsValue (open_of c) (named_in all) piece) →
+        ((piece : MCtor) → IsMissing all (ctors_at i rows) piece → ¬ HasValue IsValue (open_of c)
+        (named_in all) piece) →
         Branches cx IsValue decides Chooses BareOnly i c columns rows all [] no_branch
-    with_else : (i : ℕ) (c : MColumn T) (columns : List (MColumn T)) (rows next : List (MRow T)) (all : List MCtor) (piece : MCtor) (tree : MTree) →
+    with_else : (i : ℕ) (c : MColumn T) (columns : List (MColumn T)) (rows next : List (MRow T)) (all : List MCtor)
+        (piece : MCtor) (tree : MTree) →
         IsMissing all (ctors_at i rows) piece → HasValue IsValue (open_of c) (named_in all) piece →
         AreInOrder decides (rows_at default_head c.place i rows) next →
         Lowers cx IsValue decides Chooses BareOnly (replaced_at i columns []) next tree →
         Branches cx IsValue decides Chooses BareOnly i c columns rows all [] (more_branches ElseCase tree no_branch)
-    no_case : (i : ℕ) (c : MColumn T) (columns : List (MColumn T)) (rows : List (MRow T)) (all : List MCtor) (piece : MCtor) (pieces : List MCtor) (branches : MBranches) →
+    no_case : (i : ℕ) (c : MColumn T) (columns : List (MColumn T)) (rows : List (MRow T)) (all : List MCtor)
+        (piece : MCtor) (pieces : List MCtor) (branches : MBranches) →
         is_present (ctors_at i rows) piece ≡ false ⊎ ¬ HasValue IsValue (open_of c) (named_in all) piece →
         Branches cx IsValue decides Chooses BareOnly i c columns rows all pieces branches →
         Branches cx IsValue decides Chooses BareOnly i c columns rows all (piece ∷ pieces) branches
-    one_case : (i : ℕ) (c : MColumn T) (columns : List (MColumn T)) (rows next : List (MRow T)) (all : List MCtor) (piece : MCtor) (pieces : List MCtor) (tree : MTree) (branches : MBranches) →
+    one_case : (i : ℕ) (c : MColumn T) (columns : List (MColumn T)) (rows next : List (MRow T)) (all : List MCtor)
+        (piece : MCtor) (pieces : List MCtor) (tree : MTree) (branches : MBranches) →
         IsTrue (is_present (ctors_at i rows) piece) → HasValue IsValue (open_of c) (named_in all) piece →
         AreInOrder decides (rows_at (specialise_head piece (cx.arity piece c.type)) c.place i rows) next →
         Lowers cx IsValue decides Chooses BareOnly (replaced_at i columns (part_columns cx c piece)) next tree →
         Branches cx IsValue decides Chooses BareOnly i c columns rows all pieces branches →
-        Branches cx IsValue decides Chooses BareOnly i c columns rows all (piece ∷ pieces) (more_branches (case_of piece) tree branches)
+        Branches cx IsValue decides Chooses BareOnly i c columns rows all (piece ∷ pieces)
+        (more_branches (case_of piece) tree branches)

@@ -29,7 +29,8 @@ IsMatchTree cx IsValue m nodes = AreNodesOf cx IsValue (IsFewest cx IsValue) m n
 
 -- for each value of the domain the nodes mean what is selected, and are defined on it; no place is looked at twice, no node
 -- and no case is dead, each node goes on at greater numbers, and no two nodes are equal
-pub record AreGoodNodes (Domain : MValue → Type 0) (select : MValue → List Bool → Selected) (nodes : List MNode) : Type 0 where
+pub record AreGoodNodes (Domain : MValue → Type 0) (select : MValue → List Bool → Selected)
+    (nodes : List MNode) : Type 0 where
   pub means : (v : MValue) → Domain v → (answers : List Bool) → Means nodes v answers (select v answers)
   pub defined : (v : MValue) → Domain v → IsDefinedOn nodes v
   pub once : IsOnce Domain nodes

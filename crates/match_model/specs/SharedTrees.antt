@@ -26,7 +26,8 @@ mutual
         Walks done (TakeTree arm binds) (TakeTree arm binds ∷ done)
     to_miss : (done : List MTree) → ¬ Among MissTree done → Walks done MissTree (MissTree ∷ done)
     to_void : (done : List MTree) → ¬ Among VoidTree done → Walks done VoidTree (VoidTree ∷ done)
-    to_ask : (done then : List MTree) (arm : ℕ) (binds : List MBind) (t : MTree) → ¬ Among (AskTree arm binds t) done →
+    to_ask : (done then : List MTree) (arm : ℕ) (binds : List MBind) (t : MTree) →
+        ¬ Among (AskTree arm binds t) done →
         Walks done t then → Walks done (AskTree arm binds t) (AskTree arm binds t ∷ then)
     to_switch : (done then : List MTree) (place : List MStep) (branches : MBranches) →
         ¬ Among (SwitchTree place branches) done →
@@ -45,7 +46,8 @@ IsBranchOf trees a b = (b.case ≡ a.case) × (slice_get trees b.next ≡ Some a
 -- the node stands for the tree, where trees have these numbers
 pub data IsNodeOf (trees : List MTree) : MTree → MNode → Type 0 where
   switch_of : (place : List MStep) (branches : MBranches) (bs : List MBranch) →
-      Each (IsBranchOf trees) (case_trees branches) bs → IsNodeOf trees (SwitchTree place branches) (SwitchNode place bs)
+      Each (IsBranchOf trees) (case_trees branches) bs → IsNodeOf trees (SwitchTree place branches)
+      (SwitchNode place bs)
   ask_of : (arm : ℕ) (binds : List MBind) (t : MTree) (n : ℕ) →
       slice_get trees n ≡ Some t → IsNodeOf trees (AskTree arm binds t) (AskNode arm binds n)
   take_of : (arm : ℕ) (binds : List MBind) → IsNodeOf trees (TakeTree arm binds) (TakeNode arm binds)

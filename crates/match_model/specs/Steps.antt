@@ -47,7 +47,8 @@ abbrev pub with_head : {T : Type 0} → Head T → Replacement T → Replacement
 with_head h y = record y { heads = h ∷ y.heads }
 
 -- what stands in place of all heads of a row when that of column `i` is replaced
-abbrev pub replacements_at : {T : Type 0} → (Head T → List (Replacement T)) → (i : ℕ) → List (Head T) → List (Replacement T)
+abbrev pub replacements_at : {T : Type 0} → (Head T → List (Replacement T)) → (i : ℕ) → List (Head T) →
+    List (Replacement T)
 replacements_at f i [] = []
 replacements_at f zero (h ∷ hs) = map (with_others hs) (f h)
 replacements_at f (suc i) (h ∷ hs) = map (with_head h) (replacements_at f i hs)
@@ -63,5 +64,6 @@ abbrev pub row_replaced : {T : Type 0} → List MStep → MRow T → Replacement
 row_replaced place r y = row_with r y.heads y.chosen (map (bind_at place) y.binds)
 
 -- the rows when the heads of column `i`, which has this place, are replaced
-abbrev pub rows_at : {T : Type 0} → (Head T → List (Replacement T)) → List MStep → (i : ℕ) → List (MRow T) → List (MRow T)
+abbrev pub rows_at : {T : Type 0} → (Head T → List (Replacement T)) → List MStep → (i : ℕ) → List (MRow T) →
+    List (MRow T)
 rows_at f place i rows = flat_map (λ r. map (row_replaced place r) (replacements_at f i r.heads)) rows

@@ -4,8 +4,9 @@ use Rattle.std.specs.List.{Contains}
 use Rattle.match_model.specs.declared.Mode.TheVariants.{Move}
 use Rattle.match_model.specs.Types.{MType, BoolType}
 use Rattle.match_model.specs.Values.{MValue, Flag, Unseen}
-use Rattle.match_model.specs.Constructors.{MCtor, FlagCtor, SingleCtor, WildCtor, OrCtor}
+use Rattle.match_model.specs.Constructors.{MCtor, FlagCtor, SingleCtor, WildCtor, OrCtor, SingleSet, builds}
 use Rattle.match_model.specs.ArenaPatterns.{MDePat, de_pat, no_de_pats, de_pats_of, MDeMatch, WholePart}
+use Rattle.match_model.specs.Pieces.{ArePieces}
 use Rattle.match_model.specs.Places.{FieldStep}
 use Rattle.match_model.specs.Trees.{FlagCase, ElseCase, MBind, MNode, SwitchNode, AskNode, TakeNode}
 use Rattle.match_model.specs.Matrices.{MColumn, MRow, first_matrix}
@@ -42,16 +43,19 @@ opened rows = rows_at (specialise_head SingleCtor 2) [] 0 (rows_at expand_head [
 abbrev two_true : MValue
 two_true = tuple (Flag true ∷ Flag true ∷ [])
 
--- a pair is one branch
-count_one : (rows : List (MRow MType)) → all_wild_at 0 (rows_at expand_head [] 0 rows) ≡ false → IsTrue (is_present (ctors_at 0 (rows_at expand_head [] 0 rows)) SingleCtor) → Count 0 pair_column rows 1
-count_one rows some present = as_cases (SingleCtor ∷ []) 1 some refl (branch_of SingleCtor [] 0 present (two_true, refl, refl) (nothing_missing (λ p m h. there p m.0 m.1)))
+-- the place of a type with one constructor, where a head has it, has one branch
+pub count_one : (t : MType) (v : MValue) → (rust_context program).set_of t ≡ SingleSet → RustValue program t true v → builds [] SingleCtor v ≡ true → (rows : List (MRow MType)) →
+    all_wild_at 0 (rows_at expand_head [] 0 rows) ≡ false → IsTrue (is_present (ctors_at 0 (rows_at expand_head [] 0 rows)) SingleCtor) →
+    Count 0 (record { place = []; type = t; sure = true }) rows 1
+count_one t v set is built rows some present =
+    as_cases (SingleCtor ∷ []) 1 some (subst (λ x. ArePieces x (ctors_at 0 (rows_at expand_head [] 0 rows)) (SingleCtor ∷ [])) (sym set) refl)
+    (branch_of SingleCtor [] 0 present (v, is, built) (nothing_missing (λ p m h. there p m.0 m.1)))
   where
     there : (p : MCtor) → Contains (SingleCtor ∷ []) p → is_present (ctors_at 0 (rows_at expand_head [] 0 rows)) p ≡ false → ⊥
-    there p (zero, l, e) f = (let same : SingleCtor ≡ p = e in clash_at same f)
-      where
-        clash_at : SingleCtor ≡ p → is_present (ctors_at 0 (rows_at expand_head [] 0 rows)) p ≡ false → ⊥
-        clash_at e f = clash (is_present (ctors_at 0 (rows_at expand_head [] 0 rows)) SingleCtor) present (subst (λ q. is_present (ctors_at 0 (rows_at expand_head [] 0 rows)) q ≡ false) (sym e) f)
-    there p (suc n, l, e) f = omega (arith, l)
+    there p (zero, l, e) f =
+        let same : SingleCtor ≡ p = e in
+        clash (is_present (ctors_at 0 (rows_at expand_head [] 0 rows)) SingleCtor) present (subst (λ q. is_present (ctors_at 0 (rows_at expand_head [] 0 rows)) q ≡ false) (sym same) f)
+    there p (suc n, l, e) f = absurd (omega (arith, l))
 
 -- of two columns with two branches each the first is looked at; so it is where the first row asks it alone
 first_of_two : (rows : List (MRow MType)) → IsTrue (is_asked 0 rows) → Count 0 (part_column 0) rows 2 → Count 1 (part_column 1) rows 2 ⊎ (is_asked 1 rows ≡ false) → Fewest part_pair rows 0
@@ -126,7 +130,7 @@ second_lowers =
 
 guarded_lowers : Lowered (pair_column ∷ []) guarded_rows guarded_tree
 guarded_lowers =
-    opens 0 pair_column (pair_column ∷ []) guarded_rows (rows_at expand_head [] 0 guarded_rows) (opened guarded_rows) SingleCtor guarded_tree (alone pair_column guarded_rows 1 refl (count_one guarded_rows refl refl)) refl
+    opens 0 pair_column (pair_column ∷ []) guarded_rows (rows_at expand_head [] 0 guarded_rows) (opened guarded_rows) SingleCtor guarded_tree (alone pair_column guarded_rows 1 refl (count_one flag_pair two_true refl refl refl guarded_rows refl refl)) refl
     (as_they_are _ _ ((inr (refl, first_alternative), (inl (omega arith), tt)), ((inl (omega arith), tt), (tt, tt)))) refl refl refl
     (as_they_are _ _ ((inr (refl, first_alternative), (inl (omega arith), tt)), ((inl (omega arith), tt), (tt, tt))))
     (switches 0 (part_column 0) part_pair (opened guarded_rows) (rows_at expand_head (FieldStep 0 0 ∷ []) 0 (opened guarded_rows)) (FlagCtor false ∷ FlagCtor true ∷ []) _

@@ -3,3 +3,4 @@ mod ExamplesTree
 mod ExamplesShared
 mod ExamplesPrinted
 mod ExamplesPairs
+mod ExamplesFewest

@@ -14,17 +14,20 @@ use Rattle.match_model.specs.MatchTree.{AreNodesOf, IsMatchTree, AreGoodNodes}
 
 -- the nodes are good for the match: they do with each value of its domain what the match selects
 abbrev pub AreGoodFor : {T : Type 0} → (T → Bool → MValue → Type 0) → MDeMatch T → List MNode → Type 0
-AreGoodFor IsValue m nodes = AreGoodNodes (InMatchDomain IsValue m) (λ v answers. select (match_arms m) v answers) nodes
+AreGoodFor IsValue m nodes = AreGoodNodes (InMatchDomain IsValue m)
+    (λ v answers. select (match_arms m) v answers) nodes
 
 -- the places that a test chooses
-abbrev pub ChosenBy : {T : Type 0} → (List (MColumn T) → List (MRow T) → ℕ → Bool) → List (MColumn T) → List (MRow T) → ℕ → Type 0
+abbrev pub ChosenBy : {T : Type 0} → (List (MColumn T) → List (MRow T) → ℕ → Bool) → List (MColumn T) →
+    List (MRow T) → ℕ → Type 0
 ChosenBy chooses columns rows i = IsTrue (chooses columns rows i)
 
 -- the nodes of every tree of a well-typed match are good, whatever places are looked at next
 abbrev pub TreesAreGood : {T : Type 0} → (T → Type 0) → (T → Bool → MValue → Type 0) → Context T → Type 0
 TreesAreGood {T} IsType IsValue cx =
     (chooses : List (MColumn T) → List (MRow T) → ℕ → Bool) (m : MDeMatch T) (nodes : List MNode) →
-    IsWellTyped IsType cx m → AreArmsMade m.arms → AreNodesOf cx IsValue (ChosenBy chooses) m nodes → AreGoodFor IsValue m nodes
+    IsWellTyped IsType cx m → AreArmsMade m.arms → AreNodesOf cx IsValue (ChosenBy chooses) m nodes →
+    AreGoodFor IsValue m nodes
 
 -- the places and cases of every tree of a well-typed match are of its type
 abbrev pub TreesAreOfType : {T : Type 0} → (T → Type 0) → (T → Bool → MValue → Type 0) → Context T → Type 0
@@ -37,7 +40,8 @@ TreesAreOfType {T} IsType IsValue cx =
 abbrev pub MatchTreesAreOfType : {T : Type 0} → (T → Type 0) → (T → Bool → MValue → Type 0) → Context T → Type 0
 MatchTreesAreOfType {T} IsType IsValue cx =
     (m : MDeMatch T) (nodes : List MNode) →
-    IsWellTyped IsType cx m → AreArmsMade m.arms → IsMatchTree cx IsValue m nodes → IsTrue (tree_is_of cx m.type nodes)
+    IsWellTyped IsType cx m → AreArmsMade m.arms → IsMatchTree cx IsValue m nodes →
+    IsTrue (tree_is_of cx m.type nodes)
 
 -- the tree of a well-typed match that is printed is good
 abbrev pub MatchTreesAreGood : {T : Type 0} → (T → Type 0) → (T → Bool → MValue → Type 0) → Context T → Type 0
