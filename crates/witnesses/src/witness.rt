@@ -1,8 +1,10 @@
 // Witnesses.
-ghost use Rattle.std.specs.Prelude.{◌≡◌, map, take, drop, IfOk, chars};
-ghost use Rattle.match_model.specs.WitnessList.{first_witness, witness_of};
+ghost use Rattle.std.specs.Prelude.{◌≡◌, ◌∷◌, ◌+◌, ◌<◌, ◌≤◌, map, take, drop, replicate, length, IfOk};
+ghost use Rattle.match_model.specs.Witness.{AnyOf, NodeOf, witnesses_of};
+ghost use Rattle.slice_split.specs.Shapes.{plain_shape};
 ghost use Rattle.pat_context.specs.Views.{plain_ctor};
-ghost use Rattle.witnesses.specs.Views.{plain_witness, plain_strings, plain_names};
+ghost use Rattle.witnesses.specs.Views.{plain_witness, plain_strings, plain_names, tops};
+ghost use Rattle.witnesses.specs.Rooms.{row_room, room_for, parts_of_witness, filled};
 
 use no_memory::NoMemory;
 use pat_context::Ctor;
@@ -10,27 +12,34 @@ use range_split::Range;
 use slice_split::Shape;
 use std::alloc::Global;
 
-/// What a value may look like.
-#[derive(Drop)]
+/// What values that no arm takes may look like. It is as deep as the patterns of its match: 64 levels at most in a
+/// source file, so that copying and dropping one, which go down level by level, stay as shallow.
+#[derive(Debug, Drop)]
 pub enum Witness {
+    /// Any value.
     Any,
+    /// The one flag.
     Flag(bool),
+    /// The numbers of the range.
     Span(Range),
+    /// The one text.
     Text(String),
     /// Every text but these.
     Else(Vec<String>),
-    /// A tuple or struct, which has the variant 0, or a variant.
+    /// A tuple or struct, which has the variant 0, or a variant by its number from 0, with a witness for each part.
     Node {
         variant: u32,
         parts: Vec<Witness>,
     },
+    /// A reference, with a witness for what it points to.
     Point(Box<Witness>),
-    /// A row by its first and last items; with `longer` more may stand between.
+    /// A row by its first and last items. With `longer` any more may stand between them; without it `back` is empty.
     Row {
         front: Vec<Witness>,
         longer: bool,
         back: Vec<Witness>,
     },
+    /// A variant that is not declared yet.
     Later,
 }
 
@@ -58,7 +67,7 @@ fn own_texts(alloc: Global, texts: &[&str]) -> Result<Vec<String>, NoMemory>
     Ok(all)
 }
 
-/// The same witness again. The only error is want of memory.
+// The same witness again.
 #[cycle(copying)]
 pub(crate) fn copy_witness(alloc: Global, w: &Witness) -> Result<Witness, NoMemory>
     ensures { IfOk result (λ r. plain_witness r ≡ plain_witness w.now) }
@@ -97,12 +106,12 @@ pub(crate) fn copy_witness(alloc: Global, w: &Witness) -> Result<Witness, NoMemo
     }
 }
 
-/// The same witnesses again.
+// The same witnesses again.
 #[cycle(copying)]
 pub(crate) fn copy_all(alloc: Global, ws: &[Witness]) -> Result<Vec<Witness>, NoMemory>
     ensures { IfOk result (λ v. map plain_witness v.items ≡ map plain_witness ws.now) }
 {
-    let mut all = Vec::new(alloc);
+    let mut all = Vec::with_capacity(alloc, ws.len())?;
     for w in ws {
         let new = copy_witness(alloc, w)?;
         all.push(new)?;
@@ -110,59 +119,130 @@ pub(crate) fn copy_all(alloc: Global, ws: &[Witness]) -> Result<Vec<Witness>, No
     Ok(all)
 }
 
-// The first of the witnesses, or anything.
-fn first_of(mut parts: Vec<Witness>) -> Witness
-    ensures { plain_witness result ≡ first_witness (map plain_witness parts.items) }
+// So many witnesses that any value fits.
+#[tactic(auto, using(crate::proofs::Tops::more_anys))]
+pub(crate) fn anys(alloc: Global, count: usize) -> Result<Vec<Witness>, NoMemory>
+    ensures { IfOk result (λ v. map plain_witness v.items ≡ replicate count AnyOf) }
 {
-    if parts.is_empty() {
-        Witness::Any
-    } else {
-        parts.remove(0)
+    let mut all = Vec::with_capacity(alloc, count)?;
+    for _place in 0..count {
+        all.push(Witness::Any)?;
+    }
+    Ok(all)
+}
+
+// A node of the variant with so many parts that any value fits.
+fn node_room(alloc: Global, variant: u32, count: usize) -> Result<Witness, NoMemory>
+    ensures { IfOk result (λ w. plain_witness w ≡ NodeOf variant (witnesses_of (replicate count AnyOf))) }
+{
+    let parts = anys(alloc, count)?;
+    Ok(Witness::Node { variant, parts })
+}
+
+// A row of the shape with so many items that any value fits.
+fn row_room(alloc: Global, shape: Shape, count: usize) -> Result<Witness, NoMemory>
+    ensures { IfOk result (λ w. plain_witness w ≡ row_room (plain_shape shape) count) }
+{
+    match shape {
+        Shape::Fixed(_) => {
+            let front = anys(alloc, count)?;
+            Ok(Witness::Row {
+                front,
+                longer: false,
+                back: Vec::new(alloc),
+            })
+        }
+        Shape::Longer { front, .. } => {
+            let at = count.min(front as usize);
+            let front = anys(alloc, at)?;
+            let back = anys(alloc, count - at)?;
+            Ok(Witness::Row {
+                front,
+                longer: true,
+                back,
+            })
+        }
     }
 }
 
-// The first so many of the witnesses, and the others.
-fn cut(mut parts: Vec<Witness>, at: u64) -> Result<(Vec<Witness>, Vec<Witness>), NoMemory>
-    ensures first { IfOk result (λ v. map plain_witness v.0.items ≡ take at (map plain_witness parts.items)) }
-    ensures last { IfOk result (λ v. map plain_witness v.1.items ≡ drop at (map plain_witness parts.items)) }
-{
-    let at = parts.len().min(at as usize);
-    let last = parts.split_off(at)?;
-    Ok((parts, last))
-}
-
-/// The witness of the constructor with these parts, where the column names these texts.
-pub(crate) fn build(
+// A witness of the constructor with room for so many parts, where the column names these texts: in place of each part
+// stands one that any value fits.
+pub(crate) fn room_for(
     alloc: Global,
     ctor: &Ctor,
-    parts: Vec<Witness>,
+    count: usize,
     named: &[&str],
 ) -> Result<Witness, NoMemory>
-    ensures { IfOk result (λ w. plain_witness w ≡ witness_of (plain_ctor ctor.now) (plain_names named.now) (map plain_witness parts.items)) }
+    ensures { IfOk result (λ w. plain_witness w ≡ room_for (plain_ctor ctor.now) (plain_names named.now) count) }
 {
     match ctor {
-        Ctor::Single => Ok(Witness::Node { variant: 0, parts }),
-        Ctor::Variant(k) => Ok(Witness::Node { variant: *k, parts }),
-        Ctor::Point => Ok(Witness::Point(Box::new(alloc, first_of(parts))?)),
+        Ctor::Single => node_room(alloc, 0, count),
+        Ctor::Variant(k) => node_room(alloc, *k, count),
+        Ctor::Point => Ok(Witness::Point(Box::new(alloc, Witness::Any)?)),
         Ctor::Later => Ok(Witness::Later),
         Ctor::Flag(b) => Ok(Witness::Flag(*b)),
         Ctor::Numbers(range) => Ok(Witness::Span(*range)),
         Ctor::Text(text) => Ok(Witness::Text(String::from_str(alloc, text)?)),
         Ctor::OtherText => Ok(Witness::Else(own_texts(alloc, named)?)),
-        Ctor::Row(Shape::Fixed(_)) => Ok(Witness::Row {
-            front: parts,
-            longer: false,
-            back: Vec::new(alloc),
-        }),
-        Ctor::Row(Shape::Longer { front, .. }) => {
-            let (first, last) = cut(parts, *front)?;
-            Ok(Witness::Row {
-                front: first,
-                longer: true,
-                back: last,
-            })
-        }
+        Ctor::Row(shape) => row_room(alloc, *shape, count),
         Ctor::Wild => Ok(Witness::Any),
         Ctor::Or => Ok(Witness::Any),
+    }
+}
+
+// Takes the top witness off a stack, whose top stands last; there is one.
+#[tactic(auto, using(crate::proofs::Tops::top_steps))]
+pub(crate) fn pop_top(open: &mut Vec<Witness>) -> Witness
+    requires { 0 < length open.old.items }
+    ensures { tops open.old.items ≡ plain_witness result ∷ tops open.new.items }
+{
+    match open.pop() {
+        Some(w) => w,
+        None => unreachable!(),
+    }
+}
+
+// The list with the top witnesses of a stack, whose top stands last, in its places, the topmost first.
+fn take_into(mut places: Vec<Witness>, open: &mut Vec<Witness>) -> Vec<Witness>
+    requires { length places.items ≤ length open.old.items }
+    ensures taken { map plain_witness result.items ≡ take (length places.items) (tops open.old.items) }
+    ensures left { tops open.new.items ≡ drop (length places.items) (tops open.old.items) }
+{
+    for i in 0..places.len() {
+        let w = pop_top(open);
+        places[i] = w;
+    }
+    places
+}
+
+// The witness with the top ones of a stack, whose top stands last, in the places of its parts, the topmost first.
+pub(crate) fn fill(room: Witness, open: &mut Vec<Witness>) -> Witness
+    requires { parts_of_witness (plain_witness room) ≤ length open.old.items }
+    ensures filled { plain_witness result ≡ filled (plain_witness room) (tops open.old.items) }
+    ensures left { tops open.new.items ≡ drop (parts_of_witness (plain_witness room)) (tops open.old.items) }
+{
+    match room {
+        Witness::Node { variant, parts } => {
+            let parts = take_into(parts, open);
+            Witness::Node { variant, parts }
+        }
+        Witness::Point(mut inner) => {
+            *inner = pop_top(open);
+            Witness::Point(inner)
+        }
+        Witness::Row {
+            front,
+            longer,
+            back,
+        } => {
+            let front = take_into(front, open);
+            let back = take_into(back, open);
+            Witness::Row {
+                front,
+                longer,
+                back,
+            }
+        }
+        bare => bare,
     }
 }
