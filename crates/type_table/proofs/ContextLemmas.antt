@@ -5,7 +5,8 @@ use Rattle.match_model.specs.Constructors.{MCtor, SingleCtor, PointCtor, LaterCt
 use Rattle.match_model.specs.ContextLaws.{ValuesLaw, PartsLaw, EmptyLaw, UnsureLaw}
 use Rattle.match_model.specs.Emptiness.{IsRustType}
 use Rattle.match_model.specs.RustTypes.{rust_context, rust_sub, RustValue}
-use Rattle.match_model.proofs.Carried.{View, values_carry, parts_carry, unsure_carries}
+use Rattle.match_model.specs.ContextViews.{View}
+use Rattle.match_model.proofs.Carried.{values_carry, parts_carry, unsure_carries}
 use Rattle.match_model.proofs.Marked.{rust_unsure}
 use Rattle.match_model.proofs.RustParts.{rust_parts}
 use Rattle.match_model.proofs.RustValues.{rust_values_law}
@@ -53,25 +54,25 @@ module _ (t : TypeTable) where
   sub_is_of (NumbersCtor r) ty i of = of
   sub_is_of (TextCtor u) ty i of = of
 
-  pub table_view : View (table_type t) (IsOf t) (IsRustType (table_program t)) (RustValue (table_program t)) (table_context t) (rust_context (table_program t))
+  pub table_view : View (table_type t) (IsOf t) (IsRustType (table_program t)) (table_context t) (rust_context (table_program t))
   table_view = record {
     set = λ ty. refl;
     arity = λ c ty. refl;
     sub = sub_is;
     is_type = rust_types t;
     part_type = λ ty e i of h lt. sub_is_of _ ty i of;
-    row_type = λ ty r i of h. sub_is_of (RowCtor r) ty i of;
+    item_type = λ ty r i of h. sub_is_of (RowCtor r) ty i of;
     one = one_id;
   }
 
   pub table_values : ValuesLaw (IsOf t) (TableValue t) (table_context t)
-  table_values = values_carry _ _ _ _ _ _ table_view (rust_values_law (table_program t))
+  table_values = values_carry _ _ _ (RustValue (table_program t)) _ _ table_view (rust_values_law (table_program t))
 
   pub table_parts : PartsLaw (IsOf t) (TableValue t) (table_context t)
-  table_parts = parts_carry _ _ _ _ _ _ table_view (rust_parts (table_program t) (sound_table t))
+  table_parts = parts_carry _ _ _ (RustValue (table_program t)) _ _ table_view (rust_parts (table_program t) (sound_table t))
 
   pub table_empty : EmptyLaw (IsOf t) (TableValue t) (table_context t) (found_empty t) (found_variant_empty t)
   table_empty = empty_law t (table_context t)
 
   pub table_unsure : UnsureLaw (IsOf t) (TableValue t)
-  table_unsure = unsure_carries _ _ _ _ _ _ table_view (rust_unsure (table_program t) (sound_table t))
+  table_unsure = unsure_carries _ _ _ (RustValue (table_program t)) _ _ table_view (rust_unsure (table_program t) (sound_table t))
