@@ -55,7 +55,8 @@ each-push (y ∷ xs) x d h k = (h.0, each-push xs x d h.1 k)
 
 each-below : (f : ℕ → MCtor) (n : ℕ) (d : MCtor) → ((j : ℕ) → j < n → IsEarlier (f j) d) → EachBefore (each_below f n) d
 each-below f zero d h = tt
-each-below f (suc n) d h = each-push (each_below f n) (f n) d (each-below f n d (λ j l. h j (omega arith))) (h n (omega arith))
+each-below f (suc n) d h =
+    each-push (each_below f n) (f n) d (each-below f n d (λ j l. h j (omega arith))) (h n (omega arith))
 
 order-below : (f : ℕ → MCtor) (n : ℕ) → ((j k : ℕ) → j < k → IsEarlier (f j) (f k)) → AreInOrder (each_below f n)
 order-below f zero h = tt
@@ -108,9 +109,11 @@ under_before (At a) l m u h = before_at a m (less a l m u h)
     less : (a l m : ℤ) → int_lt a l ≡ true → int_le l m ≡ true → int_lt a m ≡ true
     less a l m p q = grind (arith, ints)
 
-ranges_before : (p : MRange) (l : ℤ) (qs : List MRange) → IsUnder p.low l → EachFrom l qs → IsBeforeEach (NumbersCtor p) (map NumbersCtor qs)
+ranges_before : (p : MRange) (l : ℤ) (qs : List MRange) → IsUnder p.low l → EachFrom l qs →
+    IsBeforeEach (NumbersCtor p) (map NumbersCtor qs)
 ranges_before p l [] u h = tt
-ranges_before p l (q ∷ qs) u ((m, e, g), h) = (ap (compare_low p.low) e ∙ under_before p.low l m u g, ranges_before p l qs u h)
+ranges_before p l (q ∷ qs) u ((m, e, g), h) =
+    (ap (compare_low p.low) e ∙ under_before p.low l m u g, ranges_before p l qs u h)
 
 -- the low end is below what follows a number of the range
 under_next : (low : MEnd) (n : ℤ) → is_from low n ≡ true → IsUnder low (n +ℤ pos 1)
@@ -130,25 +133,30 @@ abbrev EachUnder : ℤ → List MRange → Type 0
 EachUnder l [] = Unit {0}
 EachUnder l (p ∷ ps) = IsUnder p.low l × EachUnder l ps
 
-low_under : (low high : MEnd) (l : ℤ) → ends_ascend low high ≡ true → ((x : ℤ) → in_range (record { low = low; high = high }) x ≡ true → int_lt x l ≡ true) → IsUnder low l
+low_under : (low high : MEnd) (l : ℤ) → ends_ascend low high ≡ true →
+    ((x : ℤ) → in_range (record { low = low; high = high }) x ≡ true → int_lt x l ≡ true) → IsUnder low l
 low_under Free high l up b = tt
 low_under (At a) high l up b = b a (low_in (record { low = At a; high = high }) a refl up)
 
-follow_under : {low high : MEnd} {ps : List MRange} → Follow low high ps → (l : ℤ) → ((x : ℤ) → in_range (record { low = low; high = high }) x ≡ true → int_lt x l ≡ true) → EachUnder l ps
+follow_under : {low high : MEnd} {ps : List MRange} → Follow low high ps → (l : ℤ) →
+    ((x : ℤ) → in_range (record { low = low; high = high }) x ≡ true → int_lt x l ≡ true) → EachUnder l ps
 follow_under (last_one low high n h) l b = (low_under low high l (Follow-ascends (last_one low high n h)) b, tt)
 follow_under (one_more low high n rest h f) l b =
     (low_under low high l (Follow-ascends (one_more low high n rest h f)) b, follow_under f l (λ x k. b x (wider x k)))
   where
-    wider : (x : ℤ) → in_range (record { low = At (n +ℤ pos 1); high = high }) x ≡ true → in_range (record { low = low; high = high }) x ≡ true
+    wider : (x : ℤ) → in_range (record { low = At (n +ℤ pos 1); high = high }) x ≡ true →
+        in_range (record { low = low; high = high }) x ≡ true
     wider x k =
         let s = both (int_le (n +ℤ pos 1) x) (is_up_to high x) k in
         ap (λ y. y && is_up_to high x) (from_later low x n (both (is_from low n) (is_up_to (At n) n) h).0 s.0) ∙ s.1
 
-ranges_all : (l : ℤ) (ps qs : List MRange) → EachUnder l ps → EachFrom l qs → AllBefore (map NumbersCtor ps) (map NumbersCtor qs)
+ranges_all : (l : ℤ) (ps qs : List MRange) → EachUnder l ps → EachFrom l qs →
+    AllBefore (map NumbersCtor ps) (map NumbersCtor qs)
 ranges_all l [] qs u h = tt
 ranges_all l (p ∷ ps) qs u h = (ranges_before p l qs u.0 h, ranges_all l ps qs u.1 h)
 
-numbers_order : (first : MRange) (second : Option MRange) (heads ps qs : List MRange) → IsMadeRange first → IsMadeSecond second → RangesAscend (NumberSet first second) →
+numbers_order : (first : MRange) (second : Option MRange) (heads ps qs : List MRange) → IsMadeRange first →
+    IsMadeSecond second → RangesAscend (NumberSet first second) →
     Follow first.low first.high ps → IsCutToo second heads qs → AreInOrder (map NumbersCtor ps ++ map NumbersCtor qs)
 numbers_order first None heads ps qs m k asc f e =
     subst (λ (x : List MRange). AreInOrder (map NumbersCtor ps ++ map NumbersCtor x)) (sym e) (subst AreInOrder (sym (append_none (map NumbersCtor ps))) (follow_order f))
@@ -162,7 +170,8 @@ numbers_order first (Some s) heads ps qs m k asc f c = go s.low refl
     free_not e = cc
 
     go : (e : MEnd) → s.low ≡ e → AreInOrder (map NumbersCtor ps ++ map NumbersCtor qs)
-    go Free e = absurd (free_not (sym (ap Rattle.match_model.specs.Constructors.is_free e) ∙ bounded_below first s m.up asc))
+    go Free e =
+        absurd (free_not (sym (ap Rattle.match_model.specs.Constructors.is_free e) ∙ bounded_below first s m.up asc))
     go (At l) e =
         order-append (map NumbersCtor ps) (map NumbersCtor qs) (follow_order f) (follow_order c.together)
         (ranges_all l ps qs (follow_under f l (λ x h. asc x l h (low_in s l e k.up))) (follow_from c.together l e))
@@ -179,7 +188,8 @@ text_before t u h = go (text_eq t u) refl
     go true e = absurd (apart (sym (tied_itself nat_list_cmp_total t) ∙ ap (compare_texts t) (text_equal t u e) ∙ h))
     go false e = ap (λ b. compared b (is_lt (compare_texts t u))) e ∙ ap (λ (o : Ordering). compared false (is_lt o)) h
 
-text_before_each : (t : List ℕ) (us : List (List ℕ)) → AllByRecursion (λ u. compare_texts t u ≡ Less) us → IsBeforeEach (TextCtor t) (map TextCtor us)
+text_before_each : (t : List ℕ) (us : List (List ℕ)) → AllByRecursion (λ u. compare_texts t u ≡ Less) us →
+    IsBeforeEach (TextCtor t) (map TextCtor us)
 text_before_each t [] h = tt
 text_before_each t (u ∷ us) h = (text_before t u h.0, text_before_each t us h.1)
 
@@ -195,7 +205,8 @@ texts_others (t ∷ ts) = (tt, texts_others ts)
 -- all sets
 
 variants_order : (count : ℕ) (later : Bool) → AreInOrder (variant_pieces count later)
-variants_order count true = order-push (each_below VariantCtor count) LaterCtor (order-below VariantCtor count (λ j k l. l)) (each-below VariantCtor count LaterCtor (λ j l. tt))
+variants_order count true =
+    order-push (each_below VariantCtor count) LaterCtor (order-below VariantCtor count (λ j k l. l)) (each-below VariantCtor count LaterCtor (λ j l. tt))
 variants_order count false = order-below VariantCtor count (λ j k l. l)
 
 slices_order : (heads : List MCtor) → AreInOrder (slice_pieces heads)
@@ -207,14 +218,16 @@ slices_order heads =
     least : (e f b j : ℕ) → j < max e (f + b) → j < (max e (f + b) - b) + b
     least e f b j l = omega arith
 
-pub in_order_of : (set : MSet) (heads pieces : List MCtor) → IsMadeSet set → RangesAscend set → ArePieces set heads pieces → AreInOrder pieces
+pub in_order_of : (set : MSet) (heads pieces : List MCtor) → IsMadeSet set → RangesAscend set →
+    ArePieces set heads pieces → AreInOrder pieces
 in_order_of SingleSet heads pieces m asc a = subst AreInOrder (sym a) (tt, tt)
 in_order_of PointSet heads pieces m asc a = subst AreInOrder (sym a) (tt, tt)
 in_order_of FlagSet heads pieces m asc a = subst AreInOrder (sym a) ((tt, tt), (tt, tt))
 in_order_of (VariantSet count later) heads pieces m asc a = subst AreInOrder (sym a) (variants_order count later)
 in_order_of (NumberSet first second) heads pieces m asc (ps, qs, c, d, e) =
     subst AreInOrder (sym e) (subst AreInOrder (sym (map-append NumbersCtor ps qs)) (numbers_order first second (filter_map Rattle.match_model.specs.Pieces.range_of heads) ps qs m.0 m.1 asc c.together d))
-in_order_of TextSet heads pieces m asc (ts, c, e) = subst AreInOrder (sym e) (order-push (map TextCtor ts) OtherTextCtor (texts_order ts c.ascending) (texts_others ts))
+in_order_of TextSet heads pieces m asc (ts, c, e) =
+    subst AreInOrder (sym e) (order-push (map TextCtor ts) OtherTextCtor (texts_order ts c.ascending) (texts_others ts))
 in_order_of (RowSet None) heads pieces m asc a = subst AreInOrder (sym a) (slices_order heads)
 in_order_of (RowSet (Some n)) heads pieces m asc a = subst AreInOrder (sym a) (tt, tt)
 in_order_of OpaqueSet heads pieces m asc a = subst AreInOrder (sym a) tt

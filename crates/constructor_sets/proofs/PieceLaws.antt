@@ -49,7 +49,8 @@ forward_ranges : {low high : MEnd} {ps : List MRange} → Follow low high ps →
 forward_ranges (last_one low high n h) = (Follow-ascends (last_one low high n h), tt)
 forward_ranges (one_more low high n rest h f) = (Follow-ascends (last_one low (At n) n h), forward_ranges f)
 
-forward_second : (second : Option MRange) (heads qs : List MRange) → IsCutToo second heads qs → AreForward (map NumbersCtor qs)
+forward_second : (second : Option MRange) (heads qs : List MRange) → IsCutToo second heads qs →
+    AreForward (map NumbersCtor qs)
 forward_second None heads qs e = subst (λ (x : List MRange). AreForward (map NumbersCtor x)) (sym e) tt
 forward_second (Some s) heads qs c = forward_ranges c.together
 
@@ -59,11 +60,13 @@ pieces_forward PointSet heads pieces a = subst AreForward (sym a) (tt, tt)
 pieces_forward FlagSet heads pieces a = subst AreForward (sym a) (tt, (tt, tt))
 pieces_forward (VariantSet count true) heads pieces a =
     subst AreForward (sym a) (forward-append (each_below VariantCtor count) (LaterCtor ∷ []) (forward_below VariantCtor count (λ k. tt)) (tt, tt))
-pieces_forward (VariantSet count false) heads pieces a = subst AreForward (sym a) (forward_below VariantCtor count (λ k. tt))
+pieces_forward (VariantSet count false) heads pieces a =
+    subst AreForward (sym a) (forward_below VariantCtor count (λ k. tt))
 pieces_forward (NumberSet first second) heads pieces (ps, qs, c, d, e) =
     subst AreForward (sym e)
     (subst AreForward (sym (map-append NumbersCtor ps qs)) (forward-append (map NumbersCtor ps) (map NumbersCtor qs) (forward_ranges c.together) (forward_second second _ qs d)))
-pieces_forward TextSet heads pieces (ts, c, e) = subst AreForward (sym e) (forward-append (map TextCtor ts) (OtherTextCtor ∷ []) (forward_texts ts) (tt, tt))
+pieces_forward TextSet heads pieces (ts, c, e) =
+    subst AreForward (sym e) (forward-append (map TextCtor ts) (OtherTextCtor ∷ []) (forward_texts ts) (tt, tt))
 pieces_forward (RowSet None) heads pieces a =
     subst AreForward (sym a)
     (forward-append (each_below (λ n. RowCtor (FixedShape n)) (lengths_end heads)) (RowCtor (LongerShape (lengths_end heads - longest_back heads) (longest_back heads)) ∷ [])
@@ -81,7 +84,8 @@ forward_at (q ∷ pieces) h p (suc k, l, e) = forward_at pieces h.1 p (k, omega 
 all_at : (P : MCtor → Type 0) (pieces : List MCtor) → All P pieces → (p : MCtor) → Contains pieces p → P p
 all_at P pieces h p (k, l, e) = subst P e (h k p l)
 
-pub values_told : {T : Type 0} (IsType : T → Type 0) (IsValue : T → Bool → MValue → Type 0) (cx : Context T) → ValuesLaw IsType IsValue cx → PartsLaw IsType IsValue cx →
+pub values_told : {T : Type 0} (IsType : T → Type 0) (IsValue : T → Bool → MValue → Type 0) (cx : Context T) →
+    ValuesLaw IsType IsValue cx → PartsLaw IsType IsValue cx →
     (is_empty : T → Bool) (variant_empty : T → ℕ → Bool) → EmptyLaw IsType IsValue cx is_empty variant_empty → UnsureLaw IsType IsValue → PieceValuesAreTold IsType IsValue cx is_empty variant_empty
 values_told IsType IsValue cx values parts is_empty variant_empty empty unsure o heads pieces p d c a i =
     let are = made_pieces (cx.set_of o.type) heads pieces c.ranges c.ascend c.allowed c.made a in

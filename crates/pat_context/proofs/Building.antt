@@ -8,11 +8,13 @@ use Rattle.match_model.specs.Texts.{text_eq}
 use Rattle.match_model.specs.Constructors.{MShape, SingleCtor, PointCtor, LaterCtor, OtherTextCtor, VariantCtor, FlagCtor, NumbersCtor, TextCtor, RowCtor, OneSingle, OnePoint, OneLater, OneVariant, OneFlag, OneNumber, OneText, OneLength, builds, builds_one, covers}
 use Rattle.match_model.proofs.Basics.{both, untrue, nat_equal, text_equal}
 
-pub single_built : (named : List (List ℕ)) (v : MValue) → builds_one OneSingle v ≡ true → builds named SingleCtor v ≡ true
+pub single_built : (named : List (List ℕ)) (v : MValue) → builds_one OneSingle v ≡ true →
+    builds named SingleCtor v ≡ true
 single_built named (Node k parts) b = b
 single_built named _ b = untrue b
 
-pub variant_built : (named : List (List ℕ)) (k : ℕ) (v : MValue) → builds_one (OneVariant k) v ≡ true → builds named (VariantCtor k) v ≡ true
+pub variant_built : (named : List (List ℕ)) (k : ℕ) (v : MValue) → builds_one (OneVariant k) v ≡ true →
+    builds named (VariantCtor k) v ≡ true
 variant_built named k (Node j parts) b = b
 variant_built named k _ b = untrue b
 
@@ -24,11 +26,13 @@ pub later_built : (named : List (List ℕ)) (v : MValue) → builds_one OneLater
 later_built named Later b = b
 later_built named _ b = untrue b
 
-pub flag_built : (named : List (List ℕ)) (f : Bool) (v : MValue) → builds_one (OneFlag f) v ≡ true → builds named (FlagCtor f) v ≡ true
+pub flag_built : (named : List (List ℕ)) (f : Bool) (v : MValue) → builds_one (OneFlag f) v ≡ true →
+    builds named (FlagCtor f) v ≡ true
 flag_built named f (Flag x) b = b
 flag_built named f _ b = untrue b
 
-pub number_built : (named : List (List ℕ)) (r : MRange) (n : ℤ) → in_range r n ≡ true → (v : MValue) → builds_one (OneNumber n) v ≡ true → builds named (NumbersCtor r) v ≡ true
+pub number_built : (named : List (List ℕ)) (r : MRange) (n : ℤ) → in_range r n ≡ true → (v : MValue) →
+    builds_one (OneNumber n) v ≡ true → builds named (NumbersCtor r) v ≡ true
 number_built named r n h (Num k) b = subst (λ x. in_range r x ≡ true) (same n k b) h
   where
     same : (n k : ℤ) → in_range (closed n n) k ≡ true → n ≡ k
@@ -38,14 +42,17 @@ number_built named r n h (Num k) b = subst (λ x. in_range r x ≡ true) (same n
         le_antisym n k h g = grind (arith, ints)
 number_built named r n h _ b = untrue b
 
-pub text_built : (named : List (List ℕ)) (t : List ℕ) (v : MValue) → builds_one (OneText t) v ≡ true → builds named (TextCtor t) v ≡ true
+pub text_built : (named : List (List ℕ)) (t : List ℕ) (v : MValue) → builds_one (OneText t) v ≡ true →
+    builds named (TextCtor t) v ≡ true
 text_built named t (Text u) b = b
 text_built named t _ b = untrue b
 
-pub other_built : (named : List (List ℕ)) (t : List ℕ) → list_any (text_eq t) named ≡ false → (v : MValue) → builds_one (OneText t) v ≡ true → builds named OtherTextCtor v ≡ true
+pub other_built : (named : List (List ℕ)) (t : List ℕ) → list_any (text_eq t) named ≡ false → (v : MValue) →
+    builds_one (OneText t) v ≡ true → builds named OtherTextCtor v ≡ true
 other_built named t h (Text u) b = subst (λ x. not (list_any (text_eq x) named) ≡ true) (text_equal t u b) (ap not h)
 other_built named t h _ b = untrue b
 
-pub row_built : (named : List (List ℕ)) (s : MShape) (n : ℕ) → covers s n ≡ true → (v : MValue) → builds_one (OneLength n) v ≡ true → builds named (RowCtor s) v ≡ true
+pub row_built : (named : List (List ℕ)) (s : MShape) (n : ℕ) → covers s n ≡ true → (v : MValue) →
+    builds_one (OneLength n) v ≡ true → builds named (RowCtor s) v ≡ true
 row_built named s n h (Row items) b = subst (λ x. covers s x ≡ true) (nat_equal n (length (values_list items)) b) h
 row_built named s n h _ b = untrue b

@@ -23,14 +23,18 @@ module _ {T : Type 0} (IsType : T → Type 0) (IsValue : T → Bool → MValue �
   abbrev Parted : Open T → MCtor → List MValue → Type 0
   Parted o piece vs = (length vs ≡ cx.arity piece o.type) × AreValues IsValue (parts_open cx o piece) vs
 
-  from_parts : (f : ℕ → Open T) (sure : Bool) (sub : ℕ → T) → ((i : ℕ) → f i ≡ record { type = sub i; sure = sure }) → (n i : ℕ) (vs : List MValue) → length vs ≡ n → PartsAre IsValue sure sub i vs → AreValues IsValue (each_from f i n) vs
+  from_parts : (f : ℕ → Open T) (sure : Bool) (sub : ℕ → T) →
+      ((i : ℕ) → f i ≡ record { type = sub i; sure = sure }) → (n i : ℕ) (vs : List MValue) → length vs ≡ n →
+      PartsAre IsValue sure sub i vs → AreValues IsValue (each_from f i n) vs
   unfolding each_from
   from_parts f sure sub e zero i [] l p = tt
   from_parts f sure sub e zero i (v ∷ vs) l p = absurd (omega (arith, l))
   from_parts f sure sub e (suc n) i [] l p = absurd (omega (arith, l))
-  from_parts f sure sub e (suc n) i (v ∷ vs) l p = (subst (λ (o : Open T). IsValue o.type o.sure v) (sym (e i)) p.0, from_parts f sure sub e n (suc i) vs (omega (arith, l)) p.1)
+  from_parts f sure sub e (suc n) i (v ∷ vs) l p =
+      (subst (λ (o : Open T). IsValue o.type o.sure v) (sym (e i)) p.0, from_parts f sure sub e n (suc i) vs (omega (arith, l)) p.1)
 
-  parted : (o : Open T) (piece : MCtor) (vs : List MValue) → length vs ≡ cx.arity piece o.type → PartsAre IsValue (sure_inside piece o.sure) (cx.sub piece o.type) 0 vs → Parted o piece vs
+  parted : (o : Open T) (piece : MCtor) (vs : List MValue) → length vs ≡ cx.arity piece o.type →
+      PartsAre IsValue (sure_inside piece o.sure) (cx.sub piece o.type) 0 vs → Parted o piece vs
   parted o piece vs l p = (
     l,
     subst (λ places. AreValues IsValue places vs) (sym (below_from (part_open cx o piece) (cx.arity piece o.type)))
@@ -46,15 +50,19 @@ module _ {T : Type 0} (IsType : T → Type 0) (IsValue : T → Bool → MValue �
   AllValues t sure [] = Unit {0}
   AllValues t sure (v ∷ vs) = IsValue t sure v × AllValues t sure vs
 
-  all_parts : (t : T) (sure : Bool) (sub : ℕ → T) → ((j : ℕ) → sub j ≡ t) → (i : ℕ) (vs : List MValue) → PartsAre IsValue sure sub i vs → AllValues t sure vs
+  all_parts : (t : T) (sure : Bool) (sub : ℕ → T) → ((j : ℕ) → sub j ≡ t) → (i : ℕ) (vs : List MValue) →
+      PartsAre IsValue sure sub i vs → AllValues t sure vs
   all_parts t sure sub e i [] p = tt
   all_parts t sure sub e i (v ∷ vs) p = (subst (λ u. IsValue u sure v) (e i) p.0, all_parts t sure sub e (suc i) vs p.1)
 
-  parts_all : (t : T) (sure : Bool) (sub : ℕ → T) → ((j : ℕ) → sub j ≡ t) → (i : ℕ) (vs : List MValue) → AllValues t sure vs → PartsAre IsValue sure sub i vs
+  parts_all : (t : T) (sure : Bool) (sub : ℕ → T) → ((j : ℕ) → sub j ≡ t) → (i : ℕ) (vs : List MValue) →
+      AllValues t sure vs → PartsAre IsValue sure sub i vs
   parts_all t sure sub e i [] p = tt
-  parts_all t sure sub e i (v ∷ vs) p = (subst (λ u. IsValue u sure v) (sym (e i)) p.0, parts_all t sure sub e (suc i) vs p.1)
+  parts_all t sure sub e i (v ∷ vs) p =
+      (subst (λ u. IsValue u sure v) (sym (e i)) p.0, parts_all t sure sub e (suc i) vs p.1)
 
-  all-append : (t : T) (sure : Bool) (xs ys : List MValue) → AllValues t sure xs → AllValues t sure ys → AllValues t sure (xs ++ ys)
+  all-append : (t : T) (sure : Bool) (xs ys : List MValue) → AllValues t sure xs → AllValues t sure ys →
+      AllValues t sure (xs ++ ys)
   all-append t sure [] ys h k = k
   all-append t sure (x ∷ xs) ys h k = (h.0, all-append t sure xs ys h.1 k)
 
@@ -69,10 +77,12 @@ module _ {T : Type 0} (IsType : T → Type 0) (IsValue : T → Bool → MValue �
   all-drop t sure (suc n) (x ∷ xs) h = all-drop t sure n xs h.1
 
   -- the length of a row is one that its type has
-  length_is : (len : Option ℕ) (sure : Bool) (items : Rattle.match_model.specs.Values.MValues) → BuiltOnce (RowSet len) (Row items) → IsTrue (allows_length len (length (values_list items)))
+  length_is : (len : Option ℕ) (sure : Bool) (items : Rattle.match_model.specs.Values.MValues) →
+      BuiltOnce (RowSet len) (Row items) → IsTrue (allows_length len (length (values_list items)))
   length_is len sure items b = go b.by b.of_set b.build
     where
-      go : (e : Elementary) → IsTrue (is_of_set (RowSet len) e) → IsTrue (builds_one e (Row items)) → IsTrue (allows_length len (length (values_list items)))
+      go : (e : Elementary) → IsTrue (is_of_set (RowSet len) e) → IsTrue (builds_one e (Row items)) →
+          IsTrue (allows_length len (length (values_list items)))
       go (OneLength m) s k = subst (λ n. IsTrue (allows_length len n)) (nat_equal m (length (values_list items)) k) s
       go OneSingle s k = untrue s
       go OnePoint s k = untrue s
@@ -82,14 +92,16 @@ module _ {T : Type 0} (IsType : T → Type 0) (IsValue : T → Bool → MValue �
       go (OneNumber i) s k = untrue s
       go (OneText i) s k = untrue s
 
-  one_length : (len : Option ℕ) (n : ℕ) → IsTrue (allows_length len n) → IsTrue (belongs (RowSet len) (RowCtor (FixedShape n)))
+  one_length : (len : Option ℕ) (n : ℕ) → IsTrue (allows_length len n) →
+      IsTrue (belongs (RowSet len) (RowCtor (FixedShape n)))
   one_length None n h = refl
   one_length (Some m) n h = ap (λ k. nat_eq k m) (sym (nat_equal m n h)) ∙ same m
     where
       same : (m : ℕ) → nat_eq m m ≡ true
       same m = grind (arith, nat_tests)
 
-  row_parts : (o : Open T) (s : MShape) (len : Option ℕ) (items : Rattle.match_model.specs.Values.MValues) → IsType o.type → cx.set_of o.type ≡ RowSet len → IsTrue (belongs (cx.set_of o.type) (RowCtor s)) →
+  row_parts : (o : Open T) (s : MShape) (len : Option ℕ) (items : Rattle.match_model.specs.Values.MValues) →
+      IsType o.type → cx.set_of o.type ≡ RowSet len → IsTrue (belongs (cx.set_of o.type) (RowCtor s)) →
       IsValue o.type o.sure (Row items) → covers s (length (values_list items)) ≡ true → Parted o (RowCtor s) (parts_met (RowCtor s) (values_list items))
   row_parts o s len items d e k v c =
       let n = length (values_list items) in
@@ -106,7 +118,8 @@ module _ {T : Type 0} (IsType : T → Type 0) (IsValue : T → Bool → MValue �
       same : (m : ℕ) → nat_eq m m ≡ true
       same m = grind (arith, nat_tests)
 
-      go : (s : MShape) → covers s (length (values_list items)) ≡ true → AllValues (cx.sub (RowCtor (FixedShape (length (values_list items)))) o.type 0) o.sure (values_list items) →
+      go : (s : MShape) → covers s (length (values_list items)) ≡ true →
+          AllValues (cx.sub (RowCtor (FixedShape (length (values_list items)))) o.type 0) o.sure (values_list items) →
           ((j : ℕ) → cx.sub (RowCtor s) o.type j ≡ cx.sub (RowCtor (FixedShape (length (values_list items)))) o.type 0) → cx.arity (RowCtor s) o.type ≡ least_length s → Parted o (RowCtor s) (parts_met (RowCtor s) (values_list items))
       go (FixedShape m) c all subs arity =
           parted o (RowCtor (FixedShape m)) (values_list items) (sym (nat_equal m (length (values_list items)) c) ∙ sym arity)
@@ -122,11 +135,13 @@ module _ {T : Type 0} (IsType : T → Type 0) (IsValue : T → Bool → MValue �
           (parts_all t o.sure (cx.sub (RowCtor (LongerShape f b)) o.type) subs 0 (take f xs ++ drop (length xs - b) xs)
           (all-append t o.sure (take f xs) (drop (length xs - b) xs) (all-take t o.sure f xs all) (all-drop t o.sure (length xs - b) xs all)))
 
-  belongs_too : (o : Open T) (piece : MCtor) (set : MSet) → cx.set_of o.type ≡ set → belongs set piece ≡ true → IsTrue (belongs (cx.set_of o.type) piece)
+  belongs_too : (o : Open T) (piece : MCtor) (set : MSet) → cx.set_of o.type ≡ set → belongs set piece ≡ true →
+      IsTrue (belongs (cx.set_of o.type) piece)
   belongs_too o piece set e k = subst (λ x. IsTrue (belongs x piece)) (sym e) k
 
   -- the parts that a piece has of a value that it builds are as many as the piece has parts, each a value of its place
-  pub parts_values : (o : Open T) (piece : MCtor) (named : List (List ℕ)) (v : MValue) (set : MSet) → IsType o.type → cx.set_of o.type ≡ set → belongs set piece ≡ true → IsValue o.type o.sure v → builds named piece v ≡ true →
+  pub parts_values : (o : Open T) (piece : MCtor) (named : List (List ℕ)) (v : MValue) (set : MSet) → IsType o.type →
+      cx.set_of o.type ≡ set → belongs set piece ≡ true → IsValue o.type o.sure v → builds named piece v ≡ true →
       Parted o piece (parts_under piece v)
   parts_values o SingleCtor named (Node j parts) SingleSet d e k w b =
       let p = (law.parts o.type OneSingle o.sure (Node j parts) d (subst (λ x. IsTrue (is_of_set x OneSingle)) (sym e) refl) b (λ q. cc)).0 w in
@@ -137,12 +152,18 @@ module _ {T : Type 0} (IsType : T → Type 0) (IsValue : T → Bool → MValue �
   parts_values o PointCtor named (Point m u) PointSet d e k w b =
       let p = ((law.point o.type d e).1 o.sure m u).0 w in
       parted o PointCtor (u ∷ []) (sym (law.arity o.type PointCtor d (belongs_too o PointCtor PointSet e k))) (p.1, tt)
-  parts_values o LaterCtor named Later (VariantSet count later) d e k w b = bare o LaterCtor [] refl (law.arity o.type LaterCtor d (belongs_too o LaterCtor (VariantSet count later) e k))
-  parts_values o (FlagCtor x) named (Flag c) FlagSet d e k w b = bare o (FlagCtor x) [] refl (law.arity o.type (FlagCtor x) d (belongs_too o (FlagCtor x) FlagSet e k))
-  parts_values o (NumbersCtor r) named (Num c) (NumberSet first second) d e k w b = bare o (NumbersCtor r) [] refl (law.arity o.type (NumbersCtor r) d (belongs_too o (NumbersCtor r) (NumberSet first second) e k))
-  parts_values o (TextCtor t) named (Text c) TextSet d e k w b = bare o (TextCtor t) [] refl (law.arity o.type (TextCtor t) d (belongs_too o (TextCtor t) TextSet e k))
-  parts_values o OtherTextCtor named (Text c) TextSet d e k w b = bare o OtherTextCtor [] refl (law.arity o.type OtherTextCtor d (belongs_too o OtherTextCtor TextSet e k))
-  parts_values o (RowCtor s) named (Row items) (RowSet len) d e k w b = row_parts o s len items d e (belongs_too o (RowCtor s) (RowSet len) e k) w b
+  parts_values o LaterCtor named Later (VariantSet count later) d e k w b =
+      bare o LaterCtor [] refl (law.arity o.type LaterCtor d (belongs_too o LaterCtor (VariantSet count later) e k))
+  parts_values o (FlagCtor x) named (Flag c) FlagSet d e k w b =
+      bare o (FlagCtor x) [] refl (law.arity o.type (FlagCtor x) d (belongs_too o (FlagCtor x) FlagSet e k))
+  parts_values o (NumbersCtor r) named (Num c) (NumberSet first second) d e k w b =
+      bare o (NumbersCtor r) [] refl (law.arity o.type (NumbersCtor r) d (belongs_too o (NumbersCtor r) (NumberSet first second) e k))
+  parts_values o (TextCtor t) named (Text c) TextSet d e k w b =
+      bare o (TextCtor t) [] refl (law.arity o.type (TextCtor t) d (belongs_too o (TextCtor t) TextSet e k))
+  parts_values o OtherTextCtor named (Text c) TextSet d e k w b =
+      bare o OtherTextCtor [] refl (law.arity o.type OtherTextCtor d (belongs_too o OtherTextCtor TextSet e k))
+  parts_values o (RowCtor s) named (Row items) (RowSet len) d e k w b =
+      row_parts o s len items d e (belongs_too o (RowCtor s) (RowSet len) e k) w b
   parts_values o SingleCtor named v SingleSet d e k w b = untrue b
   parts_values o (VariantCtor i) named v (VariantSet count later) d e k w b = untrue b
   parts_values o PointCtor named v PointSet d e k w b = untrue b
@@ -162,7 +183,9 @@ module _ {T : Type 0} (IsType : T → Type 0) (IsValue : T → Bool → MValue �
   listed [] = refl
   listed (v ∷ vs) = ap (λ xs. v ∷ xs) (listed vs)
 
-  to_parts : (f : ℕ → Open T) (sure : Bool) (sub : ℕ → T) → ((i : ℕ) → f i ≡ record { type = sub i; sure = sure }) → (n i : ℕ) (vs : List MValue) → AreValues IsValue (each_from f i n) vs → (length vs ≡ n) × PartsAre IsValue sure sub i vs
+  to_parts : (f : ℕ → Open T) (sure : Bool) (sub : ℕ → T) → ((i : ℕ) → f i ≡ record { type = sub i; sure = sure }) →
+      (n i : ℕ) (vs : List MValue) → AreValues IsValue (each_from f i n) vs →
+      (length vs ≡ n) × PartsAre IsValue sure sub i vs
   unfolding each_from
   to_parts f sure sub e zero i [] a = (refl, tt)
   to_parts f sure sub e zero i (v ∷ vs) a = absurd a
@@ -171,7 +194,8 @@ module _ {T : Type 0} (IsType : T → Type 0) (IsValue : T → Bool → MValue �
       let r = to_parts f sure sub e n (suc i) vs a.1 in
       (ap suc r.0, (subst (λ (o : Open T). IsValue o.type o.sure v) (e i) a.0, r.1))
 
-  unparted : (o : Open T) (piece : MCtor) (vs : List MValue) → AreValues IsValue (parts_open cx o piece) vs → (length vs ≡ cx.arity piece o.type) × PartsAre IsValue (sure_inside piece o.sure) (cx.sub piece o.type) 0 vs
+  unparted : (o : Open T) (piece : MCtor) (vs : List MValue) → AreValues IsValue (parts_open cx o piece) vs →
+      (length vs ≡ cx.arity piece o.type) × PartsAre IsValue (sure_inside piece o.sure) (cx.sub piece o.type) 0 vs
   unparted o piece vs a =
       to_parts (part_open cx o piece) (sure_inside piece o.sure) (cx.sub piece o.type) (λ i. refl) (cx.arity piece o.type) 0 vs
       (subst (λ places. AreValues IsValue places vs) (below_from (part_open cx o piece) (cx.arity piece o.type)) a)
@@ -180,18 +204,21 @@ module _ {T : Type 0} (IsType : T → Type 0) (IsValue : T → Bool → MValue �
   nothing [] e = refl
   nothing (x ∷ xs) e = absurd (omega (arith, e))
 
-  kept : (o : Open T) (named : List (List ℕ)) (piece : MCtor) (x : MValue) (ys : List MValue) → IsValue o.type o.sure x → builds named piece x ≡ true → parts_under piece x ≡ [] → cx.arity piece o.type ≡ 0 →
+  kept : (o : Open T) (named : List (List ℕ)) (piece : MCtor) (x : MValue) (ys : List MValue) →
+      IsValue o.type o.sure x → builds named piece x ≡ true → parts_under piece x ≡ [] → cx.arity piece o.type ≡ 0 →
       AreValues IsValue (parts_open cx o piece) ys → IsRefilled IsValue o named piece ys
   kept o named piece x ys w b e z a = record { value = x; is = w; build = b; parts = e ∙ nothing ys ((unparted o piece ys a).0 ∙ z) }
 
-  node_filled : (o : Open T) (named : List (List ℕ)) (e : Elementary) (k : ℕ) (ys : List MValue) → IsType o.type → IsTrue (is_of_set (cx.set_of o.type) e) → IsTrue (builds_one e (Node k (values_of ys))) → (e ≡ OnePoint → ⊥) →
+  node_filled : (o : Open T) (named : List (List ℕ)) (e : Elementary) (k : ℕ) (ys : List MValue) → IsType o.type →
+      IsTrue (is_of_set (cx.set_of o.type) e) → IsTrue (builds_one e (Node k (values_of ys))) → (e ≡ OnePoint → ⊥) →
       length ys ≡ parts_count cx o.type e → PartsAre IsValue o.sure (cx.sub (elementary_ctor e) o.type) 0 ys → IsValue o.type o.sure (Node k (values_of ys))
   node_filled o named e k ys d s b n l p =
       (law.parts o.type e o.sure (Node k (values_of ys)) d s b n).1
       (subst (λ zs. (length zs ≡ parts_count cx o.type e) × PartsAre IsValue o.sure (cx.sub (elementary_ctor e) o.type) 0 zs) (sym (listed ys)) (l, p))
 
   -- a row of as many items of the one type
-  row_filled : (o : Open T) (len : Option ℕ) (items : Rattle.match_model.specs.Values.MValues) (zs : List MValue) → IsType o.type → cx.set_of o.type ≡ RowSet len → IsValue o.type o.sure (Row items) →
+  row_filled : (o : Open T) (len : Option ℕ) (items : Rattle.match_model.specs.Values.MValues) (zs : List MValue) →
+      IsType o.type → cx.set_of o.type ≡ RowSet len → IsValue o.type o.sure (Row items) →
       length zs ≡ length (values_list items) → AllValues (cx.sub (RowCtor (FixedShape (length (values_list items)))) o.type 0) o.sure zs → IsValue o.type o.sure (Row (values_of zs))
   row_filled o len items zs d e v l all =
       let n = length (values_list items) in
@@ -206,7 +233,9 @@ module _ {T : Type 0} (IsType : T → Type 0) (IsValue : T → Bool → MValue �
             (parts_all t o.sure (cx.sub (RowCtor (FixedShape n)) o.type) (λ j. law.items o.type (FixedShape n) (FixedShape n) j 0 d one one) 0 zs all),
       )
 
-  row_refilled : (o : Open T) (s : MShape) (named : List (List ℕ)) (len : Option ℕ) (items : Rattle.match_model.specs.Values.MValues) → IsType o.type → cx.set_of o.type ≡ RowSet len → IsTrue (belongs (cx.set_of o.type) (RowCtor s)) →
+  row_refilled : (o : Open T) (s : MShape) (named : List (List ℕ)) (len : Option ℕ)
+      (items : Rattle.match_model.specs.Values.MValues) →
+      IsType o.type → cx.set_of o.type ≡ RowSet len → IsTrue (belongs (cx.set_of o.type) (RowCtor s)) →
       IsValue o.type o.sure (Row items) → covers s (length (values_list items)) ≡ true → (ys : List MValue) → AreValues IsValue (parts_open cx o (RowCtor s)) ys → IsRefilled IsValue o named (RowCtor s) ys
   row_refilled o s named len items d e k w c ys a =
       let n = length (values_list items) in
@@ -220,7 +249,8 @@ module _ {T : Type 0} (IsType : T → Type 0) (IsValue : T → Bool → MValue �
       let mine : AllValues t o.sure ys = all_parts t o.sure (cx.sub (RowCtor s) o.type) (λ j. law.items o.type s (FixedShape n) j 0 d k one) 0 ys u.1 in
       go s c (u.0 ∙ law.arity o.type (RowCtor s) d k) all mine
     where
-      go : (s : MShape) → covers s (length (values_list items)) ≡ true → length ys ≡ least_length s → AllValues (cx.sub (RowCtor (FixedShape (length (values_list items)))) o.type 0) o.sure (values_list items) →
+      go : (s : MShape) → covers s (length (values_list items)) ≡ true → length ys ≡ least_length s →
+          AllValues (cx.sub (RowCtor (FixedShape (length (values_list items)))) o.type 0) o.sure (values_list items) →
           AllValues (cx.sub (RowCtor (FixedShape (length (values_list items)))) o.type 0) o.sure ys → IsRefilled IsValue o named (RowCtor s) ys
       go (FixedShape m) c l all mine =
           let same : m ≡ length (values_list items) = nat_equal m (length (values_list items)) c in
@@ -256,7 +286,8 @@ module _ {T : Type 0} (IsType : T → Type 0) (IsValue : T → Bool → MValue �
             parts = ap (parts_met (RowCtor (LongerShape f b))) (listed zs) ∙ ap (λ ws. ws ++ drop (length zs - b) zs) head ∙ ap (λ ws. front ++ ws) tail ∙ take-append-drop f ys;
           }
 
-  pub refill : (o : Open T) (piece : MCtor) (named : List (List ℕ)) (x : MValue) (set : MSet) → IsType o.type → cx.set_of o.type ≡ set → belongs set piece ≡ true → IsValue o.type o.sure x → builds named piece x ≡ true →
+  pub refill : (o : Open T) (piece : MCtor) (named : List (List ℕ)) (x : MValue) (set : MSet) → IsType o.type →
+      cx.set_of o.type ≡ set → belongs set piece ≡ true → IsValue o.type o.sure x → builds named piece x ≡ true →
       (ys : List MValue) → AreValues IsValue (parts_open cx o piece) ys → IsRefilled IsValue o named piece ys
   refill o SingleCtor named (Node j parts) SingleSet d e k w b ys a =
       let p = unparted o SingleCtor ys a in
@@ -270,12 +301,18 @@ module _ {T : Type 0} (IsType : T → Type 0) (IsValue : T → Bool → MValue �
       let p = unparted o PointCtor (y ∷ []) a in
       let r = law.point o.type d e in
       record { value = Point r.0 y; is = (r.1 o.sure r.0 y).1 (refl, p.1.0); build = refl; parts = refl }
-  refill o LaterCtor named Later (VariantSet count later) d e k w b ys a = kept o named LaterCtor Later ys w b refl (law.arity o.type LaterCtor d (belongs_too o LaterCtor (VariantSet count later) e k)) a
-  refill o (FlagCtor x) named (Flag c) FlagSet d e k w b ys a = kept o named (FlagCtor x) (Flag c) ys w b refl (law.arity o.type (FlagCtor x) d (belongs_too o (FlagCtor x) FlagSet e k)) a
-  refill o (NumbersCtor r) named (Num c) (NumberSet first second) d e k w b ys a = kept o named (NumbersCtor r) (Num c) ys w b refl (law.arity o.type (NumbersCtor r) d (belongs_too o (NumbersCtor r) (NumberSet first second) e k)) a
-  refill o (TextCtor t) named (Text c) TextSet d e k w b ys a = kept o named (TextCtor t) (Text c) ys w b refl (law.arity o.type (TextCtor t) d (belongs_too o (TextCtor t) TextSet e k)) a
-  refill o OtherTextCtor named (Text c) TextSet d e k w b ys a = kept o named OtherTextCtor (Text c) ys w b refl (law.arity o.type OtherTextCtor d (belongs_too o OtherTextCtor TextSet e k)) a
-  refill o (RowCtor s) named (Row items) (RowSet len) d e k w b ys a = row_refilled o s named len items d e (belongs_too o (RowCtor s) (RowSet len) e k) w b ys a
+  refill o LaterCtor named Later (VariantSet count later) d e k w b ys a =
+      kept o named LaterCtor Later ys w b refl (law.arity o.type LaterCtor d (belongs_too o LaterCtor (VariantSet count later) e k)) a
+  refill o (FlagCtor x) named (Flag c) FlagSet d e k w b ys a =
+      kept o named (FlagCtor x) (Flag c) ys w b refl (law.arity o.type (FlagCtor x) d (belongs_too o (FlagCtor x) FlagSet e k)) a
+  refill o (NumbersCtor r) named (Num c) (NumberSet first second) d e k w b ys a =
+      kept o named (NumbersCtor r) (Num c) ys w b refl (law.arity o.type (NumbersCtor r) d (belongs_too o (NumbersCtor r) (NumberSet first second) e k)) a
+  refill o (TextCtor t) named (Text c) TextSet d e k w b ys a =
+      kept o named (TextCtor t) (Text c) ys w b refl (law.arity o.type (TextCtor t) d (belongs_too o (TextCtor t) TextSet e k)) a
+  refill o OtherTextCtor named (Text c) TextSet d e k w b ys a =
+      kept o named OtherTextCtor (Text c) ys w b refl (law.arity o.type OtherTextCtor d (belongs_too o OtherTextCtor TextSet e k)) a
+  refill o (RowCtor s) named (Row items) (RowSet len) d e k w b ys a =
+      row_refilled o s named len items d e (belongs_too o (RowCtor s) (RowSet len) e k) w b ys a
   refill o SingleCtor named x SingleSet d e k w b ys a = untrue b
   refill o (VariantCtor i) named x (VariantSet count later) d e k w b ys a = untrue b
   refill o PointCtor named x PointSet d e k w b ys a = untrue b

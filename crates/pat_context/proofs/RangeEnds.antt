@@ -4,7 +4,8 @@ use Rattle.std.proofs.lemmas.Int.{ints}
 use Rattle.match_model.specs.Numbers.{MEnd, Free, At, MRange, in_range, is_from, is_up_to, ends_ascend}
 
 pub low_in : (r : MRange) (n : ℤ) → r.low ≡ At n → ends_ascend r.low r.high ≡ true → in_range r n ≡ true
-low_in r n e up = ap (λ x. is_from x n && is_up_to r.high n) e ∙ go r.high (subst (λ x. ends_ascend x r.high ≡ true) e up)
+low_in r n e up =
+    ap (λ x. is_from x n && is_up_to r.high n) e ∙ go r.high (subst (λ x. ends_ascend x r.high ≡ true) e up)
   where
     go : (high : MEnd) → ends_ascend (At n) high ≡ true → (int_le n n && is_up_to high n) ≡ true
     go Free u = itself n
