@@ -2,10 +2,11 @@
 use Rattle.std.proofs.Common.{◌≡◌, ℕ, ◌+◌, Bool, refl, ap}
 use Rattle.match_model.specs.Values.{MValue}
 use Rattle.match_model.specs.Constructors.{MCtor, SingleCtor, PointCtor, LaterCtor, OtherTextCtor, WildCtor, OrCtor, VariantCtor, FlagCtor, NumbersCtor, TextCtor, RowCtor}
+use Rattle.match_model.specs.ContextViews.{View}
 use Rattle.match_model.specs.ContextLaws.{ValuesLaw, PartsLaw, EmptyLaw, UnsureLaw}
 use Rattle.match_model.specs.Emptiness.{IsRustType}
 use Rattle.match_model.specs.RustTypes.{rust_context, rust_sub, RustValue}
-use Rattle.match_model.proofs.Carried.{View, values_carry, parts_carry, unsure_carries}
+use Rattle.match_model.proofs.Carried.{values_carry, parts_carry, unsure_carries}
 use Rattle.match_model.proofs.Marked.{rust_unsure}
 use Rattle.match_model.proofs.RustParts.{rust_parts}
 use Rattle.match_model.proofs.RustValues.{rust_values_law}
@@ -53,14 +54,14 @@ module _ (t : TypeTable) where
   sub_is_of (NumbersCtor r) ty i of = of
   sub_is_of (TextCtor u) ty i of = of
 
-  pub table_view : View (table_type t) (IsOf t) (IsRustType (table_program t)) (RustValue (table_program t)) (table_context t) (rust_context (table_program t))
+  pub table_view : View (table_type t) (IsOf t) (IsRustType (table_program t)) (table_context t) (rust_context (table_program t))
   table_view = record {
     set = λ ty. refl;
     arity = λ c ty. refl;
     sub = sub_is;
     is_type = rust_types t;
     part_type = λ ty e i of h lt. sub_is_of _ ty i of;
-    row_type = λ ty r i of h. sub_is_of (RowCtor r) ty i of;
+    item_type = λ ty r i of h. sub_is_of (RowCtor r) ty i of;
     one = one_id;
   }
 
@@ -74,4 +75,4 @@ module _ (t : TypeTable) where
   table_empty = empty_law t (table_context t)
 
   pub table_unsure : UnsureLaw (IsOf t) (TableValue t)
-  table_unsure = unsure_carries _ _ _ _ _ _ table_view (rust_unsure (table_program t) (sound_table t))
+  table_unsure = unsure_carries (table_type t) (IsOf t) (IsRustType (table_program t)) (RustValue (table_program t)) (table_context t) (rust_context (table_program t)) table_view (rust_unsure (table_program t) (sound_table t))
