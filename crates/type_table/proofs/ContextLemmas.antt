@@ -2,10 +2,10 @@
 use Rattle.std.proofs.Common.{◌≡◌, ℕ, ◌+◌, Bool, refl, ap}
 use Rattle.match_model.specs.Values.{MValue}
 use Rattle.match_model.specs.Constructors.{MCtor, SingleCtor, PointCtor, LaterCtor, OtherTextCtor, WildCtor, OrCtor, VariantCtor, FlagCtor, NumbersCtor, TextCtor, RowCtor}
+use Rattle.match_model.specs.ContextViews.{View}
 use Rattle.match_model.specs.ContextLaws.{ValuesLaw, PartsLaw, EmptyLaw, UnsureLaw}
 use Rattle.match_model.specs.Emptiness.{IsRustType}
 use Rattle.match_model.specs.RustTypes.{rust_context, rust_sub, RustValue}
-use Rattle.match_model.specs.ContextViews.{View}
 use Rattle.match_model.proofs.Carried.{values_carry, parts_carry, unsure_carries}
 use Rattle.match_model.proofs.Marked.{rust_unsure}
 use Rattle.match_model.proofs.RustParts.{rust_parts}
@@ -66,13 +66,13 @@ module _ (t : TypeTable) where
   }
 
   pub table_values : ValuesLaw (IsOf t) (TableValue t) (table_context t)
-  table_values = values_carry _ _ _ (RustValue (table_program t)) _ _ table_view (rust_values_law (table_program t))
+  table_values = values_carry _ _ _ _ _ _ table_view (rust_values_law (table_program t))
 
   pub table_parts : PartsLaw (IsOf t) (TableValue t) (table_context t)
-  table_parts = parts_carry _ _ _ (RustValue (table_program t)) _ _ table_view (rust_parts (table_program t) (sound_table t))
+  table_parts = parts_carry _ _ _ _ _ _ table_view (rust_parts (table_program t) (sound_table t))
 
   pub table_empty : EmptyLaw (IsOf t) (TableValue t) (table_context t) (found_empty t) (found_variant_empty t)
   table_empty = empty_law t (table_context t)
 
   pub table_unsure : UnsureLaw (IsOf t) (TableValue t)
-  table_unsure = unsure_carries _ _ _ (RustValue (table_program t)) _ _ table_view (rust_unsure (table_program t) (sound_table t))
+  table_unsure = unsure_carries (table_type t) (IsOf t) (IsRustType (table_program t)) (RustValue (table_program t)) (table_context t) (rust_context (table_program t)) table_view (rust_unsure (table_program t) (sound_table t))

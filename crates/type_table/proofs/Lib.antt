@@ -1,6 +1,7 @@
 pub mod Plains
 pub mod NodeLemmas
 pub mod TypeNodes
+pub mod Declares
 pub mod EntryLemmas
 pub mod KindLemmas
 pub mod FieldLemmas

@@ -4,6 +4,7 @@ pub mod Entries
 pub mod Bodies
 pub mod Edges
 pub mod Possible
+pub mod Keeping
 pub mod Known
 pub mod Empty
 pub mod Whole

@@ -1,9 +1,10 @@
 //! What the items of a file declare, with their types as the numbers of nodes.
 ghost use Rattle.std.specs.Prelude.{◌≡◌, true, map, length, string_bytes, IfOk, OnOk};
 ghost use Rattle.std.specs.List.{list_all, enumerate_from};
-ghost use Rattle.decl_syntax.specs.Items.{field_view, form_view, variant_view, item_view};
+ghost use Rattle.decl_syntax.specs.Items.{field_view, form_view, variant_view, kind_view, item_view};
 ghost use Rattle.type_names.specs.Written.{field_of, form_of, variant_of};
 ghost use Rattle.type_names.specs.Views.{means_in};
+ghost use Rattle.type_table.specs.Keeping.{KeepsNamed, KeepsItem, KeepsItems};
 ghost use Rattle.type_table.specs.Nodes.{AreNodes, Extends, types_in};
 ghost use Rattle.type_table.specs.Entries.{field_entry, variant_entry, variant_named, entry_told};
 ghost use Rattle.type_table.specs.Entries.{form_fields, item_told, items_told, field_below, variant_below, entry_below};
@@ -62,6 +63,7 @@ pub(crate) fn all_entries(
     requires { AreNodes nodes.old.keys }
     ensures extends { OnOk result (Extends nodes.old.keys nodes.new.keys) }
     ensures are { OnOk result (AreNodes nodes.new.keys) }
+    ensures declared { OnOk result (KeepsItems names.now (map item_view items.now) nodes.old.keys nodes.new.keys) }
     ensures below { IfOk result (λ v. list_all (entry_below (length nodes.new.keys)) v.items ≡ true) }
     ensures told { IfOk result (λ v. map (entry_told (types_in nodes.new.keys)) v.items
         ≡ items_told (means_in names.now) (map item_view items.now)) }
@@ -85,6 +87,7 @@ fn item_entry(
     requires { AreNodes nodes.old.keys }
     ensures extends { OnOk result (Extends nodes.old.keys nodes.new.keys) }
     ensures are { OnOk result (AreNodes nodes.new.keys) }
+    ensures declared { OnOk result (KeepsItem names.now i (kind_view item.now.kind) nodes.old.keys nodes.new.keys) }
     ensures below { IfOk result (λ e. entry_below (length nodes.new.keys) e ≡ true) }
     ensures told { IfOk result (λ e. entry_told (types_in nodes.new.keys) e
         ≡ item_told (means_in names.now) i (item_view item.now)) }
@@ -126,6 +129,7 @@ fn variant_entries(
     requires { AreNodes nodes.old.keys }
     ensures extends { OnOk result (Extends nodes.old.keys nodes.new.keys) }
     ensures are { OnOk result (AreNodes nodes.new.keys) }
+    ensures declared { OnOk result (KeepsNamed names.now nodes.old.keys nodes.new.keys) }
     ensures below { IfOk result (λ v. list_all (variant_below (length nodes.new.keys)) v.items ≡ true) }
     ensures variants { IfOk result (λ v. map (variant_entry (types_in nodes.new.keys)) v.items
         ≡ map (variant_of (means_in names.now)) (map variant_view variants.now)) }
@@ -149,6 +153,7 @@ fn variant_entry(
     requires { AreNodes nodes.old.keys }
     ensures extends { OnOk result (Extends nodes.old.keys nodes.new.keys) }
     ensures are { OnOk result (AreNodes nodes.new.keys) }
+    ensures declared { OnOk result (KeepsNamed names.now nodes.old.keys nodes.new.keys) }
     ensures below { IfOk result (λ v. variant_below (length nodes.new.keys) v ≡ true) }
     ensures variant { IfOk result (λ v. variant_entry (types_in nodes.new.keys) v
         ≡ variant_named (string_bytes name.now) (form_of (means_in names.now) (form_view form.now))) }
@@ -172,6 +177,7 @@ fn form_entries(
     requires { AreNodes nodes.old.keys }
     ensures extends { OnOk result (Extends nodes.old.keys nodes.new.keys) }
     ensures are { OnOk result (AreNodes nodes.new.keys) }
+    ensures declared { OnOk result (KeepsNamed names.now nodes.old.keys nodes.new.keys) }
     ensures below { IfOk result (λ v. list_all (field_below (length nodes.new.keys)) v.items ≡ true) }
     ensures fields { IfOk result (λ v. map (field_entry (types_in nodes.new.keys)) v.items
         ≡ form_fields (means_in names.now) (form_view form.now)) }
@@ -193,6 +199,7 @@ fn field_entries(
     requires { AreNodes nodes.old.keys }
     ensures extends { OnOk result (Extends nodes.old.keys nodes.new.keys) }
     ensures are { OnOk result (AreNodes nodes.new.keys) }
+    ensures declared { OnOk result (KeepsNamed names.now nodes.old.keys nodes.new.keys) }
     ensures below { IfOk result (λ v. list_all (field_below (length nodes.new.keys)) v.items ≡ true) }
     ensures fields { IfOk result (λ v. map (field_entry (types_in nodes.new.keys)) v.items
         ≡ map (field_of (means_in names.now)) (map field_view fields.now)) }
@@ -215,6 +222,7 @@ fn field_entry(
     requires { AreNodes nodes.old.keys }
     ensures extends { OnOk result (Extends nodes.old.keys nodes.new.keys) }
     ensures are { OnOk result (AreNodes nodes.new.keys) }
+    ensures declared { OnOk result (KeepsNamed names.now nodes.old.keys nodes.new.keys) }
     ensures below { IfOk result (λ f. field_below (length nodes.new.keys) f ≡ true) }
     ensures field { IfOk result (λ f. field_entry (types_in nodes.new.keys) f
         ≡ field_of (means_in names.now) (field_view field.now)) }

@@ -1,5 +1,6 @@
 //! Types, each once: a node has its parts as the numbers of earlier nodes.
 ghost use Rattle.std.specs.Prelude.{◌≡◌, ◌==◌, ◌++◌, true, length, slice_get, IfOk, OnOk, Some};
+ghost use Rattle.type_table.specs.Keeping.{KeepsWith};
 ghost use Rattle.type_table.specs.Nodes.{AreNodes, are_below, fits_head, Extends, types_in, node_type};
 ghost use Rattle.std.proofs.Common.{rules};
 ghost use Rattle.std.specs.Hash as fed;
@@ -36,6 +37,7 @@ pub(crate) fn intern(nodes: &mut IndexSet<Node>, node: Node) -> Result<usize, No
     requires fits { fits_head node.head (length node.parts.items) ≡ true }
     ensures extends { OnOk result (Extends nodes.old.keys nodes.new.keys) }
     ensures are { OnOk result (AreNodes nodes.new.keys) }
+    ensures declared { OnOk result (KeepsWith node.head nodes.old.keys nodes.new.keys) }
     ensures type_is { IfOk result (λ i. slice_get (types_in nodes.new.keys) i
         ≡ Some (node_type (types_in nodes.old.keys) node)) }
 {

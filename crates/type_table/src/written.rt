@@ -4,6 +4,7 @@ ghost use Rattle.match_model.specs.Types.{types_list, types_of as types_of_list}
 ghost use Rattle.decl_syntax.specs.Types.{type_view, types_from};
 ghost use Rattle.type_names.specs.Written.{type_of, types_of, broken_type, slice_type, array_type, named_type};
 ghost use Rattle.type_names.specs.Views.{means_in, meaning_view};
+ghost use Rattle.type_table.specs.Keeping.{Keeps, KeepsWith, KeepsMeant, KeepsNamed};
 ghost use Rattle.type_table.specs.Nodes.{AreNodes, Extends, types_in, type_at, head_type, fits_head, are_below};
 ghost use Rattle.type_table.specs.Readings.{array_length, head_of};
 
@@ -26,6 +27,7 @@ pub(crate) fn type_id(
     requires { AreNodes nodes.old.keys }
     ensures extends { OnOk result (Extends nodes.old.keys nodes.new.keys) }
     ensures are { OnOk result (AreNodes nodes.new.keys) }
+    ensures declared { OnOk result (KeepsNamed names.now nodes.old.keys nodes.new.keys) }
     ensures type_is { IfOk result (λ i. slice_get (types_in nodes.new.keys) i
         ≡ Some (type_of (means_in names.now) sized (type_view ty.now))) }
 {
@@ -66,6 +68,7 @@ fn type_ids(
     requires { AreNodes nodes.old.keys }
     ensures extends { OnOk result (Extends nodes.old.keys nodes.new.keys) }
     ensures are { OnOk result (AreNodes nodes.new.keys) }
+    ensures declared { OnOk result (KeepsNamed names.now nodes.old.keys nodes.new.keys) }
     ensures types_are { IfOk result (λ ids. map (slice_get (types_in nodes.new.keys)) ids.items
         ≡ map Some (types_list (types_of (means_in names.now) sized (types_from (map type_view types.now))))) }
 {
@@ -83,6 +86,7 @@ pub(crate) fn leaf(alloc: Global, nodes: &mut IndexSet<Node>, head: Head) -> Res
     requires fits { fits_head head 0 ≡ true }
     ensures extends { OnOk result (Extends nodes.old.keys nodes.new.keys) }
     ensures are { OnOk result (AreNodes nodes.new.keys) }
+    ensures declared { OnOk result (KeepsWith head nodes.old.keys nodes.new.keys) }
     ensures type_is { IfOk result (λ i. slice_get (types_in nodes.new.keys) i ≡ Some (head_type head [])) }
 {
     let parts = Vec::new(alloc);
@@ -101,6 +105,7 @@ fn intern_one(
     requires fits { fits_head head 1 ≡ true }
     ensures extends { OnOk result (Extends nodes.old.keys nodes.new.keys) }
     ensures are { OnOk result (AreNodes nodes.new.keys) }
+    ensures declared { OnOk result (KeepsWith head nodes.old.keys nodes.new.keys) }
     ensures type_is { IfOk result (λ i. slice_get (types_in nodes.new.keys) i
         ≡ Some (head_type head (type_at (types_in nodes.old.keys) id ∷ []))) }
 {
@@ -116,6 +121,7 @@ fn intern_all(nodes: &mut IndexSet<Node>, head: Head, ids: Vec<usize>) -> Result
     requires fits { fits_head head (length ids.items) ≡ true }
     ensures extends { OnOk result (Extends nodes.old.keys nodes.new.keys) }
     ensures are { OnOk result (AreNodes nodes.new.keys) }
+    ensures declared { OnOk result (KeepsWith head nodes.old.keys nodes.new.keys) }
     ensures type_is { IfOk result (λ i. slice_get (types_in nodes.new.keys) i
         ≡ Some (head_type head (map (type_at (types_in nodes.old.keys)) ids.items))) }
 {
@@ -127,6 +133,7 @@ fn broken_id(alloc: Global, nodes: &mut IndexSet<Node>) -> Result<usize, NoMemor
     requires { AreNodes nodes.old.keys }
     ensures extends { OnOk result (Extends nodes.old.keys nodes.new.keys) }
     ensures are { OnOk result (AreNodes nodes.new.keys) }
+    ensures declared { OnOk result (Keeps nodes.old.keys nodes.new.keys) }
     ensures type_is { IfOk result (λ i. slice_get (types_in nodes.new.keys) i ≡ Some broken_type) }
 {
     leaf(alloc, nodes, Head::Opaque(Opaque::Text))
@@ -143,6 +150,7 @@ fn slice_id(
     requires below { id < length nodes.old.keys }
     ensures extends { OnOk result (Extends nodes.old.keys nodes.new.keys) }
     ensures are { OnOk result (AreNodes nodes.new.keys) }
+    ensures declared { OnOk result (Keeps nodes.old.keys nodes.new.keys) }
     ensures type_is { IfOk result (λ i. slice_get (types_in nodes.new.keys) i
         ≡ Some (slice_type sized (type_at (types_in nodes.old.keys) id))) }
 {
@@ -165,6 +173,7 @@ fn array_id(
     requires below { id < length nodes.old.keys }
     ensures extends { OnOk result (Extends nodes.old.keys nodes.new.keys) }
     ensures are { OnOk result (AreNodes nodes.new.keys) }
+    ensures declared { OnOk result (Keeps nodes.old.keys nodes.new.keys) }
     ensures type_is { IfOk result (λ i. slice_get (types_in nodes.new.keys) i
         ≡ Some (array_type (type_at (types_in nodes.old.keys) id) len suffix.now)) }
 {
@@ -196,6 +205,7 @@ fn named_id(
     requires below { are_below ids.items (length nodes.old.keys) ≡ true }
     ensures extends { OnOk result (Extends nodes.old.keys nodes.new.keys) }
     ensures are { OnOk result (AreNodes nodes.new.keys) }
+    ensures declared { OnOk result (KeepsMeant meaning nodes.old.keys nodes.new.keys) }
     ensures type_is { IfOk result (λ i. slice_get (types_in nodes.new.keys) i
         ≡ Some (named_type sized (option_map meaning_view meaning)
         (types_of_list (map (type_at (types_in nodes.old.keys)) ids.items)))) }

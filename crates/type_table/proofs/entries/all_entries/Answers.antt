@@ -2,6 +2,7 @@ use Rattle.std.proofs.Common.{map, take, sym, ◌∙◌}
 use Rattle.decl_syntax.specs.Items.{item_view}
 use Rattle.type_names.specs.Views.{means_in}
 use Rattle.type_table.specs.Entries.{entry_below, entry_told, items_told}
+use Rattle.type_table.proofs.Declares.{items_more}
 use Rattle.type_table.proofs.NodeLemmas.{extends_twice}
 use Rattle.type_table.proofs.EntryLemmas.{entries_more, entry_same, entry_still, told_more}
 use Rattle.type_table.proofs.entries.all_entries.Goals as goal
@@ -18,6 +19,7 @@ loop-i-preserved c =
     record {
       extends = extends_twice c.args.nodes.now.keys old new c.loop-i.invariant.extends c.in_ok-entry.ensures.extends;
       are = c.in_ok-entry.ensures.are;
+      declared = items_more c.args.items.now c.loop-i.i c.index-items-i.result c.loop-i-test.true c.index-items-i.is c.loop-i.invariant.declared c.in_ok-entry.ensures.declared;
       below = step.0;
       told = step.1 ∙ sym (told_more names c.args.items.now c.loop-i.i c.index-items-i.result c.loop-i-test.true c.index-items-i.is);
     }

@@ -3,6 +3,7 @@ use Rattle.decl_syntax.specs.Items.{field_view}
 use Rattle.type_names.specs.Written.{field_of}
 use Rattle.type_names.specs.Views.{means_in}
 use Rattle.type_table.specs.Entries.{field_below, field_entry}
+use Rattle.type_table.proofs.Declares.{keeps_twice}
 use Rattle.type_table.proofs.NodeLemmas.{extends_twice}
 use Rattle.type_table.proofs.EntryLemmas.{entries_more, field_same, field_still, map_front_more}
 use Rattle.type_table.proofs.entries.field_entries.Goals as goal
@@ -19,6 +20,7 @@ loop-field-preserved c =
     record {
       extends = extends_twice c.args.nodes.now.keys old new c.loop-field.invariant.extends c.in_ok-entry.ensures.extends;
       are = c.in_ok-entry.ensures.are;
+      declared = keeps_twice c.loop-field.invariant.declared c.in_ok-entry.ensures.declared;
       below = step.0;
       told = step.1 ∙ sym (map_front_more (field_of names) field_view c.args.fields.now c.loop-field.field-index c.field-item.result c.loop-field-test.true c.field-item.is);
     }

@@ -3,6 +3,7 @@ use Rattle.decl_syntax.specs.Items.{variant_view}
 use Rattle.type_names.specs.Written.{variant_of}
 use Rattle.type_names.specs.Views.{means_in}
 use Rattle.type_table.specs.Entries.{variant_below, variant_entry}
+use Rattle.type_table.proofs.Declares.{keeps_twice}
 use Rattle.type_table.proofs.NodeLemmas.{extends_twice}
 use Rattle.type_table.proofs.EntryLemmas.{entries_more, variant_same, variant_still, map_front_more}
 use Rattle.type_table.proofs.entries.variant_entries.Goals as goal
@@ -19,6 +20,7 @@ loop-variant-preserved c =
     record {
       extends = extends_twice c.args.nodes.now.keys old new c.loop-variant.invariant.extends c.in_ok-entry.ensures.extends;
       are = c.in_ok-entry.ensures.are;
+      declared = keeps_twice c.loop-variant.invariant.declared c.in_ok-entry.ensures.declared;
       below = step.0;
       told = step.1 ∙ sym (map_front_more (variant_of names) variant_view c.args.variants.now c.loop-variant.variant-index c.variant-item.result c.loop-variant-test.true c.variant-item.is);
     }

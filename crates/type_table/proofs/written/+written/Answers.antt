@@ -1,4 +1,4 @@
-use Rattle.std.proofs.Common.{◌≡◌, ◌+◌, List, true, map, take, Some, sym, ap, ◌∙◌, rules, subst, string_bytes}
+use Rattle.std.proofs.Common.{◌≡◌, ◌+◌, List, true, map, take, Some, refl, sym, ap, ◌∙◌, rules, subst, string_bytes}
 use Rattle.std.specs.Prelude.{option_map, slice_get, IfOk}
 use Rattle.match_model.specs.Types.{MType, MTypes, TupleType, types_list}
 use Rattle.match_model.specs.Types.{types_of as types_of_list}
@@ -11,6 +11,7 @@ use Rattle.type_names.specs.Views.{means_in, meaning_view}
 use Rattle.type_names.specs.Written.{types_of, named_type}
 use Rattle.type_table.specs.Nodes.{types_in}
 use Rattle.type_names.proofs.Places.{front_more}
+use Rattle.type_table.proofs.Declares.{ok_keeps, keeps_then, keeps_none, keeps_on, keeps_meant, keeps_twice}
 use Rattle.type_table.proofs.NodeLemmas.{extends_twice}
 use Rattle.type_table.proofs.TypeNodes.{id_below, ids_below, ids_types, list_there, tuple_seen, named_seen, ids_more}
 use Rattle.type_table.proofs.written.+written.Goals as goal
@@ -64,8 +65,29 @@ pub type_ids-loop-ty-preserved : goal.type_ids-loop-ty-preserved
 type_ids-loop-ty-preserved t c = record {
   extends = extends_twice c.args.nodes.now.keys c.loop-ty.nodes.keys c.type_id.new.nodes.keys c.loop-ty.invariant.extends c.in_ok-id.ensures.extends;
   are = c.in_ok-id.ensures.are;
+  declared = keeps_twice c.loop-ty.invariant.declared c.in_ok-id.ensures.declared;
   types_are = ids_more c.loop-ty.nodes.keys c.type_id.new.nodes.keys c.loop-ty.ids.items c.push.new.self.items (means_in c.args.names.now) c.args.sized
       (map type_view (take c.loop-ty.ty-index c.args.types.now)) (map type_view (take (c.loop-ty.ty-index + 1) c.args.types.now)) (type_view c.ty-item.result) c.in_ok-id.id
       c.in_ok-id.ensures.extends c.loop-ty.invariant.types_are c.in_ok-id.ensures.type_is c.in_ok-push.ensures.items
       (front_more type_view c.args.types.now c.loop-ty.ty-index c.ty-item.result c.loop-ty-test.true c.ty-item.is);
 }
+
+pub type_id-returns-in-Never-clause-declared : goal.type_id-returns-in-Never-clause-declared
+type_id-returns-in-Never-clause-declared t c = ok_keeps c.leaf.result (keeps_then (λ is. refl) (keeps_none c.args.nodes.now.keys)) c.leaf.ensures.declared
+
+pub type_id-returns-in_ok-ids-in-Tuple-clause-declared : goal.type_id-returns-in_ok-ids-in-Tuple-clause-declared
+type_id-returns-in_ok-ids-in-Tuple-clause-declared t c = ok_keeps c.intern_all.result (keeps_then (λ is. refl) c.in_ok-ids-in-Tuple.ensures.declared) c.intern_all.ensures.declared
+
+pub type_id-returns-in_ok-id-in-Point-clause-declared : goal.type_id-returns-in_ok-id-in-Point-clause-declared
+type_id-returns-in_ok-id-in-Point-clause-declared t c = ok_keeps c.intern_one.result (keeps_then (λ is. refl) c.in_ok-id-in-Point.ensures.declared) c.intern_one.ensures.declared
+
+pub type_id-returns-in_ok-id-in-Slice-clause-declared : goal.type_id-returns-in_ok-id-in-Slice-clause-declared
+type_id-returns-in_ok-id-in-Slice-clause-declared t c = ok_keeps c.slice_id.result (keeps_on c.in_ok-id-in-Slice.ensures.declared) c.slice_id.ensures.declared
+
+pub type_id-returns-in_ok-id-in-Array-clause-declared : goal.type_id-returns-in_ok-id-in-Array-clause-declared
+type_id-returns-in_ok-id-in-Array-clause-declared t c = ok_keeps c.array_id.result (keeps_on c.in_ok-id-in-Array.ensures.declared) c.array_id.ensures.declared
+
+pub type_id-returns-in_ok-ids-in-Named-clause-declared : goal.type_id-returns-in_ok-ids-in-Named-clause-declared
+type_id-returns-in_ok-ids-in-Named-clause-declared t c =
+    let meant : option_map meaning_view c.meaning.result ≡ means_in c.args.names.now (string_bytes c.in-Named.name) = search rules in
+    ok_keeps c.named_id.result (keeps_meant (string_bytes c.in-Named.name) meant c.in_ok-ids-in-Named.ensures.declared) c.named_id.ensures.declared

@@ -9,7 +9,8 @@ use Rattle.type_names.specs.Views.{meaning_view}
 use Rattle.type_names.specs.Written.{named_type}
 use Rattle.type_table.specs.Nodes.{type_at, types_in}
 use Rattle.type_table.specs.declared.nodes.Head.{Head}
-use Rattle.type_table.specs.Readings.{type_with}
+use Rattle.type_table.specs.Readings.{type_with, head_of}
+use Rattle.type_table.proofs.Declares.{ok_keeps, keeps_broken, keeps_head}
 use Rattle.type_table.proofs.TypeNodes.{miscounted, counted, differ_test, same_test}
 use Rattle.type_table.proofs.written.named_id.Goals as goal
 
@@ -35,3 +36,12 @@ returns-in-Some-head_of-clause-type_is c =
     ∙ (counted c.args.sized c.in-Some.meaning args (same_test (length args) c.len.result c.argument_count.result (argument_count (meaning_view c.in-Some.meaning)) count c.argument_count.ensures c.if-len-argument_count.false)
     ∙ ap (λ (o : Option plain_meanings.Meaning). named_type c.args.sized o (types_of_list args)) given))
     c.intern_all.ensures.type_is
+
+pub returns-then-len-argument_count-clause-declared : goal.returns-then-len-argument_count-clause-declared
+returns-then-len-argument_count-clause-declared c = ok_keeps c.broken_id-then-len-argument_count.result keeps_broken c.broken_id-then-len-argument_count.ensures.declared
+
+pub returns-in-Some-head_of-clause-declared : goal.returns-in-Some-head_of-clause-declared
+returns-in-Some-head_of-clause-declared c =
+    let given : Some c.in-Some.meaning ≡ c.args.meaning = search rules in
+    let head : head_of c.args.sized c.in-Some.meaning ≡ Some c.in-Some-head_of.head = search rules in
+    ok_keeps c.intern_all.result (keeps_head c.args.sized given head) c.intern_all.ensures.declared
