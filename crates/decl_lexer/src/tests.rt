@@ -12,9 +12,9 @@ const PLACES: [(u64, u64); 3] = [(4, 7), (16, 23), (24, 32)];
 /// The name, the value or the text of a token.
 fn is_expected(number: usize, token: &Token) -> bool {
     match &token.kind {
-        TokenKind::Name { text, raw } => number == 0 && text.as_str() == "\u{e9}" && !*raw,
-        TokenKind::Int { value, suffix, .. } => {
-            number == 1 && *value == Some(31) && suffix.as_str() == "u8"
+        TokenKind::Name(name) => { number == 0 && name.text.as_str() == "\u{e9}" && !name.raw }
+        TokenKind::Int(int) => {
+            number == 1 && int.value == Some(31) && int.suffix.as_str() == "u8"
         }
         TokenKind::Str(text) => number == 2 && text.as_str() == "\u{e9}",
         _ => false,
