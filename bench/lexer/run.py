@@ -75,7 +75,7 @@ def build():
     repo = OUT / "repo"
     repo.mkdir(parents=True, exist_ok=True)
     shutil.copytree(ROOT / "crates", repo / "crates", dirs_exist_ok=True, ignore=shutil.ignore_patterns("must-fail"))
-    needed = [line for line in (ROOT / "crates.txt").read_text().splitlines() if line.split(":")[0] in ("match_model", "decl_lexer")]
+    needed = [line for line in (ROOT / "crates.txt").read_text().splitlines() if line.split(":")[0] in ("no_memory", "decl_lexer")]
     (repo / "crates.txt").write_text("\n".join(needed + ["lexer_bench: decl_lexer"]) + "\n")
     crate = repo / "crates" / "lexer_bench"
     (crate / "src").mkdir(parents=True, exist_ok=True)

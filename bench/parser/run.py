@@ -20,7 +20,7 @@ SIZE = 16 * 1024 * 1024
 RUNS = 3
 # How much longer a source may take than half of it.
 GROWTH = 2.2
-CRATES = ("match_model", "decl_lexer", "decl_syntax", "decl_parser")
+CRATES = ("no_memory", "decl_lexer", "decl_syntax", "decl_parser")
 
 MAIN = """//! Parses each file, and prints how many tokens it has, what came out and how long that took.
 #![tactic(auto)]

@@ -11,7 +11,7 @@ import subprocess
 import tempfile
 
 ROOT = pathlib.Path(__file__).resolve().parent.parent.parent
-CRATES = ("match_model", "range_split", "slice_split")
+CRATES = ("no_memory", "match_model", "range_split", "slice_split")
 COUNTS = (1_000, 10_000, 100_000)
 RUNS = 10
 

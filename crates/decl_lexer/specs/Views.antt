@@ -1,5 +1,5 @@
 -- What a caller sees of pieces and of answers.
-use Rattle.std.specs.Prelude.{◌≡◌, ℕ, List, chars, String, string_bytes, Result, Ok, Err}
+use Rattle.std.specs.Prelude.{◌≡◌, ℕ, true, List, [], Some, chars, String, string_bytes, Result, Ok, Err}
 use denote.Ref.{Bor}
 use Rattle.std.specs.declared.alloc.Global.{Global}
 use Rattle.decl_lexer.specs.declared.marks.Mark.{Mark}
@@ -22,15 +22,16 @@ char_view p = (p.0, chars p.1.now)
 
 -- a token's kind, without where its text lies in memory
 abbrev pub lexeme_view : TokenKind → Lexeme
-lexeme_view (kinds.Name text raw) = Named (string_bytes text) raw
+lexeme_view (kinds.Name name) = Named (string_bytes name.value.text) name.value.raw
 lexeme_view (kinds.Word word) = Keyword word
 lexeme_view (kinds.Mark mark) = Marked mark
 lexeme_view kinds.Lifetime = Lifetime
-lexeme_view (kinds.Int value suffix decimal) = Integer value (string_bytes suffix) decimal
+lexeme_view (kinds.Small value) = Integer (Some value) [] true
+lexeme_view (kinds.Int integer) = Integer integer.value.value (string_bytes integer.value.suffix) integer.value.decimal
 lexeme_view kinds.Float = Float
 lexeme_view (kinds.Char c) = Character c
 lexeme_view (kinds.Byte b) = Byte b
-lexeme_view (kinds.Str text) = Text (string_bytes text)
+lexeme_view (kinds.Str text) = Text (string_bytes text.value)
 lexeme_view kinds.ByteStr = ByteText
 lexeme_view kinds.CStr = CText
 

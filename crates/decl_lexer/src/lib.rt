@@ -32,5 +32,5 @@ pub use laws::{
 };
 pub use lexing::{lex, name_form, next_token};
 pub use marks::Mark;
-pub use token::{LexFault, Token, TokenKind};
+pub use token::{IntToken, LexFault, NameToken, Token, TokenKind};
 pub use words::{Word, word_of};

@@ -2,13 +2,14 @@
 ghost use Rattle.std.specs.Prelude.{◌≡◌, IfOk, chars, string_bytes, encode_utf8_all};
 ghost use Rattle.unicode_normalization.specs.Forms.{nfc};
 ghost use Rattle.decl_lexer.specs.Text.{first_passes};
+ghost use Rattle.decl_lexer.specs.Begins.{Named};
 ghost use Rattle.decl_lexer.specs.Names.{is_name_start, lexeme_of, name_at, raw_name_at};
 ghost use Rattle.decl_lexer.specs.Views.{GivesPiece, lexeme_view};
 
 use crate::marks::Mark;
 use crate::pieces::{Piece, PieceError};
 use crate::text::{split_first, split_name};
-use crate::token::TokenKind;
+use crate::token::{NameToken, TokenKind};
 use crate::words::{can_be_raw, word_of};
 use std::alloc::{AllocError, Global};
 use unicode_normalization::to_nfc;
@@ -39,7 +40,8 @@ pub fn raw_name_at<'a>(
         });
     }
     let text = in_nfc(alloc, name)?;
-    Ok((Piece::Token(TokenKind::Name { text, raw: true }), rest))
+    let kind = name_kind(alloc, text, true)?;
+    Ok((Piece::Token(kind), rest))
 }
 
 /// What a name is: a keyword, the mark `_`, or a name.
@@ -53,9 +55,16 @@ fn kind_of(alloc: Global, name: &str) -> Result<TokenKind, AllocError>
         Some(word) => Ok(TokenKind::Word(word)),
         None => {
             let text = in_nfc(alloc, name)?;
-            Ok(TokenKind::Name { text, raw: false })
+            name_kind(alloc, text, false)
         }
     }
+}
+
+/// The token of a name.
+fn name_kind(alloc: Global, text: String, raw: bool) -> Result<TokenKind, AllocError>
+    ensures { IfOk result (λ kind. lexeme_view kind ≡ Named (string_bytes text) raw) }
+{
+    Ok(TokenKind::Name(Box::new(alloc, NameToken { text, raw })?))
 }
 
 /// The text in NFC. ASCII text is in NFC already.

@@ -1,15 +1,16 @@
 //! Integer and floating-point literals.
-ghost use Rattle.std.specs.Prelude.{◌≡◌, ◌+◌, ◌*◌, ◌<◌, ◌≤◌, ◌∷◌, ℕ, drop, chars, encode_utf8_all, MatchOption, Ok, true, false};
+ghost use Rattle.std.specs.Prelude.{◌≡◌, ◌+◌, ◌*◌, ◌<◌, ◌≤◌, ◌∷◌, ℕ, drop, chars, encode_utf8_all, IfOk, IfSome, MatchOption, Ok, Some, true, false};
 ghost use Rattle.std.specs.Char.{is_digit};
 ghost use Rattle.decl_lexer.specs.Text.{first_passes};
 ghost use Rattle.decl_lexer.specs.Numbers.{behind_digits, has_digit, has_other_digit, number_from, in_128_bits, suffix_of, behind_suffix, is_exponent_letter, behind_sign, has_exponent, behind_exponent, integer_at, based_at, float_at, fraction_at, is_point, decimal_at, number_at};
-ghost use Rattle.decl_lexer.specs.Views.{GivesPiece};
+ghost use Rattle.decl_lexer.specs.Begins.{Integer};
+ghost use Rattle.decl_lexer.specs.Views.{GivesPiece, lexeme_view};
 
 use crate::names::{is_name_start, starts_name};
 use crate::pieces::{Piece, PieceError};
 use crate::text::{first_is, skip_first, split_first, split_name};
-use crate::token::TokenKind;
-use std::alloc::Global;
+use crate::token::{IntToken, TokenKind};
+use std::alloc::{AllocError, Global};
 
 /// The digits and underscores that a text begins with, read in a base.
 #[derive(Drop)]
@@ -118,13 +119,43 @@ fn integer_at<'a>(
         });
     }
     let (suffix, rest) = split_suffix(behind);
+    let kind = integer_kind(alloc, value, suffix, decimal)?;
+    Ok((Piece::Token(kind), rest))
+}
+
+/// The token of an integer.
+fn integer_kind(
+    alloc: Global,
+    value: Option<u128>,
+    suffix: &str,
+    decimal: bool,
+) -> Result<TokenKind, AllocError>
+    ensures { IfOk result (λ kind. lexeme_view kind ≡ Integer value suffix.now decimal) }
+{
+    if decimal && suffix.is_empty() {
+        if let Some(small) = small_value(value) {
+            return Ok(TokenKind::Small(small));
+        }
+    }
     let suffix = String::from_str(alloc, suffix)?;
-    let kind = TokenKind::Int {
+    let integer = IntToken {
         value,
         suffix,
         decimal,
     };
-    Ok((Piece::Token(kind), rest))
+    Ok(TokenKind::Int(Box::new(alloc, integer)?))
+}
+
+/// The value, where it is below 2^64.
+fn small_value(value: Option<u128>) -> Option<u64>
+    ensures { IfSome result (λ small. value ≡ Some small) }
+{
+    let value = value?;
+    if value <= u64::MAX as u128 {
+        Some(value as u64)
+    } else {
+        None
+    }
 }
 
 /// A float, behind whose digits or exponent the text begins.

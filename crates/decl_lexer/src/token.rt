@@ -14,32 +14,41 @@ pub struct Token {
     pub to: u64,
 }
 
-/// What a token is.
+/// An identifier: its text in NFC, without its `r#`, and whether it had one.
+#[derive(Debug, Drop)]
+pub struct NameToken {
+    pub text: String,
+    pub raw: bool,
+}
+
+/// An integer literal. `value` is `None` from 2^128 on, `suffix` is as written, or empty, and `decimal` says that no base
+/// stands before the digits.
+#[derive(Debug, Drop)]
+pub struct IntToken {
+    pub value: Option<u128>,
+    pub suffix: String,
+    pub decimal: bool,
+}
+
+/// What a token is. What takes more than eight bytes stands behind a box, so that a token takes 32.
 ///
 /// Source: the Rust Reference, "Tokens".
 #[derive(Debug, Drop)]
 pub enum TokenKind {
-    /// An identifier in NFC, without its `r#`.
-    Name {
-        text: String,
-        raw: bool,
-    },
+    Name(Box<NameToken>),
     Word(Word),
     Mark(Mark),
     /// A lifetime or a raw lifetime.
     Lifetime,
-    /// An integer literal. `value` is `None` from 2^128 on, `suffix` is as written, or empty, and
-    /// `decimal` says that no base stands before the digits.
-    Int {
-        value: Option<u128>,
-        suffix: String,
-        decimal: bool,
-    },
+    /// A decimal integer below 2^64 without a suffix.
+    Small(u64),
+    /// Any other integer.
+    Int(Box<IntToken>),
     Float,
     Char(char),
     Byte(u8),
     /// A text, with a line feed for each CR LF and with its escapes read.
-    Str(String),
+    Str(Box<String>),
     ByteStr,
     CStr,
 }

@@ -11,7 +11,7 @@ use Rattle.decl_syntax.specs.Runs.{Part, Opens, Closes, Inside, part_of, behind_
 use Rattle.decl_syntax.specs.Reading.{Gives}
 use Rattle.decl_syntax.proofs.Joined.{some_is}
 use Rattle.decl_parser.specs.declared.runs.Until.{Until}
-use Rattle.decl_parser.specs.RunGrammar.{stops, closes, ends_run, NoneOutside, SpellsRun, spelled, NoRun}
+use Rattle.decl_parser.specs.RunGrammar.{stops, closes, ends_run, NoneOutside, SpellsRun, spelled}
 use Rattle.decl_parser.specs.RunReading.{outside, skip_step, skip_from, skip_at, run_at}
 
 -- ---- lists
@@ -168,16 +168,6 @@ run_sound stop ts rest e = by_case (first_passes (ends_run stop) ts) refl e
 
 pub run_shrinks : (stop : Until) (ts rest : List Placed) → SpellsRun stop ts rest → length rest < length ts
 run_shrinks stop _ _ (spelled first run rest p n e) = omega (arith, length-append run rest)
-
--- what a function promises that gives the tokens behind a run
-pub run_found : {X : Type 0} (view : X → List Placed) (stop : Until) (ts : List Placed) (r : Result X Stop) → Gives view r (run_at stop ts) → IfOk r (λ x. SpellsRun stop ts (view x))
-run_found view stop ts (Ok x) g = run_sound stop ts (view x) g
-run_found view stop ts (Err e) g = tt
-
-pub run_none : {X : Type 0} (view : X → List Placed) (stop : Until) (ts : List Placed) (r : Result X Stop) → Gives view r (run_at stop ts) → IfErr r (NoRun stop ts)
-run_none view stop ts (Ok x) g = tt
-run_none view stop ts (Err stops_at.Memory) g = tt
-run_none view stop ts (Err stops_at.Syntax) g = λ rest s. let k = run_complete stop ts rest s in absurd cc
 
 pub one_place : (stop : Until) (ts us vs : List Placed) → SpellsRun stop ts us → SpellsRun stop ts vs → us ≡ vs
 one_place stop ts us vs p q = some_is _ _ (sym (run_complete stop ts us p) ∙ run_complete stop ts vs q)

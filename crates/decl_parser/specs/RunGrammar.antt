@@ -38,11 +38,6 @@ pub data SpellsRun (stop : Until) : List Placed → List Placed → Type 0 where
   spelled : (first : Placed) (run rest : List Placed) → pairs_up (first ∷ run) [] ≡ true → NoneOutside stop (first ∷ run) []
       → first_passes (ends_run stop) rest ≡ true → SpellsRun stop (first ∷ run ++ rest) rest
 
--- memory ran out, or the tokens begin with no run
-abbrev pub NoRun : Until → List Placed → Stop → Type 0
-NoRun stop ts stops_at.Memory = Unit {0}
-NoRun stop ts stops_at.Syntax = (rest : List Placed) → SpellsRun stop ts rest → ⊥
-
 -- tokens begin with at most one run of a kind
 abbrev pub OneRun : Type 0
 OneRun = (stop : Until) (ts us vs : List Placed) → SpellsRun stop ts us → SpellsRun stop ts vs → us ≡ vs

@@ -1,5 +1,6 @@
 //! Visibilities, fields and the forms that they make.
-ghost use Rattle.std.specs.Prelude.{◌≡◌, map, option_map, string_bytes, true};
+ghost use Rattle.std.specs.Prelude.{◌≡◌, ◌++◌, ◌∷◌, [], map, option_map, string_bytes, true, IfOk, IfErr};
+ghost use Rattle.decl_syntax.specs.declared.stop.Stop.TheVariants.{Memory};
 ghost use Rattle.decl_syntax.specs.Units.{left, behind, first_passes};
 ghost use Rattle.decl_syntax.specs.Reading.{Gives};
 ghost use Rattle.decl_syntax.specs.Items.{field_view, form_view};
@@ -125,6 +126,18 @@ fn closing(braced: bool) -> Mark
     }
 }
 
+/// Appends a field to a list, which begins with room for one: many lists have no more.
+fn push(fields: &mut Vec<Field>, field: Field) -> Result<(), Stop>
+    ensures items { IfOk result (λ _. fields.new.items ≡ fields.old.items ++ field ∷ []) }
+    ensures memory { IfErr result (λ e. e ≡ Memory) }
+{
+    if fields.is_empty() {
+        fields.reserve_exact(1)?;
+    }
+    fields.push(field)?;
+    Ok(())
+}
+
 /// The fields of a form, and the place behind the bracket that closes them.
 fn fields_at(alloc: Global, braced: bool, at: Cursor<'_>) -> Result<(Vec<Field>, Cursor<'_>), Stop>
     ensures { Gives (λ x. (map field_view x.0.items, left x.1)) result (fields_at braced (left at.entry)) }
@@ -137,7 +150,7 @@ fn fields_at(alloc: Global, braced: bool, at: Cursor<'_>) -> Result<(Vec<Field>,
             return Ok((found, behind));
         }
         let (one, after) = field_at(alloc, braced, rest)?;
-        found.push(one)?;
+        push(&mut found, one)?;
         if let Some(behind) = behind(after, close) {
             return Ok((found, behind));
         }

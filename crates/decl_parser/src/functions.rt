@@ -1,10 +1,9 @@
 //! A function, from the `(` behind its name on.
-ghost use Rattle.std.specs.Prelude.{◌≡◌, string_bytes, IfOk, IfErr};
+ghost use Rattle.std.specs.Prelude.{◌≡◌, string_bytes};
 ghost use Rattle.decl_syntax.specs.Units.{left};
 ghost use Rattle.decl_syntax.specs.Types.{type_view};
-ghost use Rattle.decl_syntax.specs.Grammar.{NoneSpelled};
 ghost use Rattle.decl_syntax.specs.Reading.{Gives};
-ghost use Rattle.decl_parser.specs.FunctionGrammar.{body_view, SpellsFunction, OneFunction};
+ghost use Rattle.decl_parser.specs.FunctionGrammar.{body_view, OneFunction};
 ghost use Rattle.decl_parser.specs.FunctionReading.{parameter_at, returned_at, scrutinee_at, head_at, function_at};
 
 use crate::arms::arms_at;
@@ -23,19 +22,10 @@ pub struct Body {
     pub arms: Vec<Arm>,
 }
 
-/// Reads a function from the `(` behind its name and parameters in `<..>` on, and gives the place behind
-/// it: its one parameter, what it returns, and a block that is a match on that parameter. Where there is
-/// none it answers `Syntax`; want of memory is the one free answer.
+/// A function from the `(` behind its name and parameters in `<..>` on, and the place behind it: its one parameter,
+/// what it returns, and a block that is a match on that parameter.
 ///
 /// Source: the Rust Reference, "Functions" and "Match expressions"; the form of the block is our own choice.
-pub fn read_function(alloc: Global, at: Cursor<'_>) -> Result<(Body, Cursor<'_>), Stop>
-    ensures found { IfOk result (λ x. SpellsFunction (left at.entry) (body_view x.0) (left x.1)) }
-    ensures none { IfErr result (NoneSpelled SpellsFunction (left at.entry)) }
-{
-    function_at(alloc, at)
-}
-
-/// A function, from its `(` on, and the place behind it.
 #[tactic(auto, unfolding(crate::specs::FunctionReading::function_at))]
 pub fn function_at(alloc: Global, at: Cursor<'_>) -> Result<(Body, Cursor<'_>), Stop>
     ensures { Gives (λ x. (body_view x.0, left x.1)) result (function_at (left at.entry)) }

@@ -17,10 +17,6 @@ mod arms;
 mod declarations;
 mod fields;
 mod file;
-#[cfg(test)]
-mod file_tests;
-#[cfg(test)]
-mod function_tests;
 mod functions;
 mod items;
 mod laws;
@@ -29,10 +25,10 @@ mod params;
 mod parts;
 mod runs;
 #[cfg(test)]
-mod source_tests;
+mod tests;
 mod widths;
 
 pub use file::{ParseFault, parse};
-pub use functions::{Body, one_function, read_function};
+pub use functions::one_function;
 pub use laws::{file_or_fault, one_fault, one_file, some_answer};
-pub use runs::{Until, one_run, skip_run};
+pub use runs::one_run;

@@ -1,10 +1,10 @@
 //! Runs: tokens that are skipped, whose brackets pair up.
-ghost use Rattle.std.specs.Prelude.{◌≡◌, ◌&&◌, [], IfOk, IfErr};
+ghost use Rattle.std.specs.Prelude.{◌≡◌, ◌&&◌, []};
 ghost use Rattle.decl_lexer.specs.Begins.{Marked};
 ghost use Rattle.decl_syntax.specs.Units.{left, unit_view, first_passes};
 ghost use Rattle.decl_syntax.specs.Reading.{Gives};
 ghost use Rattle.decl_syntax.specs.Runs.{part_of};
-ghost use Rattle.decl_parser.specs.RunGrammar.{stops, closes, ends_run, SpellsRun, NoRun, OneRun};
+ghost use Rattle.decl_parser.specs.RunGrammar.{stops, closes, ends_run, OneRun};
 ghost use Rattle.decl_parser.specs.RunReading.{skip_at, run_at};
 
 use decl_lexer::Mark;
@@ -26,19 +26,10 @@ pub enum Until {
     CommaOrArrow,
 }
 
-/// Skips the run behind a place: one token or more, whose round, square and curly brackets pair up, up
-/// to the first token outside of them that ends it. It answers `Syntax` where there is none, as where the
-/// tokens are over before the run has ended; want of memory is the one free answer.
+/// The place behind a run: one token or more, whose round, square and curly brackets pair up, up to the first token
+/// outside of them that ends it.
 ///
 /// Source: the Rust Reference, "Macros", whose token trees these are; where they end is our own choice.
-pub fn skip_run(alloc: Global, at: Cursor<'_>, until: Until) -> Result<Cursor<'_>, Stop>
-    ensures found { IfOk result (λ x. SpellsRun until (left at.entry) (left x)) }
-    ensures none { IfErr result (NoRun until (left at.entry)) }
-{
-    run_at(alloc, at, until)
-}
-
-/// The place behind a run.
 #[tactic(auto, unfolding(crate::specs::RunReading::run_at))]
 pub fn run_at(alloc: Global, at: Cursor<'_>, until: Until) -> Result<Cursor<'_>, Stop>
     ensures { Gives left result (run_at until (left at.entry)) }

@@ -34,7 +34,8 @@ abbrev pub lit_view : Lit → LitTree
 lit_view (lits.Flag b) = Flag b
 lit_view (lits.Char c) = Char c
 lit_view (lits.Byte b) = Byte b
-lit_view (lits.Int negative size suffix) = Int negative size (string_bytes suffix)
+lit_view (lits.Small negative size) = Int negative (Some size) []
+lit_view (lits.Int int) = Int int.value.negative int.value.size (string_bytes int.value.suffix)
 lit_view (lits.Str text) = Str (string_bytes text)
 lit_view lits.Other = Other
 
@@ -106,13 +107,13 @@ shape_step (open_kind.Lit l) = Literal (lit_view l)
 shape_step (open_kind.Name text) = Name (string_bytes text)
 shape_step (open_kind.Bind name by_ref mutable sub) = bind_shape (string_bytes name) by_ref mutable (option_map (λ b. b.value) sub)
 shape_step (open_kind.Path path) = Path (path_view path)
-shape_step (open_kind.TupleForm path items) = TupleForm (path_view path) (patterns_from items.items)
-shape_step (open_kind.Brace path fields rest) = Brace (path_view path) (fields_from fields.items) rest
+shape_step (open_kind.TupleForm path items) = TupleForm (path_view path.value) (patterns_from items.items)
+shape_step (open_kind.Brace path fields rest) = Brace (path_view path.value) (fields_from fields.items) rest
 shape_step (open_kind.Tuple items) = Tuple (patterns_from items.items)
 shape_step (open_kind.Group inner) = Group inner.value
 shape_step (open_kind.Slice items) = Slice (patterns_from items.items)
 shape_step (open_kind.Point mutable inner) = Point mutable inner.value
-shape_step (open_kind.Range low high closed) = Range (option_map lit_view low) (option_map lit_view high) closed
+shape_step (open_kind.Range range) = Range (option_map lit_view range.value.low) (option_map lit_view range.value.high) range.value.closed
 shape_step (open_kind.Or all) = Or (patterns_from all.items)
 
 -- the same of a pattern with its place

@@ -91,7 +91,7 @@ fn first_word<'a>(word: Option<&'a String>, unit: Unit<'a>) -> Option<&'a String
         return Some(word);
     }
     match unit.kind {
-        Seen::Other(TokenKind::Name { text, .. }) => Some(text),
+        Seen::Other(TokenKind::Name(name)) => Some(&name.text),
         _ => None,
     }
 }

@@ -156,7 +156,7 @@ pub fn name_at(at: Cursor<'_>) -> Option<(&String, Cursor<'_>)>
 {
     let (first, rest) = at.next()?;
     match first.kind {
-        Seen::Other(TokenKind::Name { text, .. }) => Some((text, rest)),
+        Seen::Other(TokenKind::Name(name)) => Some((&name.text, rest)),
         _ => None,
     }
 }
@@ -192,13 +192,14 @@ pub fn skip_lifetime(at: Cursor<'_>) -> Cursor<'_>
 }
 
 /// An integer with its suffix as written, and the place behind it.
-pub fn integer_at(at: Cursor<'_>) -> Option<(Option<u128>, &String, Cursor<'_>)>
-    ensures { option_map (λ p. ((p.0, string_bytes p.1.now), left p.2)) result
+pub fn integer_at(at: Cursor<'_>) -> Option<(Option<u128>, &str, Cursor<'_>)>
+    ensures { option_map (λ p. ((p.0, p.1.now), left p.2)) result
         ≡ token_at integer_of (left at.entry) }
 {
     let (first, rest) = at.next()?;
     match first.kind {
-        Seen::Other(TokenKind::Int { value, suffix, .. }) => Some((*value, suffix, rest)),
+        Seen::Other(TokenKind::Small(value)) => Some((Some(*value as u128), "", rest)),
+        Seen::Other(TokenKind::Int(int)) => Some((int.value, int.suffix.as_str(), rest)),
         _ => None,
     }
 }

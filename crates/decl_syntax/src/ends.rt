@@ -1,16 +1,39 @@
 //! Literals, paths, the ends of ranges, and ranges.
-ghost use Rattle.std.specs.Prelude.{◌≡◌, option_map, string_bytes};
+ghost use Rattle.std.specs.Prelude.{◌≡◌, [], Some, option_map, string_bytes};
 ghost use Rattle.decl_syntax.specs.Units.{left, token_at, first_passes};
-ghost use Rattle.decl_syntax.specs.Patterns.{lit_view, path_view, shape_view};
+ghost use Rattle.decl_syntax.specs.Patterns.{Int, Range, lit_view, path_view, shape_view};
 ghost use Rattle.decl_syntax.specs.Reading.{Gives};
 ghost use Rattle.decl_syntax.specs.EndGrammar.{begins_end};
 ghost use Rattle.decl_syntax.specs.EndReading.{literal_of, negated_of, end_of, range_mark_of, segment_of, segment_view, segments_at, end_at, range_behind, range_at, path_tree_at};
 
 use crate::cursor::{Cursor, Seen, behind};
 use crate::stop::Stop;
-use crate::tree::{Lit, PatKind, Path};
-use decl_lexer::{Mark, TokenKind, Word};
+use crate::tree::{IntLit, Lit, PatKind, Path, RangePat};
+use decl_lexer::{IntToken, Mark, TokenKind, Word};
 use std::alloc::Global;
+
+/// A decimal integer below 2^64 without a suffix.
+fn small(negative: bool, size: u64) -> Lit
+    ensures { lit_view result ≡ Int negative (Some size) [] }
+{
+    Lit::Small { negative, size }
+}
+
+/// Any other integer.
+fn integer(alloc: Global, negative: bool, int: &IntToken) -> Result<Lit, Stop>
+    ensures { Gives lit_view result (Some (Int negative int.now.value (string_bytes int.now.suffix))) }
+{
+    let suffix = String::from_str(alloc, int.suffix.as_str())?;
+    let size = int.value;
+    Ok(Lit::Int(Box::new(
+        alloc,
+        IntLit {
+            negative,
+            size,
+            suffix,
+        },
+    )?))
+}
 
 /// A literal, and the place behind it.
 pub fn literal_at(alloc: Global, at: Cursor<'_>) -> Result<(Lit, Cursor<'_>), Stop>
@@ -27,17 +50,8 @@ pub fn literal_at(alloc: Global, at: Cursor<'_>) -> Result<(Lit, Cursor<'_>), St
         TokenKind::Word(Word::False) => Ok((Lit::Flag(false), rest)),
         TokenKind::Char(c) => Ok((Lit::Char(*c), rest)),
         TokenKind::Byte(b) => Ok((Lit::Byte(*b), rest)),
-        TokenKind::Int { value, suffix, .. } => {
-            let suffix = String::from_str(alloc, suffix.as_str())?;
-            Ok((
-                Lit::Int {
-                    negative: false,
-                    size: *value,
-                    suffix,
-                },
-                rest,
-            ))
-        }
+        TokenKind::Small(size) => Ok((small(false, *size), rest)),
+        TokenKind::Int(int) => Ok((integer(alloc, false, int)?, rest)),
         TokenKind::Str(text) => Ok((Lit::Str(String::from_str(alloc, text.as_str())?), rest)),
         TokenKind::Float | TokenKind::ByteStr | TokenKind::CStr => Ok((Lit::Other, rest)),
         _ => Err(Stop::Syntax),
@@ -55,17 +69,8 @@ pub fn negated_at(alloc: Global, at: Cursor<'_>) -> Result<(Lit, Cursor<'_>), St
         return Err(Stop::Syntax);
     };
     match kind {
-        TokenKind::Int { value, suffix, .. } => {
-            let suffix = String::from_str(alloc, suffix.as_str())?;
-            Ok((
-                Lit::Int {
-                    negative: true,
-                    size: *value,
-                    suffix,
-                },
-                rest,
-            ))
-        }
+        TokenKind::Small(size) => Ok((small(true, *size), rest)),
+        TokenKind::Int(int) => Ok((integer(alloc, true, int)?, rest)),
         TokenKind::Float => Ok((Lit::Other, rest)),
         _ => Err(Stop::Syntax),
     }
@@ -84,17 +89,8 @@ fn one_token_end(alloc: Global, at: Cursor<'_>) -> Result<(Lit, Cursor<'_>), Sto
     match kind {
         TokenKind::Char(c) => Ok((Lit::Char(*c), rest)),
         TokenKind::Byte(b) => Ok((Lit::Byte(*b), rest)),
-        TokenKind::Int { value, suffix, .. } => {
-            let suffix = String::from_str(alloc, suffix.as_str())?;
-            Ok((
-                Lit::Int {
-                    negative: false,
-                    size: *value,
-                    suffix,
-                },
-                rest,
-            ))
-        }
+        TokenKind::Small(size) => Ok((small(false, *size), rest)),
+        TokenKind::Int(int) => Ok((integer(alloc, false, int)?, rest)),
         TokenKind::Float => Ok((Lit::Other, rest)),
         _ => Err(Stop::Syntax),
     }
@@ -109,7 +105,7 @@ fn segment_at(at: Cursor<'_>) -> Option<(&str, bool, Cursor<'_>)>
         return None;
     };
     match kind {
-        TokenKind::Name { text, .. } => Some((text.as_str(), true, rest)),
+        TokenKind::Name(name) => Some((name.text.as_str(), true, rest)),
         TokenKind::Word(Word::Crate) => Some(("crate", false, rest)),
         TokenKind::Word(Word::SelfValue) => Some(("self", false, rest)),
         TokenKind::Word(Word::Super) => Some(("super", false, rest)),
@@ -187,9 +183,10 @@ pub fn begins_end(at: Cursor<'_>) -> bool
             TokenKind::Mark(Mark::Minus)
                 | TokenKind::Char(_)
                 | TokenKind::Byte(_)
-                | TokenKind::Int { .. }
+                | TokenKind::Small(_)
+                | TokenKind::Int(_)
                 | TokenKind::Float
-                | TokenKind::Name { .. }
+                | TokenKind::Name(_)
                 | TokenKind::Word(Word::Crate | Word::SelfValue | Word::Super | Word::SelfType)
         ),
     }
@@ -209,6 +206,13 @@ fn range_mark_at(at: Cursor<'_>) -> Option<(bool, Cursor<'_>)>
     }
 }
 
+/// A range of these ends.
+fn range(alloc: Global, low: Option<Lit>, high: Option<Lit>, closed: bool) -> Result<PatKind, Stop>
+    ensures { Gives shape_view result (Some (Range (option_map lit_view low) (option_map lit_view high) closed)) }
+{
+    Ok(PatKind::Range(Box::new(alloc, RangePat { low, high, closed })?))
+}
+
 /// Behind the mark of a range that has a low end.
 #[tactic(auto, unfolding(crate::specs::EndReading::range_behind))]
 fn range_behind(
@@ -223,13 +227,13 @@ fn range_behind(
     if begins_end(at) {
         let (high, rest) = end_at(alloc, at)?;
         let high = Some(high);
-        return Ok((PatKind::Range { low, high, closed }, rest));
+        return Ok((range(alloc, low, high, closed)?, rest));
     }
     if closed {
         return Err(Stop::Syntax);
     }
     let high = None;
-    Ok((PatKind::Range { low, high, closed }, at))
+    Ok((range(alloc, low, high, closed)?, at))
 }
 
 /// A range, and the place behind it.
@@ -241,7 +245,7 @@ pub fn range_at(alloc: Global, at: Cursor<'_>) -> Result<(PatKind, Cursor<'_>), 
         let (high, rest) = end_at(alloc, rest)?;
         let low = None;
         let high = Some(high);
-        return Ok((PatKind::Range { low, high, closed }, rest));
+        return Ok((range(alloc, low, high, closed)?, rest));
     }
     let (low, rest) = end_at(alloc, at)?;
     match range_mark_at(rest) {

@@ -22,7 +22,7 @@ fn fits_within(kind: &PatKind, levels: u32) -> bool
 {
     match kind {
         PatKind::Wild | PatKind::Rest | PatKind::Lit(_) | PatKind::Name(_) => true,
-        PatKind::Path(_) | PatKind::Range { .. } => true,
+        PatKind::Path(_) | PatKind::Range(_) => true,
         PatKind::Bind { sub, .. } => match sub {
             Some(sub) => fits(sub, levels),
             None => true,

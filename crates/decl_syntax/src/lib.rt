@@ -38,6 +38,6 @@ pub use items::{
 pub use laws::{levels_suffice, one_attribute_list, one_pattern, one_type};
 pub use pattern::read_pattern;
 pub use stop::Stop;
-pub use tree::{Attr, FieldPat, Lit, Pat, PatKind, Path};
+pub use tree::{Attr, FieldPat, IntLit, Lit, Pat, PatKind, Path, RangePat};
 pub use ty::{Ty, read_type};
 pub use widths::{MOST_PARTS, pattern_is_wide, type_is_wide};

@@ -1,5 +1,6 @@
 //! Patterns as they are written.
-ghost use Rattle.std.specs.Prelude.{◌≡◌, ◌-◌, map, string_bytes, option_map, Some, IfOk, IfErr};
+ghost use Rattle.std.specs.Prelude.{◌≡◌, ◌-◌, ◌++◌, ◌∷◌, [], map, string_bytes, option_map, Some, IfOk, IfErr};
+ghost use Rattle.decl_syntax.specs.declared.stop.Stop.TheVariants.{Memory};
 ghost use Rattle.decl_syntax.specs.Units.{left, unit_view};
 ghost use Rattle.decl_syntax.specs.Patterns.{pattern_view, shape_view, path_view, field_view, Bind, BindAs, Tuple, more, none};
 ghost use Rattle.decl_syntax.specs.Grammar.{NoneSpelled};
@@ -136,10 +137,11 @@ fn field_name(alloc: Global, unit: Unit<'_>) -> Result<String, Stop>
 {
     let width = unit.to.saturating_sub(unit.from);
     match unit.kind {
-        Seen::Other(TokenKind::Name { text, .. }) => Ok(String::from_str(alloc, text.as_str())?),
-        Seen::Other(TokenKind::Int { value, decimal, .. }) => {
-            number_name(alloc, *value, *decimal, width)
+        Seen::Other(TokenKind::Name(name)) => Ok(String::from_str(alloc, name.text.as_str())?),
+        Seen::Other(TokenKind::Small(value)) => {
+            number_name(alloc, Some(*value as u128), true, width)
         }
+        Seen::Other(TokenKind::Int(int)) => number_name(alloc, int.value, int.decimal, width),
         _ => Err(Stop::Syntax),
     }
 }
@@ -286,10 +288,12 @@ fn path_pattern_at(
     let (path, rest) = path_at(alloc, at)?;
     if let Some(rest) = behind(rest, Mark::OpenRound) {
         let (items, rest) = items_at(alloc, levels, false, rest)?;
+        let path = Box::new(alloc, path)?;
         return Ok((PatKind::TupleForm { path, items }, rest));
     }
     if let Some(rest) = behind(rest, Mark::OpenCurly) {
         let (fields, dotted, rest) = fields_at(alloc, levels, rest)?;
+        let path = Box::new(alloc, path)?;
         return Ok((
             PatKind::Brace {
                 path,
@@ -402,8 +406,20 @@ fn only_item(alloc: Global, first: Pat) -> Result<PatKind, Stop>
     ensures { Gives shape_view result (Some (Tuple (more (pattern_view first) none))) }
 {
     let mut items = Vec::new(alloc);
-    items.push(first)?;
+    push(&mut items, first)?;
     Ok(PatKind::Tuple(items))
+}
+
+/// Appends an item to a list, which begins with room for one: many lists have no more.
+fn push(items: &mut Vec<Pat>, item: Pat) -> Result<(), Stop>
+    ensures items { IfOk result (λ _. items.new.items ≡ items.old.items ++ item ∷ []) }
+    ensures memory { IfErr result (λ e. e ≡ Memory) }
+{
+    if items.is_empty() {
+        items.reserve_exact(1)?;
+    }
+    items.push(item)?;
+    Ok(())
 }
 
 /// The comma and the items behind the first one of a tuple.
@@ -544,7 +560,7 @@ fn items_at(
             return Ok((parts, behind));
         }
         let (part, after) = element_at(alloc, levels, slice, rest)?;
-        parts.push(part)?;
+        push(&mut parts, part)?;
         if let Some(behind) = behind(after, close) {
             return Ok((parts, behind));
         }

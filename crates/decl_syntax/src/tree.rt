@@ -7,21 +7,35 @@ pub struct Path {
     pub plain: bool,
 }
 
+/// An integer as it is written: `size` is `None` from 2^128 on, `suffix` may be empty.
+#[derive(Debug, Drop)]
+pub struct IntLit {
+    pub negative: bool,
+    pub size: Option<u128>,
+    pub suffix: String,
+}
+
 /// A literal or the end of a range.
 #[derive(Debug, Drop)]
 pub enum Lit {
     Flag(bool),
     Char(char),
     Byte(u8),
-    /// An integer as it is written: `size` is `None` from 2^128 on, `suffix` may be empty.
-    Int {
-        negative: bool,
-        size: Option<u128>,
-        suffix: String,
-    },
+    /// An integer below 2^64, written in decimal and without a suffix.
+    Small { negative: bool, size: u64 },
+    /// Any other integer.
+    Int(Box<IntLit>),
     Str(String),
     /// A float, a byte string, a C string, or a path as the end of a range.
     Other,
+}
+
+/// The ends of a range, and whether the high one is within.
+#[derive(Debug, Drop)]
+pub struct RangePat {
+    pub low: Option<Lit>,
+    pub high: Option<Lit>,
+    pub closed: bool,
 }
 
 /// An attribute at byte `from`, with the first name in its brackets, or an empty word.
@@ -48,7 +62,7 @@ pub struct FieldPat {
     pub pat: Pat,
 }
 
-/// The forms of a pattern.
+/// The forms of a pattern. What is large stands behind a box, so that a pattern takes 64 bytes.
 #[cycle(pattern)]
 #[derive(Debug, Drop)]
 pub enum PatKind {
@@ -67,11 +81,11 @@ pub enum PatKind {
     },
     Path(Path),
     TupleForm {
-        path: Path,
+        path: Box<Path>,
         items: Vec<Pat>,
     },
     Brace {
-        path: Path,
+        path: Box<Path>,
         fields: Vec<FieldPat>,
         rest: bool,
     },
@@ -82,11 +96,7 @@ pub enum PatKind {
         mutable: bool,
         inner: Box<Pat>,
     },
-    Range {
-        low: Option<Lit>,
-        high: Option<Lit>,
-        closed: bool,
-    },
+    Range(Box<RangePat>),
     /// Two alternatives or more.
     Or(Vec<Pat>),
 }

@@ -116,7 +116,7 @@ fn square_type(alloc: Global, levels: u32, at: Cursor<'_>) -> Result<(Ty, Cursor
     let Some(rest) = behind(rest, Mark::CloseSquare) else {
         return Err(Stop::Syntax);
     };
-    let suffix = String::from_str(alloc, suffix.as_str())?;
+    let suffix = String::from_str(alloc, suffix)?;
     Ok((Ty::Array { item, len, suffix }, rest))
 }
 

@@ -65,7 +65,7 @@ fn shape_is_wide(kind: &PatKind) -> bool
 {
     match kind {
         PatKind::Wild | PatKind::Rest | PatKind::Lit(_) | PatKind::Name(_) => false,
-        PatKind::Path(_) | PatKind::Range { .. } => false,
+        PatKind::Path(_) | PatKind::Range(_) => false,
         PatKind::Bind { sub, .. } => match sub {
             Some(sub) => pattern_is_wide(sub),
             None => false,

@@ -1,8 +1,10 @@
 // The text that is written for the bytes of a file, with its status.
-ghost use Rattle.std.specs.Prelude.{◌≡◌, ◌≤◌, ◌<◌, ◌^◌, List, ℕ, length, nat_lt, sum_by, IfOk, IfErr};
+ghost use Rattle.std.specs.Prelude.{◌≡◌, ◌≤◌, ◌<◌, ◌^◌, ◌*◌, List, ℕ, length, nat_lt, sum_by, IfOk, IfErr};
 ghost use Rattle.decl_lexer.specs.Tokens.{tokens_view};
 ghost use Rattle.decl_syntax.specs.Items.{file_view};
-ghost use Rattle.decl_parser.specs.Counts.{kind_arms};
+ghost use Rattle.decl_syntax.specs.Units.{units};
+ghost use Rattle.decl_parser.specs.Counts.{HasAtMost, kind_arms};
+ghost use Rattle.decl_parser.specs.FileGrammar.{IsFile, IsFaultOf as IsFaultOfTokens};
 ghost use Rattle.match_model.specs.declared.Width.TheVariants.{Endless};
 ghost use Rattle.type_table.specs.Faults.{BreaksNone, IsFaultOf};
 ghost use Rattle.match_top.specs.Answers.{Answers, IsJudged, IsAnswerToItems, IsAnswerToTokens};
@@ -57,19 +59,19 @@ fn judged(alloc: Global, source: &[u8]) -> Result<Answer, NoMemory>
     ensures verdict { IfOk result (λ a. IsVerdict a.status) }
 {
     match lex(alloc, source) {
-        Ok(tokens) => answer_to_tokens(alloc, &tokens),
+        Ok(tokens) => answer_to_tokens(alloc, tokens),
         Err(LexFault::Rule { rule, at }) => refused_at(alloc, rule, Some(at)),
         Err(LexFault::NoMemory) => Err(NoMemory),
     }
 }
 
 // The answer to tokens: the answer to the file that they spell, or else their fault.
-fn answer_to_tokens(alloc: Global, tokens: &[Token]) -> Result<Answer, NoMemory>
-    requires { length tokens.now ≤ longest_source }
-    ensures answers { IfOk result (λ a. IsAnswerToTokens (tokens_view tokens.now) a.text.items a.status) }
+fn answer_to_tokens(alloc: Global, tokens: Vec<Token>) -> Result<Answer, NoMemory>
+    requires { length tokens.items ≤ longest_source }
+    ensures answers { IfOk result (λ a. IsAnswerToTokens (tokens_view tokens.items) a.text.items a.status) }
     ensures verdict { IfOk result (λ a. IsVerdict a.status) }
 {
-    let fault = match parse(alloc, tokens) {
+    let fault = match file_of(alloc, tokens) {
         Ok(file) => return answer_to_file(alloc, &file),
         Err(fault) => fault,
     };
@@ -78,6 +80,15 @@ fn answer_to_tokens(alloc: Global, tokens: &[Token]) -> Result<Answer, NoMemory>
         ParseFault::Wide { item, at } => refused_in(alloc, 9, Some(item), Some(at)),
         ParseFault::NoMemory => Err(NoMemory),
     }
+}
+
+// The file that tokens spell, or else their fault. The tokens are given back, before anything is made of the file.
+fn file_of(alloc: Global, tokens: Vec<Token>) -> Result<File, ParseFault>
+    ensures file { IfOk result (λ f. IsFile (units (tokens_view tokens.items)) (file_view f)) }
+    ensures fault { IfErr result (IsFaultOfTokens (units (tokens_view tokens.items))) }
+    ensures counts { IfOk result (λ f. HasAtMost (2 * length tokens.items) (file_view f)) }
+{
+    parse(alloc, &tokens)
 }
 
 // The answer to a file: its first fault on declarations, or else the report on its functions.

@@ -10,8 +10,6 @@
 mod answering;
 mod reading;
 mod reporting;
-#[cfg(test)]
-mod source_tests;
 mod statuses;
 #[cfg(test)]
 mod tests;

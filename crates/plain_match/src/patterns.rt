@@ -85,7 +85,7 @@ fn flag_pattern(kind: &PatKind) -> Option<Pattern<'_>>
         PatKind::Group(_) => None,
         PatKind::Slice(_) => None,
         PatKind::Point { .. } => None,
-        PatKind::Range { .. } => None,
+        PatKind::Range(_) => None,
         PatKind::Or(_) => None,
     }
 }
@@ -98,7 +98,8 @@ fn truth_value(literal: &Lit) -> Option<Pattern<'_>>
         Lit::Flag(flag) => Some(Pattern::Literal(*flag)),
         Lit::Char(_) => None,
         Lit::Byte(_) => None,
-        Lit::Int { .. } => None,
+        Lit::Small { .. } => None,
+        Lit::Int(_) => None,
         Lit::Str(_) => None,
         Lit::Other => None,
     }
@@ -122,7 +123,7 @@ fn enum_pattern<'a>(declared: &EnumItem, kind: &'a PatKind) -> Option<Pattern<'a
         PatKind::Group(_) => None,
         PatKind::Slice(_) => None,
         PatKind::Point { .. } => None,
-        PatKind::Range { .. } => None,
+        PatKind::Range(_) => None,
         PatKind::Or(_) => None,
     }
 }

@@ -166,7 +166,7 @@ fn pattern_unsupported(pattern: &Pat) -> bool
         PatKind::Lit(_) => false,
         PatKind::Name(_) => false,
         PatKind::Path(_) => false,
-        PatKind::Range { .. } => false,
+        PatKind::Range(_) => false,
     }
 }
 

@@ -29,8 +29,6 @@ mod edges;
 mod emptiness;
 mod endless;
 mod entries;
-#[cfg(test)]
-mod fault_tests;
 mod faults;
 mod fields;
 mod finding;
@@ -40,11 +38,9 @@ mod laws;
 mod lookups;
 mod nodes;
 mod readers;
-#[cfg(test)]
-mod sources;
 mod table;
 #[cfg(test)]
-mod type_tests;
+mod tests;
 mod values;
 mod written;
 

@@ -1,4 +1,4 @@
-use Rattle.std.proofs.Common.{◌≡◌, rules}
+use Rattle.std.proofs.Common.{rules}
 use Rattle.decl_lexer.specs.Lexing.{HasTokens, HasFault}
 use Rattle.decl_lexer.specs.Tokens.{tokens_view}
 use Rattle.match_top.proofs.Judged.{fault_answer, tokens_answer}
@@ -6,9 +6,8 @@ use Rattle.match_top.proofs.answering.judged.Goals as goal
 
 pub returns-in-Ok-clause-answers : goal.returns-in-Ok-clause-answers
 returns-in-Ok-clause-answers c =
-    let same : c.deref.result.now ≡ c.in-Ok.tokens.items = search rules in
     let lexed : HasTokens c.args.source.now (tokens_view c.in-Ok.tokens.items) = search rules in
-    tokens_answer c.args.source.now (tokens_view c.deref.result.now) _ (rw same lexed) c.answer_to_tokens.ensures.answers
+    tokens_answer c.args.source.now (tokens_view c.in-Ok.tokens.items) _ lexed c.answer_to_tokens.ensures.answers
 
 pub returns-in-Err-Rule-clause-answers : goal.returns-in-Err-Rule-clause-answers
 returns-in-Err-Rule-clause-answers c =

@@ -1,0 +1,1 @@
+struct S(&S,[u8;1u8],Option);

@@ -1,0 +1,1 @@
+use Option::{Some,Ok};

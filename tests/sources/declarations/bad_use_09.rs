@@ -1,0 +1,1 @@
+struct Option; use Option::*;

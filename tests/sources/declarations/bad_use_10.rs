@@ -1,0 +1,1 @@
+enum Option{A} use Option::{Some};

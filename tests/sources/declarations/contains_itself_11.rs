@@ -1,0 +1,1 @@
+struct A((u8,B)); enum B{C([A;0])}

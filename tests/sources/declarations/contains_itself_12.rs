@@ -1,0 +1,1 @@
+enum A{C(Option<B>)} enum B{C{a:Result<!,A>}}

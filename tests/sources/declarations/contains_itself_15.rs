@@ -1,0 +1,1 @@
+fn f(x:S){match x{_=>1}} use Option::*; struct S(S);

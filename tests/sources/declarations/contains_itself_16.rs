@@ -1,0 +1,1 @@
+struct S([u8;1u8],S,Option);

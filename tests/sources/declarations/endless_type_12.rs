@@ -1,0 +1,1 @@
+struct A(Option<B>); struct B(&(A,B));

@@ -1,0 +1,1 @@
+struct T(&T); struct S(X); enum T{}

@@ -1,0 +1,1 @@
+struct S{a:u8,a:u8}

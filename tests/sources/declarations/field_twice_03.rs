@@ -1,0 +1,1 @@
+enum E{A,B{b:u8,a:u8,b:u8}}

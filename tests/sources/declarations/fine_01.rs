@@ -1,0 +1,2 @@
+enum A{} struct B; enum E{A,B}
+use Undeclared::*;

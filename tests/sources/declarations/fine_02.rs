@@ -1,0 +1,2 @@
+enum E{A} use E::*; struct A;
+use Undeclared::*;

@@ -1,0 +1,2 @@
+enum E{A} use E::*; use E::{A}; use E::*;
+use Undeclared::*;

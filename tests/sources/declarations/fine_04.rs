@@ -1,0 +1,2 @@
+enum E{A} enum F{A} use E::*; use F::*;
+use Undeclared::*;

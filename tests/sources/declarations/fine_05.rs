@@ -1,0 +1,2 @@
+fn f(x:u8){match x{_=>1}}fn g(x:u8){match x{_=>1}}
+use Undeclared::*;

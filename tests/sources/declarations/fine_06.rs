@@ -1,0 +1,2 @@
+struct f{} fn f(x:u8){match x{_=>1}}
+use Undeclared::*;

@@ -1,0 +1,2 @@
+fn f(x:u8){match x{_=>1}} enum f{}
+use Undeclared::*;

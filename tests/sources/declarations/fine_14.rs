@@ -1,0 +1,2 @@
+enum E{A,B,a} enum F{A}
+use Undeclared::*;

@@ -1,0 +1,2 @@
+struct S(T); struct T;
+use Undeclared::*;

@@ -1,0 +1,2 @@
+struct S(&str,&mut str,Box<str>,Rc<str>,Arc<str>);
+use Undeclared::*;

@@ -1,0 +1,2 @@
+struct S(Box<S>);
+use Undeclared::*;

@@ -1,0 +1,2 @@
+struct S(Vec<S>,Rc<S>,Arc<(S,S)>);
+use Undeclared::*;

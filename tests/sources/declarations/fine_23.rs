@@ -1,0 +1,2 @@
+struct S(&[S]);
+use Undeclared::*;

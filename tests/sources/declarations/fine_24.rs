@@ -1,0 +1,2 @@
+struct S(Option<&S>,&mut[S;0]);
+use Undeclared::*;

@@ -1,0 +1,2 @@
+struct A(B,B); struct B(C,C); struct C;
+use Undeclared::*;

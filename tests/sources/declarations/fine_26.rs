@@ -1,0 +1,2 @@
+enum A{C(&B),D} struct B(A);
+use Undeclared::*;

@@ -1,0 +1,2 @@
+struct Option; struct S(Option,Result<Option,u8>);
+use Undeclared::*;

@@ -1,0 +1,2 @@
+use E::*; use E::{A}; enum E{A}
+use Undeclared::*;

@@ -1,0 +1,2 @@
+enum Option{A} use Option::{A}; use Result::{Ok,Err};
+use Undeclared::*;

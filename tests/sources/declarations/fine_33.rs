@@ -1,0 +1,2 @@
+enum E{} use E::*; use E::{};
+use Undeclared::*;

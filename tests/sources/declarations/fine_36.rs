@@ -1,0 +1,2 @@
+struct S(Result<&S,u8>);
+use Undeclared::*;

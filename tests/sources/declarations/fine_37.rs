@@ -1,0 +1,2 @@
+enum E{A(&E),B}
+use Undeclared::*;

@@ -1,0 +1,2 @@
+#[non_exhaustive] enum E{A(&E)}
+use Undeclared::*;

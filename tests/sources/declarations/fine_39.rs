@@ -1,0 +1,2 @@
+struct S([&S;0],&[S],&Option<S>);
+use Undeclared::*;

@@ -1,0 +1,2 @@
+struct S(&!,!,&E); enum E{}
+use Undeclared::*;

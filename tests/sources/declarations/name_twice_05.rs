@@ -1,0 +1,1 @@
+enum r#A{} struct A{}

@@ -1,0 +1,1 @@
+enum é{} enum é{}

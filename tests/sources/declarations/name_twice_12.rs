@@ -1,0 +1,1 @@
+enum E{A} enum F{A} use E::{A}; use F::{A};

@@ -1,0 +1,1 @@
+struct Some{} use Option::{Some};

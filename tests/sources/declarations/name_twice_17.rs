@@ -1,0 +1,1 @@
+struct f(); fn f(x:u8){match x{_=>1}}

@@ -1,0 +1,1 @@
+enum E{f} use E::{f}; fn f(x:u8){match x{_=>1}}

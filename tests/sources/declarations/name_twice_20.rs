@@ -1,0 +1,1 @@
+use Result::{Ok}; fn Ok(x:u8){match x{_=>1}}

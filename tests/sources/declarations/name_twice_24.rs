@@ -1,0 +1,1 @@
+fn f(x:u8){match x{_=>1}} enum E{f(u8)} use E::{f};

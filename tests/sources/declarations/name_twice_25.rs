@@ -1,0 +1,1 @@
+fn None(x:u8){match x{_=>1}} use Option::{Some,None};

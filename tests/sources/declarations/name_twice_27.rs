@@ -1,0 +1,1 @@
+struct B; enum E{A} use E::{B};

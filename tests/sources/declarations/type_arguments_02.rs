@@ -1,0 +1,1 @@
+struct S(Option<u8,u8>);

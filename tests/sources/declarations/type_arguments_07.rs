@@ -1,0 +1,1 @@
+enum E{A(Vec<u8,u8>)}

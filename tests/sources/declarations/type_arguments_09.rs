@@ -1,0 +1,1 @@
+fn f(x:&str<u8>){match x{_=>1}}

@@ -1,0 +1,1 @@
+struct T; struct S(T<u8>);

@@ -1,0 +1,1 @@
+struct Option; struct S(Option<u8>);

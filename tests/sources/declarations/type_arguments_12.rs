@@ -1,0 +1,1 @@
+#[cfg(a)] struct S(S<u8>);

@@ -1,0 +1,1 @@
+fn f(x:X){match x{_=>1}}

@@ -1,0 +1,1 @@
+fn X(x:u8){match x{_=>1}} struct S(X);

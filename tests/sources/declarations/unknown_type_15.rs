@@ -1,0 +1,1 @@
+enum E{A} use E::{A}; struct S(A);

@@ -1,0 +1,1 @@
+ struct T; #[a]pub struct S(X); struct T(Y);

@@ -1,0 +1,1 @@
+struct S(Result<[u8],u8>);

@@ -1,0 +1,1 @@
+struct Box; struct S(Box<str>);

@@ -1,0 +1,1 @@
+#[cfg_attr(a,b)] enum E{}

@@ -1,0 +1,1 @@
+#[a] #[cfg(a)] pub fn f(x:u8){match x{_=>1}}

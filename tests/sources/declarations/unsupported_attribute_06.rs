@@ -1,0 +1,1 @@
+struct S(#[cfg(a)] u8);

@@ -1,0 +1,1 @@
+struct S{#[cfg(a)] pub a:u8}

@@ -1,0 +1,1 @@
+enum E{A{#[cfg_attr(a,b)] a:u8}}

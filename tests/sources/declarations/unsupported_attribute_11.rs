@@ -1,0 +1,1 @@
+struct S{a:u8} fn f(x:S){match x{S{#[cfg(a)] a}=>1}}

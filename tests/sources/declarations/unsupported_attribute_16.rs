@@ -1,0 +1,1 @@
+#[non_exhaustive] fn f(x:u8){match x{_=>1}}

@@ -1,0 +1,1 @@
+#[non_exhaustive] use Option::*;

@@ -1,0 +1,1 @@
+#[cfg(a)] struct S; struct S;

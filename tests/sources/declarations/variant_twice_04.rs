@@ -1,0 +1,1 @@
+enum E{A(X),A{a:u8,a:u8}}

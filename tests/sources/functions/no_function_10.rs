@@ -1,0 +1,1 @@
+fn f(ref x:u8){match x{}}

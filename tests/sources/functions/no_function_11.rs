@@ -1,0 +1,1 @@
+fn f(mut:u8){match x{}}

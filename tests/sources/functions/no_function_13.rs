@@ -1,0 +1,1 @@
+fn f(self){match self{}}

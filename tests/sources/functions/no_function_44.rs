@@ -1,0 +1,1 @@
+fn f(x:u8){match x{1=>match y{2=>3}_=>4}}

@@ -1,0 +1,1 @@
+struct S { a: &mut 'a u8 }

@@ -1,0 +1,1 @@
+pub pub enum E{}

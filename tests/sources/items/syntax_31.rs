@@ -1,0 +1,1 @@
+pub #[a] struct S;

@@ -1,0 +1,1 @@
+fn f<T>(x:u8){match x{}}

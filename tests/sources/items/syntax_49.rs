@@ -1,0 +1,1 @@
+unsafe fn f(x:u8){match x{}}

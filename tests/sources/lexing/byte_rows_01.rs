@@ -1,0 +1,7 @@
+fn f(x: bool) {
+    match x {
+        _ => {
+é
+        }
+    }
+}

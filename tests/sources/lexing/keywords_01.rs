@@ -1,0 +1,57 @@
+fn f(x: bool) {
+    match x {
+        _ => {
+as
+async
+await
+break
+const
+continue
+crate
+dyn
+else
+enum
+extern
+false
+fn
+for
+if
+impl
+in
+let
+loop
+match
+mod
+move
+mut
+pub
+ref
+return
+self
+Self
+static
+struct
+super
+trait
+true
+type
+unsafe
+use
+where
+while
+abstract
+become
+box
+do
+final
+macro
+override
+priv
+try
+typeof
+unsized
+virtual
+yield
+        }
+    }
+}

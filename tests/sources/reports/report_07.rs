@@ -1,0 +1,1 @@
+enum E{} fn f(x:E){match x{_=>1}}

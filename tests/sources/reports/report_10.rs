@@ -1,0 +1,1 @@
+enum E{A,B,C} fn f(x:E){match x{E::B=>2}}

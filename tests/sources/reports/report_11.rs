@@ -1,0 +1,1 @@
+fn f(x:E){match x{E::A=>1}} enum E{A}

@@ -1,0 +1,1 @@
+fn f(bool : bool){match bool{false=>1, true=>22,}}

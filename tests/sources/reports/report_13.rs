@@ -1,0 +1,1 @@
+enum bool{A} fn f(x:bool){match x{bool::A=>1}}

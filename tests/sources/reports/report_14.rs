@@ -1,0 +1,1 @@
+enum r#enum{r#in,B} fn r#f(r#match:r#enum){match r#match{r#enum::r#B=>1}} // end

@@ -1,0 +1,1 @@
+enum É{é,B} fn f(x:É){match x{É::B=>1}}

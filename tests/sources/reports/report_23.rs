@@ -1,0 +1,1 @@
+enum E{A} fn f(x:bool){match x{E::A=>1}}

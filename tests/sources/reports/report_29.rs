@@ -1,0 +1,1 @@
+fn f(x:&bool){match x{_=>1}}

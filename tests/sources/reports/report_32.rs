@@ -1,0 +1,1 @@
+fn g(x:u8){match x{_=>1}} fn f(x:bool){match x{_=>1}} struct S; fn h(x:char){match x{_=>1}}

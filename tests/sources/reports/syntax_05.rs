@@ -1,0 +1,1 @@
+fn f(x:bool){match x{true=>if a {1} else {2} _=>3}}

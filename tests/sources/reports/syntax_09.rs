@@ -1,0 +1,1 @@
+fn fn(x:bool){match x{}}

@@ -1,0 +1,1 @@
+fn f(match:bool){match match{}}

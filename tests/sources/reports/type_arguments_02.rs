@@ -1,0 +1,1 @@
+struct S(Vec); enum E{A} enum E{B}

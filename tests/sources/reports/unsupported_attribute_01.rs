@@ -1,0 +1,1 @@
+struct T; #[cfg(a)] struct S;
