@@ -40,9 +40,11 @@ all-every P (x ∷ xs) a = (a.0, all-every P xs a.1)
 
 distinct-apart : (xs : List ℕ) → IsDistinct nat_eq xs → Apart xs
 distinct-apart [] d = tt
-distinct-apart (x ∷ xs) d =
-    (all-every (λ b. nat_eq x b ≡ false) xs (IsDistinct-head nat_eq x xs d), distinct-apart xs
-    (IsDistinct-tail nat_eq x xs d))
+distinct-apart (x ∷ xs) d = (
+  all-every (λ b. nat_eq x b ≡ false) xs (IsDistinct-head nat_eq x xs d),
+  distinct-apart xs
+      (IsDistinct-tail nat_eq x xs d),
+)
 
 -- the uids of decisions
 abbrev uids : List Decided → List ℕ
@@ -107,10 +109,12 @@ module _ {T : Type 0} where
     alternatives : (n k m : ℕ) (ps : MDePats T) → Finds decides (decisions_below true n k m ps) →
         AreAlternatives decides n k ps
     alternatives n k m no_de_pats f = tt
-    alternatives n k m (more_de_pats p ps) f =
-        (own n k m p ps f, alternatives n (suc k) (or_count p + m) ps
-        (every-both (λ d. decides d.uid ≡ d.decision) (own_decision true (uid_of p) n k ++ decisions_in m p)
-        (decisions_below true n (suc k) (or_count p + m) ps) f).1)
+    alternatives n k m (more_de_pats p ps) f = (
+      own n k m p ps f,
+      alternatives n (suc k) (or_count p + m) ps
+          (every-both (λ d. decides d.uid ≡ d.decision) (own_decision true (uid_of p) n k ++ decisions_in m p)
+          (decisions_below true n (suc k) (or_count p + m) ps) f).1,
+    )
 
     decided : (n m : ℕ) (c : MCtor) (subs : MDePats T) → Finds decides (decisions_below
         (is_choice c subs) n 0 m subs) → IsDecided decides n c subs
@@ -122,18 +126,20 @@ module _ {T : Type 0} where
 
     mutual
       numbered : (n : ℕ) (p : MDePat T) → Finds decides (decisions_in n p) → IsNumbered decides n p
-      numbered n (de_pat c t u at subs binds) f =
-          (decided n (own_count c subs + n) c subs f, numbered-below (is_choice c subs) n 0
-          (own_count c subs + n) subs f)
+      numbered n (de_pat c t u at subs binds) f = (
+        decided n (own_count c subs + n) c subs f,
+        numbered-below (is_choice c subs) n 0
+            (own_count c subs + n) subs f,
+      )
 
       numbered-below : (choice : Bool) (n k m : ℕ) (ps : MDePats T) → Finds decides (decisions_below choice n k m ps) →
           AreNumbered decides m ps
       numbered-below choice n k m no_de_pats f = tt
       numbered-below choice n k m (more_de_pats p ps) f =
           let r = every-both (λ d. decides d.uid ≡ d.decision) (own_decision choice (uid_of p) n k ++ decisions_in m p)
-              (decisions_below choice n (suc k) (or_count p + m) ps) f in (
+          (decisions_below choice n (suc k) (or_count p + m) ps) f in (
             numbered m p (every-both (λ d. decides d.uid ≡ d.decision) (own_decision choice (uid_of p) n k)
-            (decisions_in m p) r.0).1,
+                (decisions_in m p) r.0).1,
             numbered-below choice n (suc k) (or_count p + m) ps r.1,
           )
 
@@ -142,7 +148,7 @@ module _ {T : Type 0} where
     arms-found [] f = tt
     arms-found (a ∷ arms) f =
         let r = every-both (λ d. decides d.uid ≡ d.decision) (decisions_in 0 a.pat)
-            (flat_map (λ a. decisions_in 0 a.pat) arms) f in
+        (flat_map (λ a. decisions_in 0 a.pat) arms) f in
         ((0, numbered 0 a.pat r.0), arms-found arms r.1)
 
   -- the decisions of a match number the or-patterns of each arm

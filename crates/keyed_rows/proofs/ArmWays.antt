@@ -154,7 +154,7 @@ module _ (decides : ℕ → Decision) where
   fine-combine low mid high [] us h k f g = record { ordered = tt; within = tt }
   fine-combine low mid high (a ∷ ws) us h k f g =
       let rest : Fine low high (combine ws us) = fine-combine low mid high ws us h k
-          (record { ordered = f.ordered.1; within = f.within.1 }) g in
+      (record { ordered = f.ordered.1; within = f.within.1 }) g in
       record {
         ordered =
             ordered-append Earlier (map (join a) us) (combine ws us)
@@ -204,8 +204,11 @@ module _ (decides : ℕ → Decision) where
     where
       late : n < b.at
       late =
-          elim (cases_lt b.at m) [ inl l ↦ none_is_not (K w) b.at b.one (i.below b.at l) b.first | inr l ↦ omega
-          (arith, h, l) ]
+          elim (cases_lt b.at m) [
+            | inl l ↦ none_is_not (K w) b.at b.one (i.below b.at l) b.first
+            | inr l ↦ omega
+                (arith, h, l)
+          ]
 
   -- the ways of the first alternative come before those of the later ones
   chosen-cross : (uid n k m high : ℕ) (ws us : List Way) → decides uid ≡ record { number = n; alternative = k } →
@@ -227,8 +230,12 @@ module _ (decides : ℕ → Decision) where
           second = p.0.1;
           less = let later : suc k ≤ p.0.0 = p.0.2 in omega (arith, later);
           same =
-              λ o l. choosing-key uid n k w o e ∙ rw (differs n o l, i.0.below o
-              (omega (arith, l, h)), q.0.below o l) refl;
+              λ o l. choosing-key uid n k w o e ∙ rw (
+                differs n o l,
+                i.0.below o
+                    (omega (arith, l, h)),
+                q.0.below o l,
+              ) refl;
         },
         go xs p.1 q.1,
       )

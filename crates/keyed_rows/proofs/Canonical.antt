@@ -92,8 +92,11 @@ neat-map : (names : List (List ℕ)) (f : Way → Way) (ws : List Way) → ((w :
     Every (Neat names) ws → Every (Neat names) (map f ws)
 neat-map names f ws h n =
     every-map (Neat names) (Neat names) f ws
-    (λ w k. record { canonical = subst Canonical (sym (h w)) k.canonical; named = subst (Named names)
-    (sym (h w)) k.named }) n
+    (λ w k. record {
+      canonical = subst Canonical (sym (h w)) k.canonical;
+      named = subst (Named names)
+          (sym (h w)) k.named;
+    }) n
 
 bare-neat : (names : List (List ℕ)) → Neat names bare_way
 bare-neat names = record { canonical = refl; named = tt }

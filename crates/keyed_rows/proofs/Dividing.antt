@@ -50,16 +50,24 @@ module _ {T : Type 0} (decides : ℕ → Decision) where
   wildcards-within : (low high m : ℕ) (hs : List (Head T)) → HeadsWithin decides low high hs → HeadsWithin
       decides low high (wildcards m ++ hs)
   wildcards-within low high zero hs w = w
-  wildcards-within low high (suc m) hs w =
-      (low, omega arith, tt, lower-within low (0 + low) high (wildcards m ++ hs) (omega arith) (wildcards-within
-      low high m hs w))
+  wildcards-within low high (suc m) hs w = (
+    low,
+    omega arith,
+    tt,
+    lower-within low (0 + low) high (wildcards m ++ hs) (omega arith) (wildcards-within
+        low high m hs w),
+  )
 
   parts-within : (low : ℕ) (ps : MDePats T) → AreNumbered decides low ps → HeadsWithin
       decides low (or_counts ps + low) (map Some (de_pats_list ps))
   parts-within low no_de_pats a = omega arith
-  parts-within low (more_de_pats p ps) a =
-      (low, omega arith, a.0, subst (λ x. HeadsWithin decides (or_count p + low) x (map Some (de_pats_list ps)))
-      (same-sum (or_counts ps) (or_count p) low) (parts-within (or_count p + low) ps a.1))
+  parts-within low (more_de_pats p ps) a = (
+    low,
+    omega arith,
+    a.0,
+    subst (λ x. HeadsWithin decides (or_count p + low) x (map Some (de_pats_list ps)))
+        (same-sum (or_counts ps) (or_count p) low) (parts-within (or_count p + low) ps a.1),
+  )
 
   split-within : (low high f m : ℕ) (hs : List (Head T)) → HeadsWithin decides low high hs → HeadsWithin
       decides low high (take f hs ++ (wildcards m ++ drop f hs))
@@ -89,16 +97,35 @@ module _ {T : Type 0} (decides : ℕ → Decision) where
       go : (b : Bool) → IsDivided {T = T} decides n (head_count h + n) 0
           (cond b (record { heads = []; chosen = []; binds = own_binds h } ∷ []) [])
       go true =
-          record { each = (record { middle = n; from = omega arith; decided = record
-          { below = λ o l. refl; above = λ o l. refl }; left = omega arith; wide = refl }, tt); parted = (tt, tt) }
+          record {
+            each = (
+              record {
+                middle = n;
+                from = omega arith;
+                decided = record
+                    { below = λ o l. refl; above = λ o l. refl };
+                left = omega arith;
+                wide = refl;
+              },
+              tt,
+            );
+            parted = (tt, tt);
+          }
       go false = record { each = tt; parted = tt }
 
   -- a piece
   pub piece-divides : (piece : MCtor) (m : ℕ) → Divides {T = T} decides (HasCount piece m) m (specialise_head piece m)
   piece-divides piece m None n good i = record {
-    each =
-        (record { middle = n; from = omega arith; decided = record { below = λ o l. refl; above = λ o l. refl };
-        left = only-wildcards T decides n (0 + n) m (omega arith); wide = length-wildcards T m }, tt);
+    each = (
+      record {
+        middle = n;
+        from = omega arith;
+        decided = record { below = λ o l. refl; above = λ o l. refl };
+        left = only-wildcards T decides n (0 + n) m (omega arith);
+        wide = length-wildcards T m;
+      },
+      tt,
+    );
     parted = (tt, tt);
   }
   piece-divides piece m (Some (de_pat c t uid at subs binds)) n good i = go (has_piece c piece) good
@@ -168,8 +195,11 @@ module _ {T : Type 0} (decides : ℕ → Decision) where
         decided = record {
           below = λ o p. through-key uid n k c o e ∙ rw (differs n o p, i.decided.below o (omega (arith, p, l))) refl;
           above =
-              λ o p. through-key uid n k c o e ∙ rw (differs_above n o
-              (omega (arith, p, l, from)), i.decided.above o p) refl;
+              λ o p. through-key uid n k c o e ∙ rw (
+                differs_above n o
+                    (omega (arith, p, l, from)),
+                i.decided.above o p,
+              ) refl;
         };
         left = i.left;
         wide = i.wide;
@@ -194,8 +224,11 @@ module _ {T : Type 0} (decides : ℕ → Decision) where
     where
       late : n < a.before.at
       late =
-          elim (cases_lt a.before.at m) [ inl p ↦ none-is-not (CK c) a.before.at a.before.one
-          (i.decided.below a.before.at p) a.before.first | inr p ↦ omega (arith, l, p) ]
+          elim (cases_lt a.before.at m) [
+            | inl p ↦ none-is-not (CK c) a.before.at a.before.one
+                (i.decided.below a.before.at p) a.before.first
+            | inr p ↦ omega (arith, l, p)
+          ]
 
   choice-above : (n m high : ℕ) (c : Choice T) → n < m → IsChoice m high c → Every (IsAbove decides n) (Some c.pat ∷ [])
   choice-above n m high c l i =
@@ -261,8 +294,12 @@ module _ {T : Type 0} (decides : ℕ → Decision) where
                 second = q.0.1;
                 less = (let later : suc k ≤ q.0.0 = q.0.2 in omega (arith, later));
                 same =
-                    λ o t. through-key uid n k x o e ∙ rw (differs n o t, p.0.decided.below o
-                    (omega (arith, t, l)), r.0.decided.below o t) refl;
+                    λ o t. through-key uid n k x o e ∙ rw (
+                      differs n o t,
+                      p.0.decided.below o
+                          (omega (arith, t, l)),
+                      r.0.decided.below o t,
+                    ) refl;
               };
               first_above = choice-above n m high x l p.0;
               second_above = s.0;
@@ -277,9 +314,16 @@ module _ {T : Type 0} (decides : ℕ → Decision) where
   self-choices : (p : MDePat T) (n : ℕ) → IsNumbered decides n p →
       Choices n (or_count p + n) (record { pat = p; chosen = []; binds = [] } ∷ [])
   self-choices p n i = record {
-    each =
-        (record { middle = n; from = omega arith; decided = record { below = λ o l. refl; above = λ o l. refl };
-        left = (n, omega arith, i, omega arith); wide = refl }, tt);
+    each = (
+      record {
+        middle = n;
+        from = omega arith;
+        decided = record { below = λ o l. refl; above = λ o l. refl };
+        left = (n, omega arith, i, omega arith);
+        wide = refl;
+      },
+      tt,
+    );
     parted = (tt, tt);
   }
 
@@ -376,9 +420,16 @@ module _ {T : Type 0} (decides : ℕ → Decision) where
   -- or-patterns taken apart
   pub expand-divides : Divides decides (λ (h : Head T). Unit {0}) 1 expand_head
   expand-divides None n good i = record {
-    each =
-        (record { middle = n; from = omega arith; decided = record { below = λ o l. refl; above = λ o l. refl };
-        left = (n, omega arith, tt, omega arith); wide = refl }, tt);
+    each = (
+      record {
+        middle = n;
+        from = omega arith;
+        decided = record { below = λ o l. refl; above = λ o l. refl };
+        left = (n, omega arith, tt, omega arith);
+        wide = refl;
+      },
+      tt,
+    );
     parted = (tt, tt);
   }
   expand-divides (Some p) n good i =

@@ -56,10 +56,10 @@ module _ (decides : ℕ → Decision) where
           (done_of decides x)))
       choice-forth p w a =
           let k = among-flat (λ c. map (λ w. times (choice_done decides u c) (done_of decides w)) (arena_ways c.pat u))
-              (choices_of p) (done_of decides w) (subst (Among (done_of decides w)) (choices-ways decides u p)
-              (map-among (done_of decides) (arena_ways p u) w a)) in
+          (choices_of p) (done_of decides w) (subst (Among (done_of decides w)) (choices-ways decides u p)
+          (map-among (done_of decides) (arena_ways p u) w a)) in
           let m = among-map (λ w. times (choice_done decides u k.0) (done_of decides w)) (arena_ways k.0.pat u)
-              (done_of decides w) k.2 in
+          (done_of decides w) k.2 in
           (k.0, k.1, (m.0, m.1, m.2))
 
       choice-back : (p : MDePat T) (c : Choice T) (x : Way) → Among c (choices_of p) → Among x (arena_ways c.pat u) →
@@ -71,20 +71,27 @@ module _ (decides : ℕ → Decision) where
           (choices_of p) c _ a (map-among (λ w. times (choice_done decides u c) (done_of decides w))
           (arena_ways c.pat u) x b) in
           let m = among-map (done_of decides) (arena_ways p u) (times (choice_done decides u c) (done_of decides x))
-              (subst (Among (times (choice_done decides u c) (done_of decides x))) (sym (choices-ways decides u p)) d)
-              in
+          (subst (Among (times (choice_done decides u c) (done_of decides x))) (sym (choices-ways decides u p)) d)
+          in
           (m.0, m.1, sym m.2)
 
       pub expand-keeps : (h : Head T) → BindWhole h → HeadKeeps decides expand_head e (e ∷ []) v h
       expand-keeps None b = record {
         wide = λ y a. elim a [ inl k ↦ ap (λ x. length x.heads) k | inr k ↦ absurd k ];
         forth =
-            λ a i. (record { heads = None ∷ []; chosen = []; binds = [] }, inl refl,
-            (a, subst (Among a) (sym (one-column None)) (subst (Among a) (ways-here None) i), refl));
+            λ a i. (
+              record { heads = None ∷ []; chosen = []; binds = [] },
+              inl refl,
+              (a, subst (Among a) (sym (one-column None)) (subst (Among a) (ways-here None) i), refl),
+            );
         back = λ y a w i. elim a [
-          | inl k ↦ (w, subst (Among w) (sym (ways-here None)) (subst (Among w) (one-column None)
-          (subst (λ x. Among w (heads_ways (e ∷ []) x.heads v)) k i)), subst
-          (λ x. done_of decides w ≡ times (yield_done decides e.place v x) (done_of decides w)) (sym k) refl)
+          | inl k ↦ (
+            w,
+            subst (Among w) (sym (ways-here None)) (subst (Among w) (one-column None)
+                (subst (λ x. Among w (heads_ways (e ∷ []) x.heads v)) k i)),
+            subst
+                (λ x. done_of decides w ≡ times (yield_done decides e.place v x) (done_of decides w)) (sym k) refl,
+          )
           | inr k ↦ absurd k
         ];
       }
@@ -106,10 +113,10 @@ module _ (decides : ℕ → Decision) where
                 (
                   x,
                   subst (Among x) (sym (one-column (Some k.0.pat))) (map-among (under_all is)
-                  (arena_ways k.0.pat u) k.2.0 k.2.1),
+                      (arena_ways k.0.pat u) k.2.0 k.2.1),
                   ap (done_of decides) m.2 ∙ (under-done is m.0 ∙ (k.2.2 ∙
-                  (ap (λ d. times d (done_of decides k.2.0)) (same-done k.0 (b k.0 k.1))
-                  ∙ ap (times (yield_done decides e.place v (as_yield_of k.0))) (sym (under-done is k.2.0))))),
+                      (ap (λ d. times d (done_of decides k.2.0)) (same-done k.0 (b k.0 k.1))
+                      ∙ ap (times (yield_done decides e.place v (as_yield_of k.0))) (sym (under-done is k.2.0))))),
                 ),
               )
 
@@ -120,15 +127,15 @@ module _ (decides : ℕ → Decision) where
           back y a w i =
               let m = among-map as_yield_of (choices_of p) y a in
               let n = among-map (under_all is) (arena_ways m.0.pat u) w (subst (Among w) (one-column (Some m.0.pat))
-                  (subst (λ x. Among w (heads_ways (e ∷ []) x.heads v)) m.2 i)) in
+              (subst (λ x. Among w (heads_ways (e ∷ []) x.heads v)) m.2 i)) in
               let k = choice-back p m.0 n.0 m.1 n.1 in
               let x : Way = under_all is k.0 in (
                 x,
                 subst (Among x) (sym (ways-here (Some p))) (map-among (under_all is) (arena_ways p u) k.0 k.1),
                 under-done is k.0 ∙ (k.2 ∙ (ap (λ d. times d (done_of decides n.0)) (same-done m.0 (b m.0 m.1))
-                ∙ (ap (times (yield_done decides e.place v (as_yield_of m.0)))
-                (sym (under-done is n.0) ∙ sym (ap (done_of decides) n.2)) ∙ ap (λ z. times
-                (yield_done decides e.place v z) (done_of decides w)) (sym m.2)))),
+                    ∙ (ap (times (yield_done decides e.place v (as_yield_of m.0)))
+                    (sym (under-done is n.0) ∙ sym (ap (done_of decides) n.2)) ∙ ap (λ z. times
+                    (yield_done decides e.place v z) (done_of decides w)) (sym m.2)))),
               )
 
       -- a dropped column: wildcards and names have one way, the other heads none
@@ -195,13 +202,17 @@ module _ (decides : ℕ → Decision) where
             forth = λ a i. (
               Y,
               subst (Among Y) (sym (yields-are true q)) (inl refl),
-              (bare_way, inl refl, ap (done_of decides) (only a (under_all is (with_bounds (own_binds h) u bare_way))
-              (subst (Among a) (ways-here h ∙ ap (map (under_all is)) (wild-ways h q)) i)) ∙ dropped-done h q b Y refl),
+              (
+                bare_way,
+                inl refl,
+                ap (done_of decides) (only a (under_all is (with_bounds (own_binds h) u bare_way))
+                    (subst (Among a) (ways-here h ∙ ap (map (under_all is)) (wild-ways h q)) i)) ∙ dropped-done h q b Y refl,
+              ),
             );
             back = λ y a w i. (
               under_all is (with_bounds (own_binds h) u bare_way),
               subst (Among (under_all is (with_bounds (own_binds h) u bare_way)))
-              (sym (ways-here h ∙ ap (map (under_all is)) (wild-ways h q))) (inl refl),
+                  (sym (ways-here h ∙ ap (map (under_all is)) (wild-ways h q))) (inl refl),
               bare-only y w (lone y Y (subst (Among y) (yields-are true q) a)) i q,
             );
           }

@@ -50,13 +50,19 @@ module _ (decides : ℕ → Decision) (u : MValue) where
   -- an alternative chosen before what was done
   abbrev mark : ℕ → Done → Done
   mark uid d =
-      record { key = λ o. cond (nat_eq (decides uid).number o) (Some (decides uid).alternative)
-      (d.key o); bindings = d.bindings }
+      record {
+        key = λ o. cond (nat_eq (decides uid).number o) (Some (decides uid).alternative)
+            (d.key o);
+        bindings = d.bindings;
+      }
 
   done-bounds : (bs : List MBound) (w : Way) → done_of decides (with_bounds bs u w) ≡ act bs (done_of decides w)
   done-bounds bs w =
-      λ i. record { key = keys i; bindings = (bounds-put u bs w ∙ sym (both-put (bound_of u bs) w.bindings
-      (bound-canonical-of u bs))) i }
+      λ i. record {
+        key = keys i;
+        bindings = (bounds-put u bs w ∙ sym (both-put (bound_of u bs) w.bindings
+            (bound-canonical-of u bs))) i;
+      }
     where
       keys : way_key decides (with_bounds bs u w) ≡ way_key decides w
       keys = ap (λ t. key_of (map decides t)) (bounds-trace-of u bs w)
@@ -96,8 +102,11 @@ module _ (decides : ℕ → Decision) (u : MValue) where
       where
         whole : choice_done (with_binds bs c) ≡ act bs (choice_done c)
         whole =
-            λ i. record { key = key_of (map decides c.chosen); bindings = (bound-append u bs c.binds ∙ sym
-            (both-put (bound_of u bs) (bound_of u c.binds) (bound-canonical-of u bs))) i }
+            λ i. record {
+              key = key_of (map decides c.chosen);
+              bindings = (bound-append u bs c.binds ∙ sym
+                  (both-put (bound_of u bs) (bound_of u c.binds) (bound-canonical-of u bs))) i;
+            }
 
         one : (w : Way) → times (choice_done (with_binds bs c)) (done_of decides w) ≡ act bs
             (times (choice_done c) (done_of decides w))
@@ -128,9 +137,12 @@ module _ (decides : ℕ → Decision) (u : MValue) where
         one : (w : Way) → times (choice_done (choice_through uid c)) (done_of decides w) ≡ mark uid
             (times (choice_done c) (done_of decides w))
         one w =
-            λ i. record { key = λ o. first (nat_eq (decides uid).number o) (Some (decides uid).alternative)
-            (key_of (map decides c.chosen) o) (way_key decides w o) i; bindings = bindings_of_both
-            (bound_of u c.binds) w.bindings }
+            λ i. record {
+              key = λ o. first (nat_eq (decides uid).number o) (Some (decides uid).alternative)
+                  (key_of (map decides c.chosen) o) (way_key decides w o) i;
+              bindings = bindings_of_both
+                  (bound_of u c.binds) w.bindings;
+            }
 
         each : (ws : List Way) → map (λ w. times (choice_done (choice_through uid c)) (done_of decides w)) ws ≡ map
             (mark uid) (map (λ w. times (choice_done c) (done_of decides w)) ws)

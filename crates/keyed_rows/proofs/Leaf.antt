@@ -76,7 +76,7 @@ module _ (v : MValue) where
           v (map (bind_at place) (b ∷ bs))
       go WholePart q k ih =
           let here : part_at (bind_at place b).place v ≡ Some u = subst
-              (λ p. part_at (bind_at place (record b { part = p })).place v ≡ Some u) (sym q) e in
+          (λ p. part_at (bind_at place (record b { part = p })).place v ≡ Some u) (sym q) e in
           let value : bound_part b.part u ≡ u = ap (λ p. bound_part p u) q in
           ap (λ x. bind_into (record { name = b.name; mode = b.mode; value = x }) (with_bounds bs u bare_way).bindings)
           value
@@ -99,7 +99,7 @@ module _ (v : MValue) where
       go : (p : MPart) → b.part ≡ p → part_is_of WildCtor p ≡ true → is_some (part_at (bind_at place b).place v) ≡ true
       go WholePart q k =
           let here : part_at (bind_at place b).place v ≡ Some u = subst
-              (λ p. part_at (bind_at place (record b { part = p })).place v ≡ Some u) (sym q) e in
+          (λ p. part_at (bind_at place (record b { part = p })).place v ≡ Some u) (sym q) e in
           ap is_some here
       go (MiddlePart f g) q k = cc
 
@@ -123,15 +123,26 @@ module _ {T : Type 0} (cx : Context T) (v : MValue) where
   wild-lone : (c : MColumn T) (h : Head T) (is : List ℕ) (u : MValue) → part_at c.place v ≡ Some u →
       IsTrue (is_wild h) → IsHeadTyped cx c.type h → Lone (ways_at (Some is) (Some u) h) (head_binds c.place h)
   wild-lone c None is u e w t =
-      record { way = under_all is bare_way; is = refl; trace = (under-bare is bare_way).0;
-          bindings = (under-bare is bare_way).1; canonical = subst Canonical (sym (under-bare is bare_way).1) refl }
+      record {
+        way = under_all is bare_way;
+        is = refl;
+        trace = (under-bare is bare_way).0;
+        bindings = (under-bare is bare_way).1;
+        canonical = subst Canonical (sym (under-bare is bare_way).1) refl;
+      }
   wild-lone c (Some (de_pat WildCtor ty uid at subs binds)) is u e w t =
       let x : Way = with_bounds binds u bare_way in
       let b : (under_all is x).bindings ≡ bindings_in v (map (bind_at c.place) binds) = (under-bare is x).1
-          ∙ whole-bound v c.place u binds e t.1 in
-      record { way = under_all is x; is = refl; trace = (under-bare is x).0
-          ∙ bounds-trace binds u bare_way; bindings = b; canonical = subst Canonical (sym b)
-          (caught-canonical v (map (bind_at c.place) binds)) }
+      ∙ whole-bound v c.place u binds e t.1 in
+      record {
+        way = under_all is x;
+        is = refl;
+        trace = (under-bare is x).0
+            ∙ bounds-trace binds u bare_way;
+        bindings = b;
+        canonical = subst Canonical (sym b)
+            (caught-canonical v (map (bind_at c.place) binds));
+      }
   wild-lone c (Some (de_pat SingleCtor ty uid at subs binds)) is u e w t = cc
   wild-lone c (Some (de_pat PointCtor ty uid at subs binds)) is u e w t = cc
   wild-lone c (Some (de_pat LaterCtor ty uid at subs binds)) is u e w t = cc
@@ -154,7 +165,7 @@ module _ {T : Type 0} (cx : Context T) (v : MValue) where
       let a = wild-lone c h there.0.0 there.1.0.0 there.1.0.1 k.0 t.0 in
       let b = wilds-lone cs hs there.1.1 k.1 t.1 in
       let first : ways_at (position_at c.place v) (part_at c.place v) h ≡ a.way ∷ [] = rw
-          (there.0.1, there.1.0.1) a.is in
+      (there.0.1, there.1.0.1) a.is in
       let joined : bindings_of_both a.way.bindings b.way.bindings ≡ bindings_in v (head_binds c.place h ++ all_head_binds cs hs) =
       both-put a.way.bindings b.way.bindings a.canonical ∙ (ap (λ l. put_all l b.way.bindings) a.bindings ∙
       (ap (put_all (bindings_in v (head_binds c.place h))) b.bindings

@@ -88,9 +88,14 @@ module _ {T : Type 0} (decides : ℕ → Decision) where
       AreFree decides k low hs → AreFree decides (both_keys k y) low hs
   free-more k y low [] h f = tt
   free-more k y low (g ∷ gs) h f =
-      let start : low ≤ f.0 = f.1 in
-      (f.0, f.1, f.2, (λ o a b. rw (f.3 o a b) (h o (omega (arith, start, a)))), free-more k y (head_count g + f.0) gs
-      (λ o a. h o (omega (arith, start, a))) f.4)
+      let start : low ≤ f.0 = f.1 in (
+        f.0,
+        f.1,
+        f.2,
+        (λ o a b. rw (f.3 o a b) (h o (omega (arith, start, a)))),
+        free-more k y (head_count g + f.0) gs
+            (λ o a. h o (omega (arith, start, a))) f.4,
+      )
 
   pub within-length : (low high : ℕ) (hs : List (Head T)) → HeadsWithin decides low high hs → low ≤ high
   within-length low high [] w = w
@@ -118,7 +123,7 @@ module _ {T : Type 0} (decides : ℕ → Decision) where
         w.2,
         (λ o p q. rw (a o (omega (arith, start, p)) (omega (arith, q, end))) (b o (omega (arith, start, p)))),
         free-append k y (head_count h + w.0) high hs gs w.3 (λ o p q. a o (omega (arith, start, p)) q)
-        (λ o p. b o (omega (arith, start, p))) f,
+            (λ o p. b o (omega (arith, start, p))) f,
       )
 
   -- what a step leaves of a row is free again
@@ -183,8 +188,11 @@ module _ {T : Type 0} (decides : ℕ → Decision) where
     where
       from : low ≤ e.before.at
       from =
-          elim (cases_lt e.before.at low) [ inl l ↦ none-is-not (YK u) e.before.at e.before.one
-          (g.decided.below e.before.at l) e.before.first | inr l ↦ l ]
+          elim (cases_lt e.before.at low) [
+            | inl l ↦ none-is-not (YK u) e.before.at e.before.one
+                (g.decided.below e.before.at l) e.before.first
+            | inr l ↦ l
+          ]
 
       upto : e.before.at < high
       upto = elim (cases_lt e.before.at g.middle) [
@@ -243,18 +251,18 @@ module _ {T : Type 0} (decides : ℕ → Decision) where
           (alike-same b.at y.heads)) a)
       go (inr (inl e)) = elim (cases_lt e.before.at b.at) [
         | inl s ↦ inl (newer k l b.at hs gs y z e (omega (arith, s)) wide (open-there low high width k y z e is_y p)
-        (λ o r. b.same o (omega (arith, r, s))) (alike-lower b.at e.before.at hs gs (omega (arith, s)) a))
+            (λ o r. b.same o (omega (arith, r, s))) (alike-lower b.at e.before.at hs gs (omega (arith, s)) a))
         | inr s ↦ inl (kept k l b hs gs y z (λ o r. e.before.same o (omega (arith, r, s)))
-        (alike-above b.at y.heads z.heads wide (lower-all e.before.at b.at y.heads s e.first_above)
-        (lower-all e.before.at b.at z.heads s e.second_above)) a)
+            (alike-above b.at y.heads z.heads wide (lower-all e.before.at b.at y.heads s e.first_above)
+            (lower-all e.before.at b.at z.heads s e.second_above)) a)
       ]
       go (inr (inr e)) = elim (cases_lt e.before.at b.at) [
         | inl s ↦ inr (newer l k b.at gs hs z y e (omega (arith, s)) (sym wide)
-        (sym (b.same e.before.at s) ∙ open-there low high width k z y e is_z p)
-        (λ o r. sym (b.same o (omega (arith, r, s)))) (alike-lower b.at e.before.at gs hs (omega (arith, s)) a'))
+            (sym (b.same e.before.at s) ∙ open-there low high width k z y e is_z p)
+            (λ o r. sym (b.same o (omega (arith, r, s)))) (alike-lower b.at e.before.at gs hs (omega (arith, s)) a'))
         | inr s ↦ inl (kept k l b hs gs y z (λ o r. sym (e.before.same o (omega (arith, r, s))))
-        (alike-above b.at y.heads z.heads wide (lower-all e.before.at b.at y.heads s e.second_above)
-        (lower-all e.before.at b.at z.heads s e.first_above)) a)
+            (alike-above b.at y.heads z.heads wide (lower-all e.before.at b.at y.heads s e.second_above)
+            (lower-all e.before.at b.at z.heads s e.first_above)) a)
       ]
 
   alike-sym : (d : ℕ) (hs gs : List (Head T)) → AreAlike decides d hs gs → AreAlike decides d gs hs
@@ -329,11 +337,21 @@ module _ {T : Type 0} (decides : ℕ → Decision) where
 
         go : (u x : Replacement T) → Both k l b.at u x → Both k l b.at (with_head h u) (with_head g x)
         go u x (inl s) =
-            inl (record { parted = record { before = s.parted.before;
-            alike = (straight s.parted.before.at s.early, s.parted.alike) }; early = s.early })
+            inl (record {
+              parted = record {
+                before = s.parted.before;
+                alike = (straight s.parted.before.at s.early, s.parted.alike);
+              };
+              early = s.early;
+            })
         go u x (inr s) =
-            inr (record { parted = record { before = s.parted.before;
-            alike = (crossed s.parted.before.at s.early, s.parted.alike) }; early = s.early })
+            inr (record {
+              parted = record {
+                before = s.parted.before;
+                alike = (crossed s.parted.before.at s.early, s.parted.alike);
+              };
+              early = s.early;
+            })
 
     -- a row's yields are parted, in their order
     pub row-divided : (k : Key) (low i : ℕ) (hs : List (Head T)) → GoodAt Good i hs → AreFree decides k low hs →

@@ -119,15 +119,20 @@ module _ {T : Type 0} (decides : ℕ → Decision) where
       met-are : map (λ n. n.part) met ≡ take f l ++ drop (length l - b) l
       met-are =
           map-append (λ n. n.part) (take f numbered) (drop (length numbered - b) numbered)
-          ∙ rw (take-map (λ n. n.part) f numbered, drop-map (λ n. n.part)
-          (length numbered - b) numbered, parts-numbered 0 l, length-numbered 0 l) refl
+          ∙ rw (
+            take-map (λ n. n.part) f numbered,
+            drop-map (λ n. n.part)
+                (length numbered - b) numbered,
+            parts-numbered 0 l,
+            length-numbered 0 l,
+          ) refl
 
       met-count : length (de_pats_list subs) ≡ length met
       met-count =
           let c : length numbered ≡ length l = length-numbered 0 l in
           let t : length (take f numbered) ≡ f = take-length f numbered (omega (arith, few, c)) in
           let d : length (drop (length numbered - b) numbered) + (length numbered - b) ≡ length numbered = drop-length
-              (length numbered - b) numbered (omega arith) in
+          (length numbered - b) numbered (omega arith) in
           let whole : length met ≡ length (take f numbered) + length (drop (length numbered - b) numbered) = length-append {A = NumberedPart} (take f numbered) (drop (length numbered - b) numbered) in
           omega (arith, few, c, t, d, whole, count)
 

@@ -13,7 +13,7 @@ before-asym f g a b = elim (cases_lt a.at b.at) [
   | inr l ↦ (elim (cases_lt b.at a.at) [
     | inl m ↦ unequal b.one b.other b.less (same_some b.one b.other (sym b.first ∙ (sym (a.same b.at m) ∙ b.second)))
     | inr m ↦ both a.at b.at (omega (arith, l, m)) a.one a.other b.one b.other a.first a.second b.first b.second a.less
-    b.less
+        b.less
   ])
 ]
   where

@@ -149,12 +149,19 @@ module _ (decides : ℕ → Decision) where
               (done_of decides w)))
           forth a i =
               let d = subst (Among (done_of decides a)) all (map-among (done_of decides)
-                  (ways_at (position_at e.place v) (part_at e.place v) h) a i) in
+              (ways_at (position_at e.place v) (part_at e.place v) h) a i) in
               let m = among-map (times (yield_done decides e.place v y)) (all_done (heads_ways cols y.heads v))
-                  (done_of decides a) d in
-              let w = among-map (done_of decides) (heads_ways cols y.heads v) m.0 m.1 in
-              (y, subst (Among y) (sym only) (inl refl), (w.0, w.1, m.2 ∙ ap
-              (times (yield_done decides e.place v y)) w.2))
+              (done_of decides a) d in
+              let w = among-map (done_of decides) (heads_ways cols y.heads v) m.0 m.1 in (
+                y,
+                subst (Among y) (sym only) (inl refl),
+                (
+                  w.0,
+                  w.1,
+                  m.2 ∙ ap
+                      (times (yield_done decides e.place v y)) w.2,
+                ),
+              )
 
           back : (z : Replacement T) → z ≡ y → (w : Way) → Among w (heads_ways cols z.heads v) → (a : Way)
               × Among a (ways_at (position_at e.place v) (part_at e.place v) h)
@@ -162,10 +169,10 @@ module _ (decides : ℕ → Decision) where
           back z q w i =
               let j = subst (λ x. Among w (heads_ways cols x.heads v)) q i in
               let d = map-among (times (yield_done decides e.place v y)) (all_done (heads_ways cols y.heads v))
-                  (done_of decides w) (map-among (done_of decides) (heads_ways cols y.heads v) w j) in
+              (done_of decides w) (map-among (done_of decides) (heads_ways cols y.heads v) w j) in
               let m = among-map (done_of decides) (ways_at (position_at e.place v) (part_at e.place v) h)
-                  (times (yield_done decides e.place v y) (done_of decides w))
-                  (subst (Among (times (yield_done decides e.place v y) (done_of decides w))) (sym all) d) in
+              (times (yield_done decides e.place v y) (done_of decides w))
+              (subst (Among (times (yield_done decides e.place v y) (done_of decides w))) (sym all) d) in
               (m.0, m.1, sym m.2 ∙ ap (λ x. times (yield_done decides e.place v x) (done_of decides w)) (sym q))
 
       -- a pattern whose constructor has the piece: its patterns do on the parts what its ways do

@@ -185,7 +185,7 @@ module _ {T : Type 0} (decides : ℕ → Decision) where
     pull zero (c ∷ cs) (h ∷ hs) s z a =
         let p = combine-elim decides (ways_at (position_at c.place v) (part_at c.place v) h) (heads_ways cs hs v) z a in
         let k = s.1.forth p.first (subst (λ x. Among p.first
-            (ways_at (position_at x.place v) (part_at x.place v) h)) s.0 p.in_first) in
+        (ways_at (position_at x.place v) (part_at x.place v) h)) s.0 p.in_first) in
         let whole : heads_ways (new ++ cs) (k.0.heads ++ hs) v ≡ combine (heads_ways new k.0.heads v) (heads_ways cs hs v) = heads-append new cs k.0.heads hs v (s.1.wide k.0 k.1) in
         record {
           yield = with_others hs k.0;
@@ -262,7 +262,7 @@ module _ {T : Type 0} (decides : ℕ → Decision) where
             Pushed (c ∷ cs) (h ∷ hs) (times (Y y) (D w))
         go x j q r ih =
             let p = combine-elim decides (ways_at (position_at c.place v) (part_at c.place v) h)
-                (heads_ways (replaced_at i cs new) x.heads v) w r in
+            (heads_ways (replaced_at i cs new) x.heads v) w r in
             let k = ih p.second p.in_second in
             record {
               way = join p.first k.way;

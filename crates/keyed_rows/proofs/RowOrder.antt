@@ -36,9 +36,11 @@ every-among P (x ∷ xs) h = (h x (inl refl), every-among P xs (λ y i. h y (inr
 pub ordered-among : {A : Type 0} (R S : A → A → Type 0) (xs : List A) →
     ((x y : A) → Among x xs → Among y xs → R x y → S x y) → Ordered R xs → Ordered S xs
 ordered-among R S [] h o = tt
-ordered-among R S (x ∷ xs) h o =
-    (every-among (S x) xs (λ y i. h x y (inl refl) (inr i) (among-every (R x) xs y o.0 i)), ordered-among R S xs
-    (λ y z i j. h y z (inr i) (inr j)) o.1)
+ordered-among R S (x ∷ xs) h o = (
+  every-among (S x) xs (λ y i. h x y (inl refl) (inr i) (among-every (R x) xs y o.0 i)),
+  ordered-among R S xs
+      (λ y z i j. h y z (inr i) (inr j)) o.1,
+)
 
 module _ {T : Type 0} (decides : ℕ → Decision) where
   pub key-of-row : (place : List MStep) (r : MRow T) (y : Replacement T) →
@@ -95,12 +97,12 @@ module _ {T : Type 0} (decides : ℕ → Decision) where
         IsParted decides (row_key decides r) r.heads (row_key decides s) s.heads
     moved rows r s m n p =
         let one : IsParted decides (row_key decides r) m.yield.heads (MK rows s n) n.yield.heads = subst
-            (λ k. IsParted decides k m.yield.heads (MK rows s n) n.yield.heads) (sym (made-key rows r m)) p in
+        (λ k. IsParted decides k m.yield.heads (MK rows s n) n.yield.heads) (sym (made-key rows r m)) p in
         let two : IsParted decides (row_key decides r) m.yield.heads (row_key decides s) n.yield.heads = subst
-            (λ k. IsParted decides (row_key decides r) m.yield.heads k n.yield.heads) (sym (made-key rows s n)) one in
+        (λ k. IsParted decides (row_key decides r) m.yield.heads k n.yield.heads) (sym (made-key rows s n)) one in
         let three : IsParted decides (row_key decides r) r.heads (row_key decides s) n.yield.heads = subst
-            (λ hs. IsParted decides (row_key decides r) hs (row_key decides s) n.yield.heads)
-            (sym (ap (λ x. x.heads) m.is)) two in
+        (λ hs. IsParted decides (row_key decides r) hs (row_key decides s) n.yield.heads)
+        (sym (ap (λ x. x.heads) m.is)) two in
         subst (λ hs. IsParted decides (row_key decides r) r.heads (row_key decides s) hs)
         (sym (ap (λ x. x.heads) n.is)) three
 
@@ -123,9 +125,9 @@ module _ {T : Type 0} (decides : ℕ → Decision) where
           IsBefore (MK rows r m) (MK rows s n) → Target rows r s m n
       same-row r s m n e b =
           let mine : Among n.yield (replacements_at f i m.from.heads) = subst
-              (λ x. Among n.yield (replacements_at f i x.heads)) (sym e) n.by in
+          (λ x. Among n.yield (replacements_at f i x.heads)) (sym e) n.by in
           let keys : both_keys (row_key decides m.from) (replacement_key decides n.yield) ≡ MK rows s n = ap
-              (λ x. both_keys (row_key decides x) (replacement_key decides n.yield)) e in
+          (λ x. both_keys (row_key decides x) (replacement_key decides n.yield)) e in
           go keys (two-of (λ y z. IsParted decides (both_keys (row_key decides m.from)
           (replacement_key decides y)) y.heads (both_keys (row_key decides m.from) (replacement_key decides z)) z.heads)
           (replacements_at f i m.from.heads) m.yield n.yield (row-divided decides Good width f divides
@@ -140,7 +142,7 @@ module _ {T : Type 0} (decides : ℕ → Decision) where
               ⊎ (P m.yield n.yield ⊎ P n.yield m.yield) → Target rows r s m n
           go keys (inl h) =
               let one : MK rows r m ≡ MK rows s n = ap (λ y. both_keys (row_key decides m.from)
-                  (replacement_key decides y)) h ∙ keys in
+              (replacement_key decides y)) h ∙ keys in
               let c : IsBefore (MK rows s n) (MK rows s n) = subst (λ k. IsBefore k (MK rows s n)) one b in
               absurd (before-asym (MK rows s n) (MK rows s n) c c)
           go keys (inr (inl p)) = subst (λ k. IsParted decides (MK rows r m) m.yield.heads k n.yield.heads) keys p

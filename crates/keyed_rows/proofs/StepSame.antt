@@ -26,8 +26,11 @@ module _ (v : MValue) where
       v bs)
   bound b bs = go (part_at b.place v)
     where
-      go : (o : Option MValue) → (elim o [ None ↦ bindings_in v bs | Some u ↦ bind_into
-          (record { name = b.name; mode = b.mode; value = u }) (bindings_in v bs) ]) ≡ bound_into b o (bindings_in v bs)
+      go : (o : Option MValue) → (elim o [
+        | None ↦ bindings_in v bs
+        | Some u ↦ bind_into
+            (record { name = b.name; mode = b.mode; value = u }) (bindings_in v bs)
+      ]) ≡ bound_into b o (bindings_in v bs)
       go None = refl
       go (Some u) = refl
 
@@ -66,9 +69,12 @@ module _ {T : Type 0} (decides : ℕ → Decision) (f : Head T → List (Replace
   row-done : (r : MRow T) (y : Replacement T) → R (row_replaced e.place r y) ≡ times (R r)
       (yield_done decides e.place v y)
   row-done r y =
-      rw (key-of-row decides e.place r y, caught-append v r.caught (map (bind_at e.place) y.binds)
-      ∙ sym (both-put (bindings_in v r.caught) (bindings_in v (map (bind_at e.place) y.binds))
-      (caught-canonical v r.caught))) refl
+      rw (
+        key-of-row decides e.place r y,
+        caught-append v r.caught (map (bind_at e.place) y.binds)
+            ∙ sym (both-put (bindings_in v r.caught) (bindings_in v (map (bind_at e.place) y.binds))
+            (caught-canonical v r.caught)),
+      ) refl
 
   abbrev as_tried : MRow T → Done → KeyedTry
   as_tried r d = record { arm = r.arm; guarded = r.guarded; key = d.key; bindings = d.bindings }
@@ -134,9 +140,9 @@ module _ {T : Type 0} (decides : ℕ → Decision) (f : Head T → List (Replace
             Among z (keyed_tries decides cs v rows)
         go r j y b t =
             let w = among-map (keyed_try decides v (row_replaced e.place r y))
-                (heads_ways (replaced_at i cs new) y.heads v) z t in
+            (heads_ways (replaced_at i cs new) y.heads v) z t in
             let p = push decides f e new v canonical (λ y. caught-canonical v
-                (map (bind_at e.place) y.binds)) canonical_ways i cs r.heads (steps rows s r j) y b w.0 w.1 in
+            (map (bind_at e.place) y.binds)) canonical_ways i cs r.heads (steps rows s r j) y b w.0 w.1 in
             subst (λ x. Among x (keyed_tries decides cs v rows)) (sym (w.2 ∙ sym (same-tried r y p.way w.0 p.is)))
             (flat-among (row_keyed_tries decides cs v) rows r (keyed_try decides v r p.way) j
             (map-among (keyed_try decides v r) (heads_ways cs r.heads v) p.way p.of))

@@ -78,8 +78,11 @@ module _ (v : MValue) where
   caught-named names (b ∷ bs) h = go (part_at b.place v) (caught-named names bs h.1)
     where
       go : (o : Option MValue) → Named names (bindings_in v bs) →
-          Named names (elim o [ None ↦ bindings_in v bs | Some u ↦ bind_into
-          (record { name = b.name; mode = b.mode; value = u }) (bindings_in v bs) ])
+          Named names (elim o [
+            | None ↦ bindings_in v bs
+            | Some u ↦ bind_into
+                (record { name = b.name; mode = b.mode; value = u }) (bindings_in v bs)
+          ])
       go None k = k
       go (Some u) k = named-into names (record { name = b.name; mode = b.mode; value = u }) (bindings_in v bs) h.0 k
 
@@ -101,8 +104,11 @@ module _ {T : Type 0} (decides : ℕ → Decision) where
   head-way : (n : ℕ) (h : Head T) (u : MValue) (a : Way) → IsHeadNumbered decides n h → Among a (head_ways h u) →
       HeadWay n h a
   head-way n None u a i (inl e) =
-      record { above = λ o l. ap (λ w. way_key decides w o) e; neat = subst (Neat []) (sym e)
-      (record { canonical = refl; named = tt }) }
+      record {
+        above = λ o l. ap (λ w. way_key decides w o) e;
+        neat = subst (Neat []) (sym e)
+            (record { canonical = refl; named = tt });
+      }
   head-way n None u a i (inr j) = elim j [ ]
   head-way n (Some p) u a i j = record {
     above =
@@ -123,8 +129,11 @@ module _ {T : Type 0} (decides : ℕ → Decision) where
       record {
         above = λ q l. ap (λ t. keyed t q) trace ∙ w.above q l;
         neat =
-            record { canonical = subst Canonical (sym bindings) w.neat.canonical; named = subst (Named (head_names h))
-            (sym bindings) w.neat.named };
+            record {
+              canonical = subst Canonical (sym bindings) w.neat.canonical;
+              named = subst (Named (head_names h))
+                  (sym bindings) w.neat.named;
+            };
       }
     where
       keyed : List ℕ → ℕ → Option ℕ
@@ -168,9 +177,9 @@ module _ {T : Type 0} (decides : ℕ → Decision) where
         (column, subst (HeadKeeps decides f e new v) (sym same) keeps)
     steps-at k low (suc i) (c ∷ cs) (g ∷ hs) caught there free good names h at keeps = (
       (λ a j y m. times-swap (done_of decides a) (yield_done decides e.place v y)
-      (separate a y (way-at free.0 g (position_at c.place v) (part_at c.place v) a free.2 j).above (late y m))
-      (way-at free.0 g (position_at c.place v) (part_at c.place v) a free.2 j).neat.canonical
-      (caught-canonical v (map (bind_at e.place) y.binds))
+          (separate a y (way-at free.0 g (position_at c.place v) (part_at c.place v) a free.2 j).above (late y m))
+          (way-at free.0 g (position_at c.place v) (part_at c.place v) a free.2 j).neat.canonical
+          (caught-canonical v (map (bind_at e.place) y.binds))
           (apart-lists (head_names g) (flat_map head_names hs) a.bindings
           (bindings_in v (map (bind_at e.place) y.binds)) apart (way-at free.0 g (position_at c.place v)
           (part_at c.place v) a free.2 j).neat.named

@@ -45,13 +45,27 @@ pub made-at : {T : Type 0} (f : Head T → List (Replacement T)) (i : ℕ) (hs :
     Among y (replacements_at f i hs) → IsMadeAt f i hs y
 made-at f i [] y a = elim a [ ]
 made-at f zero (h ∷ hs) y a =
-    let m = among-map (with_others hs) (f h) y a in record { head = h; there = refl; by = m.0; of = m.1; binds = ap
-    (λ x. x.binds) m.2; chosen = ap (λ x. x.chosen) m.2 }
+    let m = among-map (with_others hs) (f h) y a in record {
+      head = h;
+      there = refl;
+      by = m.0;
+      of = m.1;
+      binds = ap
+          (λ x. x.binds) m.2;
+      chosen = ap (λ x. x.chosen) m.2;
+    }
 made-at {T} f (suc i) (h ∷ hs) y a =
     let m = among-map (with_head h) (replacements_at f i hs) y a in
     let r : IsMadeAt f i hs m.0 = made-at f i hs m.0 m.1 in
-    record { head = r.head; there = r.there; by = r.by; of = r.of; binds = ap (λ (x : Replacement T). x.binds) m.2
-        ∙ r.binds; chosen = ap (λ (x : Replacement T). x.chosen) m.2 ∙ r.chosen }
+    record {
+      head = r.head;
+      there = r.there;
+      by = r.by;
+      of = r.of;
+      binds = ap (λ (x : Replacement T). x.binds) m.2
+          ∙ r.binds;
+      chosen = ap (λ (x : Replacement T). x.chosen) m.2 ∙ r.chosen;
+    }
 
 pub places-append : (v : MValue) (xs ys : List MBind) → places_are v xs ≡ true → places_are v ys ≡ true →
     places_are v (xs ++ ys) ≡ true
@@ -81,10 +95,10 @@ module _ {T : Type 0} (IsType : T → Type 0) (cx : Context T) (V : T → Bool �
           let g : IsGoodRow cx decides columns a.0 = among-every (IsGoodRow cx decides columns) rows a.0 good a.1 in
           let h = head-at cx columns a.0.heads i c g.typed there in
           let typed : IsHeadTyped cx c.type m.head = subst (IsHeadTyped cx c.type)
-              (some h.0 m.head (sym h.1 ∙ m.there)) h.2 in
+          (some h.0 m.head (sym h.1 ∙ m.there)) h.2 in
           let new : places_are v (map (bind_at c.place) b.0.binds) ≡ true = subst
-              (λ (l : List MBound). places_are v (map (bind_at c.place) l) ≡ true) (sym m.binds)
-              (each a.0 m.head m.by a.1 m.there typed m.of) in
+          (λ (l : List MBound). places_are v (map (bind_at c.place) l) ≡ true) (sym m.binds)
+          (each a.0 m.head m.by a.1 m.there typed m.of) in
           subst (λ (x : MRow T). places_are v x.caught ≡ true) (sym b.2)
           (places-append v a.0.caught (map (bind_at c.place) b.0.binds)
           (among-every (λ x. IsTrue (places_are v x.caught)) rows a.0 caught a.1) new)
@@ -102,7 +116,7 @@ module _ {T : Type 0} (IsType : T → Type 0) (cx : Context T) (V : T → Bool �
       whole None y t (inr e) = absurd e
       whole (Some p) y t j =
           let m = among-map (λ x. record { heads = Some x.pat ∷ []; chosen = x.chosen; binds = x.binds })
-              (choices_of p) y j in
+          (choices_of p) y j in
           subst (λ (x : Replacement T). AreWhole x.binds) (sym m.2) (among-every (λ (x : Choice T). AreWhole x.binds)
           (choices_of p) m.0 (choices-whole cx c.type p t) m.1)
 
@@ -131,8 +145,11 @@ module _ {T : Type 0} (IsType : T → Type 0) (cx : Context T) (V : T → Bool �
 
           go : (b : Bool) → is_wild h ≡ b → AreWhole y.binds
           go true q =
-              elim (subst (λ x. Among y (cond x (Y ∷ []) [])) q j) [ inl e ↦ subst
-              (λ (x : Replacement T). AreWhole x.binds) (sym e) (own h t q) | inr e ↦ absurd e ]
+              elim (subst (λ x. Among y (cond x (Y ∷ []) [])) q j) [
+                | inl e ↦ subst
+                    (λ (x : Replacement T). AreWhole x.binds) (sym e) (own h t q)
+                | inr e ↦ absurd e
+              ]
           go false q = absurd (subst (λ x. Among y (cond x (Y ∷ []) [])) q j)
 
   pub entered-caught : PiecesFit IsType cx decides → (rows next : List (MRow T)) (pieces : List MCtor) (p : MCtor)
@@ -155,12 +172,19 @@ module _ {T : Type 0} (IsType : T → Type 0) (cx : Context T) (V : T → Bool �
         where
           Y : Replacement T
           Y =
-              record { heads = heads_of k (map Some (de_pats_list subs))
-              (cx.arity p c.type); chosen = []; binds = binds }
+              record {
+                heads = heads_of k (map Some (de_pats_list subs))
+                    (cx.arity p c.type);
+                chosen = [];
+                binds = binds;
+              }
 
           go : (b : Bool) → has_piece k p ≡ b → places_are v (map (bind_at c.place) y.binds) ≡ true
           go true q =
-              elim (subst (λ x. Among y (cond x (Y ∷ []) [])) q j) [ inl e ↦ subst
-              (λ (x : Replacement T). places_are v (map (bind_at c.place) x.binds) ≡ true) (sym e)
-              (own-places c.place v u part k (f.sided u built ∙ q) binds t.1) | inr e ↦ absurd e ]
+              elim (subst (λ x. Among y (cond x (Y ∷ []) [])) q j) [
+                | inl e ↦ subst
+                    (λ (x : Replacement T). places_are v (map (bind_at c.place) x.binds) ≡ true) (sym e)
+                    (own-places c.place v u part k (f.sided u built ∙ q) binds t.1)
+                | inr e ↦ absurd e
+              ]
           go false q = absurd (subst (λ x. Among y (cond x (Y ∷ []) [])) q j)

@@ -61,9 +61,9 @@ module _ {T : Type 0} where
   fine-to caught [] h = record { distinct = h; each = tt; beside = λ n a b. b; apart = tt }
   fine-to caught (x ∷ hs) h =
       let a = both (head_names_differ x) (are_apart caught (head_names x) &&
-          (are_apart (head_names x) (names_of hs) && heads_names_differ caught hs)) h in
+      (are_apart (head_names x) (names_of hs) && heads_names_differ caught hs)) h in
       let b = both (are_apart caught (head_names x)) (are_apart (head_names x)
-          (names_of hs) && heads_names_differ caught hs) a.1 in
+      (names_of hs) && heads_names_differ caught hs) a.1 in
       let c = both (are_apart (head_names x) (names_of hs)) (heads_names_differ caught hs) b.1 in
       let r : AreFine caught hs = fine-to caught hs c.1 in
       record {
@@ -86,8 +86,13 @@ module _ {T : Type 0} where
       (λ n a b. f.beside n a (left-among (head_names x) (names_of hs) n b)))
       (and_true (are_apart (head_names x) (names_of hs)) (heads_names_differ caught hs)
       (apart-from (head_names x) (names_of hs) f.apart.0)
-      (fine-from caught hs (record { distinct = f.distinct; each = f.each.1; beside = λ n a b. f.beside n a
-      (right-among (head_names x) (names_of hs) n b); apart = f.apart.1 }))))
+      (fine-from caught hs (record {
+        distinct = f.distinct;
+        each = f.each.1;
+        beside = λ n a b. f.beside n a
+            (right-among (head_names x) (names_of hs) n b);
+        apart = f.apart.1;
+      }))))
 
   pub of-append : (xs ys : List (Head T)) (n : List ℕ) → Among n (names_of (xs ++ ys)) → Among n (names_of xs)
       ⊎ Among n (names_of ys)
@@ -101,8 +106,11 @@ module _ {T : Type 0} where
       HeadsApart (xs ++ ys)
   apart-append [] ys p q d = q
   apart-append (x ∷ xs) ys p q d = (
-    λ n a b. elim (of-append xs ys n b) [ inl k ↦ p.0 n a k | inr k ↦ d n
-    (left-among (head_names x) (names_of xs) n a) k ],
+    λ n a b. elim (of-append xs ys n b) [
+      | inl k ↦ p.0 n a k
+      | inr k ↦ d n
+          (left-among (head_names x) (names_of xs) n a) k
+    ],
     apart-append xs ys p.1 q (λ n a b. d n (right-among (head_names x) (names_of xs) n a) b),
   )
 
@@ -118,8 +126,11 @@ module _ {T : Type 0} where
         subst (λ (z : Replacement T). IsInside (bound_names z.binds) (names_of (h ∷ hs))
         × IsInside (names_of z.heads) (names_of (h ∷ hs))) (sym m.2) (
           λ n b. left-among (head_names h) (names_of hs) n (g.binds n b),
-          λ n b. elim (of-append m.0.heads hs n b) [ inl k ↦ left-among (head_names h) (names_of hs) n
-          (g.heads n k) | inr k ↦ right-among (head_names h) (names_of hs) n k ],
+          λ n b. elim (of-append m.0.heads hs n b) [
+            | inl k ↦ left-among (head_names h) (names_of hs) n
+                (g.heads n k)
+            | inr k ↦ right-among (head_names h) (names_of hs) n k
+          ],
         )
     yield-inside (suc i) (h ∷ hs) y a =
         let m = among-map (with_head h) (replacements_at f i hs) y a in
@@ -127,9 +138,11 @@ module _ {T : Type 0} where
         subst (λ (z : Replacement T). IsInside (bound_names z.binds) (names_of (h ∷ hs))
         × IsInside (names_of z.heads) (names_of (h ∷ hs))) (sym m.2) (
           λ n b. right-among (head_names h) (names_of hs) n (g.0 n b),
-          λ n b. elim (among-append (head_names h) (names_of m.0.heads) n b)
-          [ inl k ↦ left-among (head_names h) (names_of hs) n k | inr k ↦ right-among (head_names h) (names_of hs) n
-          (g.1 n k) ],
+          λ n b. elim (among-append (head_names h) (names_of m.0.heads) n b) [
+            | inl k ↦ left-among (head_names h) (names_of hs) n k
+            | inr k ↦ right-among (head_names h) (names_of hs) n
+                (g.1 n k)
+          ],
         )
 
     -- names that differ do so after the step
@@ -146,26 +159,37 @@ module _ {T : Type 0} where
               (λ n p q. g.beside n p (left-among (head_names h) (names_of hs) n (e.binds n q)));
           each = every-append (λ x. head_names_differ x ≡ true) m.0.heads hs k.each g.each.1;
           beside = λ n p q. elim (among-append caught (bound_names m.0.binds) n p) [
-            | inl c ↦ (elim (of-append m.0.heads hs n q) [ inl j ↦ g.beside n c
-            (left-among (head_names h) (names_of hs) n (e.heads n j)) | inr j ↦ g.beside n c
-            (right-among (head_names h) (names_of hs) n j) ])
-            | inr c ↦ (elim (of-append m.0.heads hs n q) [ inl j ↦ k.beside n c j | inr j ↦ g.apart.0 n
-            (e.binds n c) j ])
+            | inl c ↦ (elim (of-append m.0.heads hs n q) [
+              | inl j ↦ g.beside n c
+                  (left-among (head_names h) (names_of hs) n (e.heads n j))
+              | inr j ↦ g.beside n c
+                  (right-among (head_names h) (names_of hs) n j)
+            ])
+            | inr c ↦ (elim (of-append m.0.heads hs n q) [
+              | inl j ↦ k.beside n c j
+              | inr j ↦ g.apart.0 n
+                  (e.binds n c) j
+            ])
           ];
           apart = apart-append m.0.heads hs k.apart g.apart.1 (λ n p q. g.apart.0 n (e.heads n p) q);
         })
     fine-step caught (suc i) (h ∷ hs) y a g =
         let m = among-map (with_head h) (replacements_at f i hs) y a in
         let k : AreFine (caught ++ bound_names m.0.binds) m.0.heads = fine-step caught i hs m.0 m.1
-            (record { distinct = g.distinct; each = g.each.1; beside = λ n p q. g.beside n p
-            (right-among (head_names h) (names_of hs) n q); apart = g.apart.1 }) in
+        (record {
+          distinct = g.distinct;
+          each = g.each.1;
+          beside = λ n p q. g.beside n p
+              (right-among (head_names h) (names_of hs) n q);
+          apart = g.apart.1;
+        }) in
         let e = yield-inside i hs m.0 m.1 in
         subst (λ (z : Replacement T). AreFine (caught ++ bound_names z.binds) z.heads) (sym m.2) (record {
           distinct = k.distinct;
           each = (g.each.0, k.each);
           beside = λ n p q. elim (among-append (head_names h) (names_of m.0.heads) n q) [
             | inl j ↦ (elim (among-append caught (bound_names m.0.binds) n p)
-            [ inl c ↦ g.beside n c (left-among (head_names h) (names_of hs) n j) | inr c ↦ g.apart.0 n j (e.0 n c) ])
+                [ inl c ↦ g.beside n c (left-among (head_names h) (names_of hs) n j) | inr c ↦ g.apart.0 n j (e.0 n c) ])
             | inr j ↦ k.beside n p j
           ];
           apart = (λ n p q. g.apart.0 n p (e.1 n q), k.apart);

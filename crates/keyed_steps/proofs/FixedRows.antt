@@ -58,9 +58,9 @@ module _ {T : Type 0} (IsType : T → Type 0) (cx : Context T) (V : T → Bool �
       let u : MValue = Row (values_of us) in
       let count : length us ≡ n = e.count ∙ law.arity c.type (RowCtor (FixedShape n)) is of in
       let b : builds named (RowCtor (FixedShape n)) u ≡ true = subst (λ k. nat_eq n k ≡ true)
-          (sym (ap length (values-same us) ∙ count)) (nat_itself n) in
+      (sym (ap length (values-same us) ∙ count)) (nat_itself n) in
       let o : is_of_set (cx.set_of c.type) (OneLength (length us)) ≡ true = subst
-          (λ k. is_of_set (cx.set_of c.type) (OneLength k) ≡ true) (sym count) (fixed-length (cx.set_of c.type) n of) in
+      (λ k. is_of_set (cx.set_of c.type) (OneLength k) ≡ true) (sym count) (fixed-length (cx.set_of c.type) n of) in
       let w : V c.type c.sure u = row-of IsType cx V law values c is (FixedShape n) of us o
       (λ i x a j. subst (λ (t : T). V t c.sure x) (law.items c.type (FixedShape n) (FixedShape n) (i + 0) j is of of)
       (parts-get V c.sure (cx.sub (RowCtor (FixedShape n)) c.type) 0 us i x e.values a)) in

@@ -102,7 +102,7 @@ module _ {T : Type 0} (IsType : T → Type 0) (cx : Context T) (V : T → Bool �
       let m : length {A = Head T} (wildcards (n - (f + b))) ≡ n - (f + b) = wilds-length T (n - (f + b)) in
       let p : length (take f hs ++ (wildcards (n - (f + b)) ++ drop f hs)) ≡ length (take f hs) + length (wildcards (n - (f + b)) ++ drop f hs) = length-append {A = Head T} (take f hs) (wildcards (n - (f + b)) ++ drop f hs) in
       let q : length (wildcards (n - (f + b)) ++ drop f hs) ≡ length {A = Head T} (wildcards (n - (f + b))) + length
-          (drop f hs) = length-append {A = Head T} (wildcards (n - (f + b))) (drop f hs) in
+      (drop f hs) = length-append {A = Head T} (wildcards (n - (f + b))) (drop f hs) in
       omega (arith, a, d, m, p, q, e, l)
 
   ctor-count : (k p : MCtor) (subs : MDePats T) → IsPlain k → (is_wild_ctor k ≡ false → IsWritten cx t k subs) →

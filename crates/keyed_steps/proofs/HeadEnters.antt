@@ -192,9 +192,9 @@ module _ {T : Type 0} (decides : ℕ → Decision) (IsType : T → Type 0) (cx :
         Same k
     meet-same k m w h b =
         let own : HasParts cx V c [] k u (parts_by k u) = piece-parts IsType cx V law values c is [] k u w.belong value
-            b in
+        b in
         let count : length (de_pats_list subs) ≡ length (parts_of u) = w.count
-            ∙ (sym own.count ∙ ap length (own-count k m)) in
+        ∙ (sym own.count ∙ ap length (own-count k m)) in
         all-met decides k subs at N (λ w. arena_alternatives_ways (chosen_of subs) subs w) u m b count
         ∙ ap (heads_done decides (heads_of k (map Some (de_pats_list subs)) N)) (sym (meets-parts k p m h))
 
@@ -228,7 +228,7 @@ module _ {T : Type 0} (decides : ℕ → Decision) (IsType : T → Type 0) (cx :
         go true e =
             let b : (is_wild_ctor k || builds [] k u) ≡ true = f.sided u built ∙ e in
             let w : is_wild_ctor k ≡ false → IsWritten cx c.type k subs = λ x. written cx c.type ty uid at subs binds k
-                f.plain x t in
+            f.plain x t in
             piece-keeps decides p N c (part_columns cx c p) v u pos
             (parts_by p u) part position columns-at column-count k ty uid at subs binds e
             (head-count IsType cx V law c.type is named p (Some (de_pat k ty uid at subs binds)) of t f e)
@@ -241,15 +241,19 @@ module _ {T : Type 0} (decides : ℕ → Decision) (IsType : T → Type 0) (cx :
           where
             none : has_piece k p ≡ false → specialise_head p N (Some (de_pat k ty uid at subs binds)) ≡ []
             none e =
-                ap (λ x. cond x (record { heads = heads_of k
-                (map Some (de_pats_list subs)) N; chosen = []; binds = binds } ∷ []) []) e
+                ap (λ x. cond x (record {
+                  heads = heads_of k
+                      (map Some (de_pats_list subs)) N;
+                  chosen = [];
+                  binds = binds;
+                } ∷ []) []) e
 
   -- entering the piece keeps the ways of each head that fits it
   pub head-enters : (h : Head T) → IsHeadTyped cx c.type h → HeadFits named p h →
       HeadKeeps decides (specialise_head p N) c (part_columns cx c p) v h
   head-enters None t f =
       let k = pattern-enters c.type 0 0 no_de_pats [] WildCtor (refl, refl, tt)
-          (record { plain = tt; sided = λ u b. refl; room = λ e. room p }) in
+      (record { plain = tt; sided = λ u b. refl; room = λ e. room p }) in
       record {
         wide = k.wide;
         forth = λ a i. k.forth a (subst (Among a) same i);

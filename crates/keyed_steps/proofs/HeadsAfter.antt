@@ -70,7 +70,7 @@ module _ {T : Type 0} (cx : Context T) where
   expand-after t None y a m (inr e) = absurd e
   expand-after t (Some p) y a m j =
       let k = among-map (λ c. record { heads = Some c.pat ∷ []; chosen = c.chosen; binds = c.binds })
-          (choices_of p) y j in
+      (choices_of p) y j in
       let g : IsGoodChoice t k.0 = among-every (IsGoodChoice t) (choices_of p) k.0 (choices-good t p a m) k.1 in
       record { head = Some k.0.pat; only = ap (λ x. x.heads) k.2; typed = g.typed; made = g.made; plain = g.plain }
 
@@ -131,8 +131,11 @@ module _ {T : Type 0} (cx : Context T) where
 
       go : (b : Bool) → has_piece k p ≡ b → Every (IsMadeHead) y.heads
       go true q =
-          elim (subst (λ x. Among y (cond x (Y ∷ []) [])) q j) [ inl e ↦ subst
-          (λ (x : Replacement T). Every (IsMadeHead) x.heads) (sym e) (heads-made k n subs m.1) | inr e ↦ absurd e ]
+          elim (subst (λ x. Among y (cond x (Y ∷ []) [])) q j) [
+            | inl e ↦ subst
+                (λ (x : Replacement T). Every (IsMadeHead) x.heads) (sym e) (heads-made k n subs m.1)
+            | inr e ↦ absurd e
+          ]
       go false q = absurd (subst (λ x. Among y (cond x (Y ∷ []) [])) q j)
 
 -- the heads of the parts are well typed at the piece's columns
@@ -149,7 +152,7 @@ module _ {T : Type 0} (IsType : T → Type 0) (cx : Context T) (V : T → Bool �
   ctor-from OrCtor ty uid at subs binds pl t h l = elim pl [ ]
   ctor-from (RowCtor (LongerShape f b)) ty uid at subs binds pl t h l =
       let w : IsWritten cx c.type (RowCtor (LongerShape f b)) subs = written cx c.type ty uid at subs binds
-          (RowCtor (LongerShape f b)) pl refl t in
+      (RowCtor (LongerShape f b)) pl refl t in
       ends-from IsType cx V law c.type is f b p subs (cx.arity p c.type) w.belong t.2.2 h of
   ctor-from (RowCtor (FixedShape n)) ty uid at subs binds pl t h l =
       meets-from IsType cx V law c.type is (RowCtor (FixedShape n)) p subs tt
@@ -204,6 +207,9 @@ module _ {T : Type 0} (IsType : T → Type 0) (cx : Context T) (V : T → Bool �
 
       go : (b : Bool) → has_piece k p ≡ b → AreHeadsTyped cx (part_columns cx c p) y.heads
       go true q =
-          elim (subst (λ x. Among y (cond x (Y ∷ []) [])) q j) [ inl e ↦ subst
-          (λ (x : Replacement T). AreHeadsTyped cx (part_columns cx c p) x.heads) (sym e) (whole q) | inr e ↦ absurd e ]
+          elim (subst (λ x. Among y (cond x (Y ∷ []) [])) q j) [
+            | inl e ↦ subst
+                (λ (x : Replacement T). AreHeadsTyped cx (part_columns cx c p) x.heads) (sym e) (whole q)
+            | inr e ↦ absurd e
+          ]
       go false q = absurd (subst (λ x. Among y (cond x (Y ∷ []) [])) q j)

@@ -125,10 +125,10 @@ module _ {T : Type 0} (IsType : T → Type 0) (cx : Context T) (V : T → Bool �
             let b = among-map (row_replaced c.place a.0) (replacements_at f i a.0.heads) r a.2 in
             let g : Row columns a.0 = among-every (Row columns) rows a.0 good a.1 in
             let names : AreFine (map (λ x. x.name) a.0.caught ++ bound_names b.0.binds) b.0.heads = fine-step f fine
-                (map (λ x. x.name) a.0.caught) i a.0.heads b.0 b.1 (fine-to
-                (map (λ x. x.name) a.0.caught) a.0.heads g.names) in
+            (map (λ x. x.name) a.0.caught) i a.0.heads b.0 b.1 (fine-to
+            (map (λ x. x.name) a.0.caught) a.0.heads g.names) in
             let same : map (λ x. x.name) (a.0.caught ++ map (bind_at c.place) b.0.binds) ≡ map
-                (λ x. x.name) a.0.caught ++ bound_names b.0.binds =
+            (λ x. x.name) a.0.caught ++ bound_names b.0.binds =
             map-append (λ x. x.name) a.0.caught (map (bind_at c.place) b.0.binds)
             ∙ ap (λ l. map (λ x. x.name) a.0.caught ++ l) (placed-names c.place b.0.binds) in
             record {

@@ -85,16 +85,20 @@ module _ {T : Type 0} (IsType : T → Type 0) (cx : Context T) (V : T → Bool �
   pub leaf : (columns : List (MColumn T)) (r : MRow T) (rows : List (MRow T)) (v : MValue) →
       IsGood IsType cx decides columns (r ∷ rows) → IsTrue (all_wild r) → IsHeld V columns v →
       IsTrue (places_are v r.caught) →
-      (row_keyed_tries decides columns v r ≡ record
-      { arm = r.arm; guarded = r.guarded; key = row_key decides r; bindings = bindings_in
-      v (row_binds columns r) } ∷ [])
+      (row_keyed_tries decides columns v r ≡ record {
+        arm = r.arm;
+        guarded = r.guarded;
+        key = row_key decides r;
+        bindings = bindings_in
+            v (row_binds columns r);
+      } ∷ [])
       × IsTrue (places_are v (row_binds columns r))
   leaf columns r rows v good w held caught =
       let g : IsGoodRow cx decides columns r = good.rows_are.0 in (
         leaf-way cx v decides columns r (all-there columns held.0 v good.columns_are held.2) w g.typed,
         named-places v (r.caught ++ all_head_binds columns r.heads)
-        (places-append v r.caught (all_head_binds columns r.heads) caught
-        (heads-places columns r.heads held.0 v held.2 w g.typed)),
+            (places-append v r.caught (all_head_binds columns r.heads) caught
+            (heads-places columns r.heads held.0 v held.2 w g.typed)),
       )
 
   pub others : (columns : List (MColumn T)) (r : MRow T) (rows : List (MRow T)) →

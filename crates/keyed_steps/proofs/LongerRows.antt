@@ -57,7 +57,7 @@ module _ {T : Type 0} (IsType : T → Type 0) (cx : Context T) (V : T → Bool �
       let d : length (drop f us) + f ≡ length us = drop-length f us (omega (arith, e)) in
       let g : length (drop f xs) + f ≡ length xs = drop-length f xs (omega (arith, l)) in
       let m : length (take (length xs - (f + b)) (drop f xs)) ≡ length xs - (f + b) = take-length (length xs - (f + b))
-          (drop f xs) (omega (arith, g, l)) in
+      (drop f xs) (omega (arith, g, l)) in
       let p : length (refilled us xs) ≡ length (take f us) + length (take (length xs - (f + b)) (drop f xs) ++ drop f us) = length-append {A = MValue} (take f us) (take (length xs - (f + b)) (drop f xs) ++ drop f us) in
       let q : length (take (length xs - (f + b)) (drop f xs) ++ drop f us) ≡ length (take (length xs - (f + b)) (drop f xs)) + length (drop f us) = length-append {A = MValue} (take (length xs - (f + b)) (drop f xs)) (drop f us) in
       omega (arith, a, d, g, m, p, q, e, l)
@@ -86,20 +86,24 @@ module _ {T : Type 0} (IsType : T → Type 0) (cx : Context T) (V : T → Bool �
       let n : length (refilled us xs) ≡ length xs = refilled-length us xs e l in
       let old : Are xs = items-of IsType cx V law values c is (LongerShape f b) of items w in
       let new : Are (refilled us xs) = join-items (take f us) (take (length xs - (f + b)) (drop f xs) ++ drop f us)
-          (λ i x a. h i x (get-take f us i x a))
+      (λ i x a. h i x (get-take f us i x a))
       (join-items (take (length xs - (f + b)) (drop f xs)) (drop f us)
       (λ i x a. (let k = get-drop-in f xs i x (get-take (length xs - (f + b)) (drop f xs) i x a) in old k.0 x k.1))
       (λ i x a. (let k = get-drop-in f us i x a in h k.0 x k.1))) in
       let o : is_of_set (cx.set_of c.type) (OneLength (length (refilled us xs))) ≡ true = subst
-          (λ k. is_of_set (cx.set_of c.type) (OneLength k) ≡ true) (sym n)
-          (of-length IsType cx V law values c is (LongerShape f b) of items w) in
+      (λ k. is_of_set (cx.set_of c.type) (OneLength k) ≡ true) (sym n)
+      (of-length IsType cx V law values c is (LongerShape f b) of items w) in
       let u : MValue = Row (values_of (refilled us xs)) in
       let value : V c.type c.sure u = row-of IsType cx V law values c is (LongerShape f b) of (refilled us xs) o new in
       let same : values_list (values_of (refilled us xs)) ≡ refilled us xs = values-same (refilled us xs) in
       let built : builds named (RowCtor (LongerShape f b)) u ≡ true = subst (λ (k : ℕ). nat_le (f + b) k ≡ true)
-          (sym (ap length same ∙ n)) t in
-      (u, value, built, subst (HasParts cx V c named (RowCtor (LongerShape f b)) u)
-      (ap ends-of same ∙ refilled-ends us xs e l) (ends-parts u value built))
+      (sym (ap length same ∙ n)) t in (
+        u,
+        value,
+        built,
+        subst (HasParts cx V c named (RowCtor (LongerShape f b)) u)
+            (ap ends-of same ∙ refilled-ends us xs e l) (ends-parts u value built),
+      )
 
   longer-makes : HasValue V (open_of c) named (RowCtor (LongerShape f b)) → (us : List MValue) →
       Each cx V c named (RowCtor (LongerShape f b)) 0 (cx.arity (RowCtor (LongerShape f b)) c.type) us →

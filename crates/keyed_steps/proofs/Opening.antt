@@ -110,7 +110,7 @@ module _ {T : Type 0} (V : T → Bool → MValue → Type 0) where
   stand v col k (suc n) (x ∷ xs) e h =
       let here : Stands v (col k) x = subst (λ m. Stands v (col m) x) (zero-plus k) (h 0 x refl) in
       let rest = stand v col (suc k) n xs (omega (arith, e)) (λ i y a. subst (λ m. Stands v (col m) y) (plus i k)
-          (h (suc i) y a)) in
+      (h (suc i) y a)) in
       ((here.value, rest.0), (here.part, rest.1))
     where
       zero-plus : (k : ℕ) → 0 + k ≡ k
@@ -123,16 +123,20 @@ module _ {T : Type 0} (V : T → Bool → MValue → Type 0) where
       ((i : ℕ) → k ≤ i → i < k + n → position_at (col i).place v ≡ Some (inside p (num i))) →
       ArePositions v (each_from col k n) (map (inside p) (each_from num k n))
   positions-from v col p num k zero h = tt
-  positions-from v col p num k (suc n) h =
-      (h k (omega arith) (omega arith), positions-from v col p num (suc k) n
-      (λ i a b. h i (omega (arith, a)) (omega (arith, b))))
+  positions-from v col p num k (suc n) h = (
+    h k (omega arith) (omega arith),
+    positions-from v col p num (suc k) n
+        (λ i a b. h i (omega (arith, a)) (omega (arith, b))),
+  )
 
 distinct-from : (num : ℕ → ℕ) (k n : ℕ) → ((i j : ℕ) → k ≤ i → i < j → j < k + n → ¬ (num i ≡ num j)) →
     Ordered (λ (a b : ℕ). ¬ (a ≡ b)) (each_from num k n)
 distinct-from num k zero h = tt
-distinct-from num k (suc n) h =
-    (others (suc k) n (omega arith) (omega arith), distinct-from num (suc k) n
-    (λ i j a b c. h i j (omega (arith, a)) b (omega (arith, c))))
+distinct-from num k (suc n) h = (
+  others (suc k) n (omega arith) (omega arith),
+  distinct-from num (suc k) n
+      (λ i j a b c. h i j (omega (arith, a)) b (omega (arith, c))),
+)
   where
     others : (m l : ℕ) → k < m → m + l ≤ k + suc n → Every (λ (b : ℕ). ¬ (num k ≡ b)) (each_from num m l)
     others m zero a b = tt
@@ -224,9 +228,11 @@ module _ {T : Type 0} (cx : Context T) (V : T → Bool → MValue → Type 0) (c
   }
     where
       lives : ((xs : List MValue) × HasParts some.0 xs) → HaveValues V (part_columns cx c piece)
-      lives p =
-          (p.0, subst (λ cs. AreValues V cs p.0) (sym columns-from) (values-are 0 (cx.arity piece c.type) p.0 p.1.count
-          (λ i x a. subst (λ m. V (cx.sub piece c.type m) (sure_inside piece c.sure) x) (plus i) (p.1.values i x a))))
+      lives p = (
+        p.0,
+        subst (λ cs. AreValues V cs p.0) (sym columns-from) (values-are 0 (cx.arity piece c.type) p.0 p.1.count
+            (λ i x a. subst (λ m. V (cx.sub piece c.type m) (sure_inside piece c.sure) x) (plus i) (p.1.values i x a))),
+      )
         where
           plus : (i : ℕ) → i ≡ i + 0
           plus i = omega arith
@@ -240,7 +246,7 @@ module _ {T : Type 0} (cx : Context T) (V : T → Bool → MValue → Type 0) (c
           values-are k (suc n) (x ∷ xs) e h = (
             subst (λ m. V (cx.sub piece c.type m) (sure_inside piece c.sure) x) (zero-plus k) (h 0 x refl),
             values-are (suc k) n xs (omega (arith, e)) (λ i y a. subst
-            (λ m. V (cx.sub piece c.type m) (sure_inside piece c.sure) y) (step i k) (h (suc i) y a)),
+                (λ m. V (cx.sub piece c.type m) (sure_inside piece c.sure) y) (step i k) (h (suc i) y a)),
           )
             where
               zero-plus : (k : ℕ) → 0 + k ≡ k
@@ -310,11 +316,11 @@ module _ {T : Type 0} (IsType : T → Type 0) (cx : Context T) (V : T → Bool �
       let u : MValue = Node k (values_of us) in
       let b : builds named (VariantCtor k) u ≡ true = nat_itself k in
       let count : length (values_list (values_of us)) ≡ cx.arity (VariantCtor k) c.type = ap length (values_same us)
-          ∙ e.count in
+      ∙ e.count in
       let parts : PartsAre V c.sure (cx.sub (VariantCtor k) c.type) 0 (values_list (values_of us)) = subst
-          (PartsAre V c.sure (cx.sub (VariantCtor k) c.type) 0) (sym (values_same us)) e.values in
+      (PartsAre V c.sure (cx.sub (VariantCtor k) c.type) 0) (sym (values_same us)) e.values in
       let w : V c.type c.sure u = (law.parts c.type (OneVariant k) c.sure u is of b (λ h. different h)).1
-          (count, parts) in
+      (count, parts) in
       (u, w, b, subst (HasParts cx V c named (VariantCtor k) u) (values_same us) (variant-parts k of u w b).1)
     where
       different : OneVariant k ≡ Rattle.match_model.specs.Constructors.OnePoint → ⊥

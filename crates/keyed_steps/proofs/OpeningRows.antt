@@ -90,15 +90,15 @@ module _ {T : Type 0} (cx : Context T) (V : T → Bool → MValue → Type 0) (c
   ends-length =
       let t : length (take f items_of) ≡ f = take-length f items_of (omega (arith, few)) in
       let d : length (drop (length items_of - b) items_of) + (length items_of - b) ≡ length items_of = drop-length
-          (length items_of - b) items_of (omega arith) in
+      (length items_of - b) items_of (omega arith) in
       let w : length ends ≡ length (take f items_of) + length (drop (length items_of - b) items_of) = length-append
-          {A = MValue} (take f items_of) (drop (length items_of - b) items_of) in
+      {A = MValue} (take f items_of) (drop (length items_of - b) items_of) in
       omega (arith, few, t, d, w)
 
   ends-get : (i : ℕ) → i < f + b → slice_get ends i ≡ slice_get items_of (item_of i)
   ends-get i h = elim (cases_lt i f) [
     | inl l ↦ get-front f items_of (drop (length items_of - b) items_of) i l (omega (arith, few))
-    ∙ ap (slice_get items_of) (sym (front-item i l))
+        ∙ ap (slice_get items_of) (sym (front-item i l))
     | inr l ↦ back i l h
   ]
     where
@@ -114,7 +114,7 @@ module _ {T : Type 0} (cx : Context T) (V : T → Bool → MValue → Type 0) (c
       (Row items) ≡ slice_get items_of (item_of i)
   step-item i h = elim (cases_lt i f) [
     | inl l ↦ ap (λ t. step_into (cond t (FrontStep i) (BackStep (f + b - i))) (Row items)) (below i f l)
-    ∙ ap (slice_get items_of) (sym (front-item i l))
+        ∙ ap (slice_get items_of) (sym (front-item i l))
     | inr l ↦ back i l h
   ]
     where
@@ -123,7 +123,7 @@ module _ {T : Type 0} (cx : Context T) (V : T → Bool → MValue → Type 0) (c
       back i l h =
           let some : nat_lt 0 (f + b - i) ≡ true = below 0 (f + b - i) (omega (arith, h)) in
           let most : nat_le (f + b - i) (length items_of) ≡ true = at-most (f + b - i) (length items_of)
-              (omega (arith, few)) in
+          (omega (arith, few)) in
           ap (λ t. step_into (cond t (FrontStep i) (BackStep (f + b - i))) (Row items)) (not-below i f l)
           ∙ (ap (λ t. found_if (t && nat_le (f + b - i) (length items_of))
           (slice_get items_of (length items_of - (f + b - i)))) some
@@ -134,9 +134,9 @@ module _ {T : Type 0} (cx : Context T) (V : T → Bool → MValue → Type 0) (c
       (item_of i)
   number-item i h = elim (cases_lt i f) [
     | inl l ↦ ap (λ t. step_number (cond t (FrontStep i) (BackStep (f + b - i))) (Row items)) (below i f l)
-    ∙ ap Some (sym (front-item i l))
+        ∙ ap Some (sym (front-item i l))
     | inr l ↦ ap (λ t. step_number (cond t (FrontStep i) (BackStep (f + b - i))) (Row items)) (not-below i f l)
-    ∙ ap Some (sym (back-item i l))
+        ∙ ap Some (sym (back-item i l))
   ]
 
   apart-items : (i j : ℕ) → i < j → j < f + b → ¬ (item_of i ≡ item_of j)
@@ -146,7 +146,7 @@ module _ {T : Type 0} (cx : Context T) (V : T → Bool → MValue → Type 0) (c
       | inr m ↦ (let p = front-item i l in let q = back-item j m in omega (arith, h, k, e, p, q, l, m, few))
     ])
     | inr l ↦ (let p = back-item i l in let q = back-item j (omega (arith, l, h)) in
-    omega (arith, h, k, e, p, q, l, few))
+        omega (arith, h, k, e, p, q, l, few))
   ]
 
   -- the ends of a row are the parts of its piece

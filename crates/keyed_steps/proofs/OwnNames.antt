@@ -25,8 +25,8 @@ middle-there (RowCtor (LongerShape f b)) g e (Row items) h t =
     let p : f ≡ g = nat_equal f g s.0 in
     let q : b ≡ e = nat_equal b e s.1 in
     let few : nat_le (g + e) (length (values_list items)) ≡ true = subst
-        (λ x. nat_le (x + e) (length (values_list items)) ≡ true) p
-        (subst (λ y. nat_le (f + y) (length (values_list items)) ≡ true) q t) in
+    (λ x. nat_le (x + e) (length (values_list items)) ≡ true) p
+    (subst (λ y. nat_le (f + y) (length (values_list items)) ≡ true) q t) in
     ap (λ x. some_if x (middle_of g e (values_list items))) few
 middle-there (RowCtor (LongerShape f b)) g e _ h t = untrue t
 middle-there (RowCtor (FixedShape n)) g e u h t = untrue h

@@ -118,9 +118,11 @@ module _ {T : Type 0} (IsType : T → Type 0) (cx : Context T) (V : T → Bool �
   from-same : (a b : ℕ → T) (j n : ℕ) (hs : List (Head T)) → length hs + j ≤ n → ((i : ℕ) → i < n → a i ≡ b i) →
       TypedFrom a j hs → TypedFrom b j hs
   from-same a b j n [] l e h = tt
-  from-same a b j n (x ∷ hs) l e h =
-      (subst (λ (s : T). IsHeadTyped cx s x) (e j (omega (arith, l))) h.0, from-same a b (suc j) n hs
-      (omega (arith, l)) e h.1)
+  from-same a b j n (x ∷ hs) l e h = (
+    subst (λ (s : T). IsHeadTyped cx s x) (e j (omega (arith, l))) h.0,
+    from-same a b (suc j) n hs
+        (omega (arith, l)) e h.1,
+  )
 
   pub from-wild : (a : ℕ → T) (j m : ℕ) → TypedFrom a j (wildcards m)
   from-wild a j zero = tt
@@ -174,9 +176,11 @@ module _ {T : Type 0} (IsType : T → Type 0) (cx : Context T) (V : T → Bool �
   columns-typed col type_of e j zero [] l h = tt
   columns-typed col type_of e j zero (x ∷ hs) l h = absurd (omega (arith, l))
   columns-typed col type_of e j (suc n) [] l h = absurd (omega (arith, l))
-  columns-typed col type_of e j (suc n) (x ∷ hs) l h =
-      (subst (λ (s : T). IsHeadTyped cx s x) (sym (e j)) h.0, columns-typed col type_of e (suc j) n hs
-      (omega (arith, l)) h.1)
+  columns-typed col type_of e j (suc n) (x ∷ hs) l h = (
+    subst (λ (s : T). IsHeadTyped cx s x) (sym (e j)) h.0,
+    columns-typed col type_of e (suc j) n hs
+        (omega (arith, l)) h.1,
+  )
 
   pub piece-typed : (c : MColumn T) (p : MCtor) (hs : List (Head T)) → c.type ≡ t → length hs ≡ cx.arity p c.type →
       TypedFrom (cx.sub p c.type) 0 hs → AreHeadsTyped cx (part_columns cx c p) hs

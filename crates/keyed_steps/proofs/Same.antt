@@ -107,7 +107,7 @@ wild-head : {T : Type 0} (i : ℕ) (rows : List (MRow T)) (r : MRow T) (h : Head
 wild-head i [] r h a e w = elim a [ ]
 wild-head {T} i (x ∷ rows) r h a e w = elim a [
   | inl q ↦ first i x.heads (subst (λ (y : MRow T). slice_get y.heads i ≡ Some h) q e)
-  (both (starts_wild (drop i x.heads)) (all_wild_at i rows) w).0
+      (both (starts_wild (drop i x.heads)) (all_wild_at i rows) w).0
   | inr b ↦ wild-head i rows r h b e (both (starts_wild (drop i x.heads)) (all_wild_at i rows) w).1
 ]
   where
@@ -195,8 +195,8 @@ module _ {T : Type 0} (IsType : T → Type 0) (cx : Context T) (V : T → Bool �
           not-built n =
               let f : IsFit cx i c rows pieces q.1 = fit i c columns rows pieces q.1 ready there q.0 q.2 in
               let g : FitsPiece (named_in pieces) q.1 k = good-at (HeadFits (named_in pieces) q.1) i r.heads
-                  (Some (de_pat k t uid at subs binds)) (among-every
-                  (λ x. GoodAt (HeadFits (named_in pieces) q.1) i x.heads) rows r f.fits a) e in
+              (Some (de_pat k t uid at subs binds)) (among-every
+              (λ x. GoodAt (HeadFits (named_in pieces) q.1) i x.heads) rows r f.fits a) e in
               or-second (is_wild_ctor k) (builds [] k u) (g.sided u q.4
               ∙ absent-head q.1 i rows r k t uid at subs binds a e n q.3)
 
@@ -210,7 +210,7 @@ module _ {T : Type 0} (IsType : T → Type 0) (cx : Context T) (V : T → Bool �
       good-from (HasCount p (cx.arity p c.type)) i r.heads (λ h e.
       (let f : IsFit cx i c rows pieces p = fit i c columns rows pieces p ready there are a in
       let g : IsGoodRow cx decides columns r = among-every
-          (IsGoodRow cx decides columns) rows r ready.good.rows_are j in
+      (IsGoodRow cx decides columns) rows r ready.good.rows_are j in
       let k = head-at cx columns r.heads i c g.typed there in
       let column : IsGoodColumn IsType c = column-at (IsGoodColumn IsType) columns i c ready.good.columns_are there in
       let same : k.0 ≡ h = one k.0 h (sym k.1 ∙ e) in

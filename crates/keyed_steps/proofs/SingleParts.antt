@@ -53,9 +53,9 @@ module _ {T : Type 0} (IsType : T → Type 0) (cx : Context T) (V : T → Bool �
       let u : MValue = Node 0 (values_of us) in
       let b : builds named SingleCtor u ≡ true = refl in
       let count : length (values_list (values_of us)) ≡ cx.arity SingleCtor c.type = ap length (values-same us)
-          ∙ e.count in
+      ∙ e.count in
       let parts : PartsAre V c.sure (cx.sub SingleCtor c.type) 0 (values_list (values_of us)) = subst
-          (PartsAre V c.sure (cx.sub SingleCtor c.type) 0) (sym (values-same us)) e.values in
+      (PartsAre V c.sure (cx.sub SingleCtor c.type) 0) (sym (values-same us)) e.values in
       let w : V c.type c.sure u = (law.parts c.type OneSingle c.sure u is of b (λ h. different h)).1 (count, parts) in
       (u, w, b, subst (HasParts cx V c named SingleCtor u) (values-same us) (single-parts u w b))
 

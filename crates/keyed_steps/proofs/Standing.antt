@@ -42,8 +42,11 @@ position-there (s ∷ place) v u h e = go (step_into s v) refl e (λ w a b. posi
   where
     go : (o : Option MValue) → step_into s v ≡ o → (elim o [ None ↦ None | Some w ↦ part_at place w ]) ≡ Some u →
         ((w : MValue) → IsStraight place → part_at place w ≡ Some u → (p : List ℕ) × (position_at place w ≡ Some p)) →
-        (p : List ℕ) × ((elim o [ None ↦ None | Some w ↦ position_under (step_number s v)
-        (position_at place w) ]) ≡ Some p)
+        (p : List ℕ) × ((elim o [
+          | None ↦ None
+          | Some w ↦ position_under (step_number s v)
+              (position_at place w)
+        ]) ≡ Some p)
     go None q e r = cc
     go (Some w) q e r =
         let n = number-there s place v w h q in
@@ -57,9 +60,12 @@ module _ {T : Type 0} where
   held-at V [] us v i c a b e = cc
   held-at V (d ∷ columns) [] v i c a b e = elim a [ ]
   held-at V (d ∷ columns) (u ∷ us) v zero c a b e =
-      let same : d ≡ c = cc in
-      (u, subst (λ (x : MColumn T). part_at x.place v ≡ Some u) same b.0, subst
-      (λ (x : MColumn T). V x.type x.sure u) same a.0)
+      let same : d ≡ c = cc in (
+        u,
+        subst (λ (x : MColumn T). part_at x.place v ≡ Some u) same b.0,
+        subst
+            (λ (x : MColumn T). V x.type x.sure u) same a.0,
+      )
   held-at V (d ∷ columns) (u ∷ us) v (suc i) c a b e = held-at V columns us v i c a.1 b.1 e
 
   pub column-at : (P : MColumn T → Type 0) (columns : List (MColumn T)) (i : ℕ) (c : MColumn T) → Every P columns →

@@ -69,8 +69,11 @@ module _ {T : Type 0} where
       (are_apart (bound_names binds) inner && each)) (with_binds binds c)
   bind-fine binds inner each c g = record {
     binds =
-        λ n a. elim (split n a) [ inl k ↦ left-among (bound_names binds) inner n k | inr k ↦ right-among
-        (bound_names binds) inner n (g.binds n k) ];
+        λ n a. elim (split n a) [
+          | inl k ↦ left-among (bound_names binds) inner n k
+          | inr k ↦ right-among
+              (bound_names binds) inner n (g.binds n k)
+        ];
     pat = λ n a. right-among (bound_names binds) inner n (g.pat n a);
     differ = λ e. fine e;
   }
@@ -89,7 +92,7 @@ module _ {T : Type 0} where
           let d = g.differ b.1 in
           let out : Disjoint (bound_names binds) inner = apart-to (bound_names binds) inner b.0 in (
             subst (λ l. are_distinct l ≡ true) (sym (names-bind binds c.binds))
-            (distinct-append (bound_names binds) (bound_names c.binds) a.0 d.0 (λ n p q. out n p (g.binds n q))),
+                (distinct-append (bound_names binds) (bound_names c.binds) a.0 d.0 (λ n p q. out n p (g.binds n q))),
             d.1,
             λ n p q. elim (split n p) [ inl k ↦ out n k (g.pat n q) | inr k ↦ d.2 n k q ],
           )
@@ -139,20 +142,29 @@ module _ {T : Type 0} where
   pub expand-fine : (h : Head T) (y : Replacement T) → Among y (expand_head h) → IsFineReplacement h y
   expand-fine None y (inl e) =
       subst (IsFineReplacement None) (sym e)
-      (record { binds = λ n a. a; heads = λ n a. a; fine = λ e. record
-      { distinct = refl; each = (refl, tt); beside = λ n a b. a; apart = (λ n a b. a, tt) } })
+      (record {
+        binds = λ n a. a;
+        heads = λ n a. a;
+        fine = λ e. record
+            { distinct = refl; each = (refl, tt); beside = λ n a b. a; apart = (λ n a b. a, tt) };
+      })
   expand-fine None y (inr a) = absurd a
   expand-fine (Some p) y a =
       let m = among-map (λ c. record { heads = Some c.pat ∷ []; chosen = c.chosen; binds = c.binds })
-          (choices_of p) y a in
+      (choices_of p) y a in
       let g : IsFineChoice (names_in p) (names_differ p) m.0 = among-every (IsFineChoice (names_in p) (names_differ p))
-          (choices_of p) m.0 (choices-fine p) m.1 in
+      (choices_of p) m.0 (choices-fine p) m.1 in
       subst (IsFineReplacement (Some p)) (sym m.2) (record {
         binds = g.binds;
         heads = λ n b. g.pat n (no-more (names_in m.0.pat) n b);
         fine =
-            λ e. (let d = g.differ e in record { distinct = d.0; each = (d.1, tt); beside = λ n p q. d.2 n p
-            (no-more (names_in m.0.pat) n q); apart = (λ n p q. q, tt) });
+            λ e. (let d = g.differ e in record {
+              distinct = d.0;
+              each = (d.1, tt);
+              beside = λ n p q. d.2 n p
+                  (no-more (names_in m.0.pat) n q);
+              apart = (λ n p q. q, tt);
+            });
       })
 
   -- heads whose names differ, with names among these
@@ -181,9 +193,9 @@ module _ {T : Type 0} where
   put-inside (suc f) m [] n a = wild-inside m [] n a
   put-inside (suc f) m (h ∷ hs) n a =
       elim (among-append (head_names h) (names_of (take f hs ++ (wildcards m ++ drop f hs))) n a) [
-    | inl k ↦ left-among (head_names h) (names_of hs) n k
-    | inr k ↦ right-among (head_names h) (names_of hs) n (put-inside f m hs n k)
-  ]
+        | inl k ↦ left-among (head_names h) (names_of hs) n k
+        | inr k ↦ right-among (head_names h) (names_of hs) n (put-inside f m hs n k)
+      ]
 
   put-each : (f m : ℕ) (hs : List (Head T)) → Every (λ h. head_names_differ h ≡ true) hs →
       Every (λ h. head_names_differ h ≡ true) (take f hs ++ (wildcards m ++ drop f hs))
@@ -205,8 +217,12 @@ module _ {T : Type 0} where
   heads-fine : (c : MCtor) (names : List (List ℕ)) (m : ℕ) (hs : List (Head T)) → AreFineParts names hs →
       AreFineParts names (heads_of c hs m)
   heads-fine (RowCtor (LongerShape f b)) names m hs g =
-      record { inside = λ n a. g.inside n (put-inside f (m - (f + b)) hs n a); each = put-each f
-          (m - (f + b)) hs g.each; apart = put-apart f (m - (f + b)) hs g.apart }
+      record {
+        inside = λ n a. g.inside n (put-inside f (m - (f + b)) hs n a);
+        each = put-each f
+            (m - (f + b)) hs g.each;
+        apart = put-apart f (m - (f + b)) hs g.apart;
+      }
   heads-fine WildCtor names m hs g = only-wild names m
   heads-fine (RowCtor (FixedShape k)) names m hs g = g
   heads-fine SingleCtor names m hs g = g
@@ -238,8 +254,12 @@ module _ {T : Type 0} where
       IsFineReplacement h y
   piece-fine p m None y (inl e) =
       subst (IsFineReplacement None) (sym e) (let r : AreFineParts [] (wildcards m) = only-wild [] m in
-      record { binds = λ n a. a; heads = r.inside; fine = λ e. record
-      { distinct = refl; each = r.each; beside = λ n a b. a; apart = r.apart } })
+      record {
+        binds = λ n a. a;
+        heads = r.inside;
+        fine = λ e. record
+            { distinct = refl; each = r.each; beside = λ n a b. a; apart = r.apart };
+      })
   piece-fine p m None y (inr a) = absurd a
   piece-fine p m (Some (de_pat c t uid at subs binds)) y a = go (has_piece c p) refl a
     where
@@ -273,24 +293,36 @@ module _ {T : Type 0} where
       fine : has_piece c p ≡ true → head_names_differ H ≡ true → AreFine (bound_names binds) (heads_of c hs m)
       fine has e =
           let a = both (are_distinct (bound_names binds)) (are_apart (bound_names binds) (names_in_all subs) && if_or c
-              (names_differ_in_each subs) (names_differ_in_all subs)) e in
+          (names_differ_in_each subs) (names_differ_in_all subs)) e in
           let b = both (are_apart (bound_names binds) (names_in_all subs))
-              (if_or c (names_differ_in_each subs) (names_differ_in_all subs)) a.1 in
+          (if_or c (names_differ_in_each subs) (names_differ_in_all subs)) a.1 in
           let s = subs-each subs (all-of c p (names_differ_in_each subs) (names_differ_in_all subs) has b.1) in
           let g : AreFineParts (names_of hs) hs = record { inside = λ n a. a; each = s.0; apart = s.1 } in
           let r : AreFineParts (names_of hs) (heads_of c hs m) = heads-fine c (names_of hs) m hs g in
-          record { distinct = a.0; each = r.each; beside = λ n i j. apart-to (bound_names binds)
-              (names_in_all subs) b.0 n i (parts-inside n j); apart = r.apart }
+          record {
+            distinct = a.0;
+            each = r.each;
+            beside = λ n i j. apart-to (bound_names binds)
+                (names_in_all subs) b.0 n i (parts-inside n j);
+            apart = r.apart;
+          }
 
       whole : has_piece c p ≡ true → IsFineReplacement H Y
       whole has =
-          record { binds = left-among (bound_names binds) (names_in_all subs); heads = λ n a. right-among
-          (bound_names binds) (names_in_all subs) n (parts-inside n a); fine = fine has }
+          record {
+            binds = left-among (bound_names binds) (names_in_all subs);
+            heads = λ n a. right-among
+                (bound_names binds) (names_in_all subs) n (parts-inside n a);
+            fine = fine has;
+          }
 
       go : (b : Bool) → has_piece c p ≡ b → Among y (cond (has_piece c p) (Y ∷ []) []) → IsFineReplacement H y
       go true q a =
-          elim (subst (λ x. Among y (cond x (Y ∷ []) [])) q a) [ inl e ↦ subst (IsFineReplacement H) (sym e)
-          (whole q) | inr e ↦ absurd e ]
+          elim (subst (λ x. Among y (cond x (Y ∷ []) [])) q a) [
+            | inl e ↦ subst (IsFineReplacement H) (sym e)
+                (whole q)
+            | inr e ↦ absurd e
+          ]
       go false q a = absurd (subst (λ x. Among y (cond x (Y ∷ []) [])) q a)
 
   -- nothing
@@ -312,11 +344,18 @@ module _ {T : Type 0} where
 
       whole : IsFineReplacement h Y
       whole =
-          record { binds = own h; heads = λ n a. absurd a; fine = λ e. record
-          { distinct = distinct h e; each = tt; beside = λ n a b. b; apart = tt } }
+          record {
+            binds = own h;
+            heads = λ n a. absurd a;
+            fine = λ e. record
+                { distinct = distinct h e; each = tt; beside = λ n a b. b; apart = tt };
+          }
 
       go : (b : Bool) → is_wild h ≡ b → Among y (cond (is_wild h) (Y ∷ []) []) → IsFineReplacement h y
       go true q a =
-          elim (subst (λ x. Among y (cond x (Y ∷ []) [])) q a) [ inl e ↦ subst (IsFineReplacement h)
-          (sym e) whole | inr e ↦ absurd e ]
+          elim (subst (λ x. Among y (cond x (Y ∷ []) [])) q a) [
+            | inl e ↦ subst (IsFineReplacement h)
+                (sym e) whole
+            | inr e ↦ absurd e
+          ]
       go false q a = absurd (subst (λ x. Among y (cond x (Y ∷ []) [])) q a)

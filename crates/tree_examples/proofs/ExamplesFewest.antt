@@ -231,13 +231,19 @@ flag_lowers : Lowered (whole_column ∷ []) rows flag_tree
 flag_lowers =
     opens 0 whole_column (whole_column ∷ []) rows (rows_at expand_head [] 0 rows) parts SingleCtor flag_tree
     (alone whole_column rows 1 refl (count_one byte_flag zero_true refl refl refl rows refl refl)) refl
-    (as_they_are _ _ ((inl (omega arith), (inl (omega arith), (inl (omega arith), tt))),
-    ((inl (omega arith), (inl (omega arith), tt)), ((inl (omega arith), tt), (tt, tt))))) refl refl refl
-    (as_they_are _ _ ((inl (omega arith), (inl (omega arith), (inl (omega arith), tt))),
-    ((inl (omega arith), (inl (omega arith), tt)), ((inl (omega arith), tt), (tt, tt)))))
+    (as_they_are _ _ (
+      (inl (omega arith), (inl (omega arith), (inl (omega arith), tt))),
+      ((inl (omega arith), (inl (omega arith), tt)), ((inl (omega arith), tt), (tt, tt))),
+    )) refl refl refl
+    (as_they_are _ _ (
+      (inl (omega arith), (inl (omega arith), (inl (omega arith), tt))),
+      ((inl (omega arith), (inl (omega arith), tt)), ((inl (omega arith), tt), (tt, tt))),
+    ))
     (switches 1 flag_column columns parts spread (FlagCtor false ∷ FlagCtor true ∷ []) _ flag_first refl
-    (as_they_are _ _ ((inl (omega arith), (inl (omega arith), (inl (omega arith), tt))),
-    ((inl (omega arith), (inl (omega arith), tt)), ((inl (omega arith), tt), (tt, tt))))) refl refl refl
+    (as_they_are _ _ (
+      (inl (omega arith), (inl (omega arith), (inl (omega arith), tt))),
+      ((inl (omega arith), (inl (omega arith), tt)), ((inl (omega arith), tt), (tt, tt))),
+    )) refl refl refl
     (one_case 1 _ _ spread with_false _ (FlagCtor false) _ (TakeTree 3 []) _ refl (Flag false, refl, refl)
     (as_they_are _ _ (tt, tt)) (takes (byte_column ∷ []) _ [] refl refl)
     (one_case 1 _ _ spread with_true _ (FlagCtor true) [] byte_tree _ refl (Flag true, refl, refl)
@@ -310,7 +316,12 @@ fewest_first =
           (to_take _ 3 [] take_three_new));
       are = (
         switch_of _ _ _ ((refl, refl), ((refl, refl), tt)),
-        (take_of 3 [], (switch_of _ _ _ ((refl, refl), ((refl, refl), ((refl, refl), tt))),
-        (take_of 0 [], (take_of 1 [], (take_of 2 [], tt))))),
+        (
+          take_of 3 [],
+          (
+            switch_of _ _ _ ((refl, refl), ((refl, refl), ((refl, refl), tt))),
+            (take_of 0 [], (take_of 1 [], (take_of 2 [], tt))),
+          ),
+        ),
       );
     })

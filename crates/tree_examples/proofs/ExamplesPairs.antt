@@ -99,8 +99,12 @@ wild_pair = de_pat WildCtor flag_pair 8 30 no_de_pats []
 
 abbrev guarded_match : MDeMatch MType
 guarded_match =
-    record { type = flag_pair; sure = true; arms = record { pat = either_side; guarded = true } ∷ record
-    { pat = wild_pair; guarded = false } ∷ [] }
+    record {
+      type = flag_pair;
+      sure = true;
+      arms = record { pat = either_side; guarded = true } ∷ record
+          { pat = wild_pair; guarded = false } ∷ [];
+    }
 
 abbrev x_at : ℕ → List MBind
 x_at i = record { name = x_name; mode = Move; place = FieldStep 0 i ∷ [] } ∷ []
@@ -225,7 +229,12 @@ guarded_pair =
           (to_ask _ _ 0 (x_at 1) second second_is_new (known _ second (inl refl))));
       are = (
         switch_of _ _ _ ((refl, refl), ((refl, refl), tt)),
-        (ask_of 0 (x_at 1) second 2 refl, (switch_of _ _ _ ((refl, refl), ((refl, refl), tt)),
-        (ask_of 0 (x_at 0) (TakeTree 1 []) 4 refl, (take_of 1 [], tt)))),
+        (
+          ask_of 0 (x_at 1) second 2 refl,
+          (
+            switch_of _ _ _ ((refl, refl), ((refl, refl), tt)),
+            (ask_of 0 (x_at 0) (TakeTree 1 []) 4 refl, (take_of 1 [], tt)),
+          ),
+        ),
       );
     })

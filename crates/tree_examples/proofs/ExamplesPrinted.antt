@@ -66,8 +66,12 @@ unseen_tree =
 -- `_ if g => ..` on a marked enum without variants: the tree asks, and then misses
 abbrev any_guarded : MDeMatch MType
 any_guarded =
-    record { type = marked_enum; sure = true; arms = record
-    { pat = de_pat WildCtor marked_enum 1 1 no_de_pats []; guarded = true } ∷ [] }
+    record {
+      type = marked_enum;
+      sure = true;
+      arms = record
+          { pat = de_pat WildCtor marked_enum 1 1 no_de_pats []; guarded = true } ∷ [];
+    }
 
 later_seen : Later ≡ Unseen → ⊥
 later_seen e = cc
@@ -112,8 +116,16 @@ dropped_wild = rows_at default_head [] 0 expanded_wild
 pub first_alternative : IsBefore (key_of (record { number = 0; alternative = 0 } ∷ []))
     (key_of (record { number = 0; alternative = 1 } ∷ []))
 first_alternative =
-    record { at = 0; one = 0; other = 1; first = refl; second = refl; less = omega arith; same = λ o l. absurd
-    (none_below o l) }
+    record {
+      at = 0;
+      one = 0;
+      other = 1;
+      first = refl;
+      second = refl;
+      less = omega arith;
+      same = λ o l. absurd
+          (none_below o l);
+    }
   where
     none_below : (o : ℕ) → o < 0 → ⊥
     none_below o l = omega (arith, l)

@@ -55,8 +55,10 @@ true_or_else n m = record { case = FlagCase true; next = n } ∷ record { case =
 
 pub else_case : (number_for (Flag true) (true_or_else 1 2) ≡ Some 0)
     × (number_for (Flag false) (true_or_else 1 2) ≡ Some 1) ×
-    (one_has (Flag false) (true_or_else 1 2) ≡ true) × (one_has (Flag false) (record { case = FlagCase true;
-    next = 1 } ∷ []) ≡ false)
+    (one_has (Flag false) (true_or_else 1 2) ≡ true) × (one_has (Flag false) (record {
+      case = FlagCase true;
+      next = 1;
+    } ∷ []) ≡ false)
 else_case = (refl, refl, refl, refl)
 
 -- the tree of `(true, x) => .., (_, x) if g => ..`
@@ -98,8 +100,13 @@ pub tree_short : Means small_tree false_false [] (record { asked = []; outcome =
 tree_short = record {
   asked_nodes = [];
   walk =
-      record { last = record { node = 2; left = []; refused = [] }; comes = after _ _ _ to_else
-      (at_once _); ends = refl; asks = refl };
+      record {
+        last = record { node = 2; left = []; refused = [] };
+        comes = after _ _ _ to_else
+            (at_once _);
+        ends = refl;
+        asks = refl;
+      };
   asks = refl;
 }
 
@@ -120,8 +127,11 @@ tree_misses = record {
 }
 
 pub tree_asks : Means small_tree false_false (true ∷ [])
-    (record { asked = record { arm = 1; bindings = bound x_name Move (Flag false) ∷ [] } ∷ []; outcome = Took 1
-    (bound x_name Move (Flag false) ∷ []) })
+    (record {
+      asked = record { arm = 1; bindings = bound x_name Move (Flag false) ∷ [] } ∷ [];
+      outcome = Took 1
+          (bound x_name Move (Flag false) ∷ []);
+    })
 tree_asks = record {
   asked_nodes = 2 ∷ [];
   walk = record {
@@ -169,8 +179,12 @@ row_pat =
     (NumbersCtor digits) BoolType 4 8 no_de_pats [] ∷ [])) [] ∷ [])) []
 
 pub arena_row : arena_ways row_pat (Point false
-    (row (number 1 ∷ number 2 ∷ number 3 ∷ []))) ≡ record { trace = []; bindings = bound x_name Ref
-    (number 1) ∷ []; spans = record { at = 8; position = 0 ∷ 2 ∷ []; range = digits } ∷ [] } ∷ []
+    (row (number 1 ∷ number 2 ∷ number 3 ∷ []))) ≡ record {
+      trace = [];
+      bindings = bound x_name Ref
+          (number 1) ∷ [];
+      spans = record { at = 8; position = 0 ∷ 2 ∷ []; range = digits } ∷ [];
+    } ∷ []
 arena_row = refl
 
 -- an or-pattern of two adds its choices' uids; one of a single sub adds nothing, and has no alternative
@@ -200,8 +214,11 @@ by_offset = refl
 -- the first matrix has the arms' ways
 abbrev or_arm : MDeArm MType
 or_arm =
-    record { pat = de_pat OrCtor BoolType 1 2 (de_pats_of
-    (zero_pat 2 2 ∷ de_pat WildCtor BoolType 3 6 no_de_pats [] ∷ [])) []; guarded = true }
+    record {
+      pat = de_pat OrCtor BoolType 1 2 (de_pats_of
+          (zero_pat 2 2 ∷ de_pat WildCtor BoolType 3 6 no_de_pats [] ∷ [])) [];
+      guarded = true;
+    }
 
 pub first_matrix : matrix_ways
     (record { columns = record { place = []; type = BoolType; sure = true } ∷ []; rows = first_rows 0 (or_arm ∷ []) })
@@ -248,11 +265,19 @@ halves_overlap = (
     first_index = 0;
     second_index = 1;
     first_try =
-        record { arm = 0; guarded = false; way = record
-        { trace = []; bindings = []; spans = record { at = 10; position = []; range = low_half } ∷ [] } };
+        record {
+          arm = 0;
+          guarded = false;
+          way = record
+              { trace = []; bindings = []; spans = record { at = 10; position = []; range = low_half } ∷ [] };
+        };
     second_try =
-        record { arm = 1; guarded = true; way = record
-        { trace = []; bindings = []; spans = record { at = 30; position = []; range = high_half } ∷ [] } };
+        record {
+          arm = 1;
+          guarded = true;
+          way = record
+              { trace = []; bindings = []; spans = record { at = 30; position = []; range = high_half } ∷ [] };
+        };
     first_span = record { at = 10; position = []; range = low_half };
     second_span = record { at = 30; position = []; range = high_half };
     different = λ e. omega (arith, e);

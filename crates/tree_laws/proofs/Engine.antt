@@ -30,7 +30,7 @@ module _ {T : Type 0} (IsType : T → Type 0) (cx : Context T) (V : T → Bool �
     case = λ p u a present s.
         (let k = present-some (ctors_at i rows) p present in
         let f : IsFit cx i c rows pieces p = fit-here IsType cx V values decides i c columns rows ready there pieces p
-            are a in
+        are a in
         case-is (cx.set_of c.type) (named_in pieces) p k.0 u f.belong (ctor k.0 k.1) k.2 s);
   }
     where
@@ -49,7 +49,7 @@ module _ {T : Type 0} (IsType : T → Type 0) (cx : Context T) (V : T → Bool �
           let g : IsColumnCtor (cx.set_of c.type) k.0 = ctor k.0 k.1 in
           let v : ValueIs (cx.set_of c.type) c.sure u = values.each c.type c.sure u type w in
           let h : IsHit (named_in pieces) pieces u = hit-one (named_in pieces) pieces u
-              (once_of (cx.set_of c.type) c.sure (ctors_at i rows) pieces (values.ascend c.type type) are u v
+          (once_of (cx.set_of c.type) c.sure (ctors_at i rows) pieces (values.ascend c.type type) are u v
           (λ e. value-seen (cx.set_of c.type) c.sure k.0 u g.belong v (inl e))
           (λ e. value-seen (cx.set_of c.type) c.sure k.0 u g.belong v (inr e))) in
           (h.by, h.among, h.built, h.only)

@@ -37,7 +37,7 @@ module _ {T : Type 0} (cx : Context T) (V : T → Bool → MValue → Type 0) wh
       clash (all_wild_at i (rows_at expand_head c.place i rows)) h e
   one-count i c rows _ _ (as_cases ps n e are a) (as_cases qs m f is b) =
       let same : qs ≡ ps = sym (one_pieces (cx.set_of c.type) (ctors_at i
-          (rows_at expand_head c.place i rows)) ps qs are is) in
+      (rows_at expand_head c.place i rows)) ps qs are is) in
       one-cases V c (ctors_at i (rows_at expand_head c.place i rows)) ps ps n m a
       (subst (λ l. AreCases V c (ctors_at i (rows_at expand_head c.place i rows)) l l m) same b)
 
@@ -64,10 +64,11 @@ module _ {T : Type 0} (cx : Context T) (V : T → Bool → MValue → Type 0) wh
       by j d k e b (inl same) =
           let column : d ≡ c = some-is d c (sym e ∙ ap (slice_get cs) same ∙ there) in
           let moved : AreBranches cx V i c rows k = subst (λ x. AreBranches cx V i x rows k) column
-              (subst (λ x. AreBranches cx V x d rows k) same b) in
+          (subst (λ x. AreBranches cx V x d rows k) same b) in
           let count : n ≡ k = one-count i c rows n k branches moved in
           ((λ less. absurd (omega (arith, less, same))), omega (arith, count))
       by j d k e b (inr m) =
-          let count : m.0 ≡ k = one-count j d rows m.0 k m.1 b in
-          ((λ less. (let f : n < m.0 = m.2 less in omega (arith, f, count))),
-          (let g : n ≤ m.0 = m.3 in omega (arith, g, count)))
+          let count : m.0 ≡ k = one-count j d rows m.0 k m.1 b in (
+            (λ less. (let f : n < m.0 = m.2 less in omega (arith, f, count))),
+            (let g : n ≤ m.0 = m.3 in omega (arith, g, count)),
+          )

@@ -30,17 +30,26 @@ module _ {T : Type 0} (V : T → Bool → MValue → Type 0) where
   values-split (n ∷ ns) cs [] a = elim a [ ]
   values-split (n ∷ ns) cs (u ∷ us) a =
       let r = values-split ns cs us a.1 in
-      record { front = u ∷ r.front; back = r.back; is = ap
-          (λ l. u ∷ l) r.is; front_are = (a.0, r.front_are); back_are = r.back_are }
+      record {
+        front = u ∷ r.front;
+        back = r.back;
+        is = ap
+            (λ l. u ∷ l) r.is;
+        front_are = (a.0, r.front_are);
+        back_are = r.back_are;
+      }
 
   -- what stands at a column
   pub at-column : (cs : List (MColumn T)) (us : List MValue) (v : MValue) (i : ℕ) (c : MColumn T) → AreValues V cs us →
       ArePartsAt v cs us → slice_get cs i ≡ Some c → (u : MValue) × (part_at c.place v ≡ Some u) × V c.type c.sure u
   at-column [] us v i c a b e = cc
   at-column (d ∷ cs) [] v i c a b e = elim a [ ]
-  at-column (d ∷ cs) (u ∷ us) v zero c a b e =
-      (u, subst (λ x. part_at x.place v ≡ Some u) (some-is d c e) b.0, subst (λ x. V x.type x.sure u)
-      (some-is d c e) a.0)
+  at-column (d ∷ cs) (u ∷ us) v zero c a b e = (
+    u,
+    subst (λ x. part_at x.place v ≡ Some u) (some-is d c e) b.0,
+    subst (λ x. V x.type x.sure u)
+        (some-is d c e) a.0,
+  )
   at-column (d ∷ cs) (u ∷ us) v (suc i) c a b e = at-column cs us v i c a.1 b.1 e
 
   parts-append : (v : MValue) (ns cs : List (MColumn T)) (ws us : List MValue) → ArePartsAt v ns ws →

@@ -68,7 +68,7 @@ module _ {T : Type 0} (i : ℕ) where
   column-among [] r k t uid at subs binds a e w = elim a [ ]
   column-among (x ∷ rows) r k t uid at subs binds (inl q) e w =
       let here : first_ctor (drop i x.heads) ≡ Some k = first i x.heads
-          (subst (λ (y : MRow T). slice_get y.heads i ≡ Some (Some (de_pat k t uid at subs binds))) q e) in
+      (subst (λ (y : MRow T). slice_get y.heads i ≡ Some (Some (de_pat k t uid at subs binds))) q e) in
       subst (λ o. Among k (cons_option o (ctors_at i rows))) (sym here) (inl refl)
     where
       first : (j : ℕ) (hs : List (Head T)) → slice_get hs j ≡ Some (Some (de_pat k t uid at subs binds)) →

@@ -24,9 +24,11 @@ use Rattle.keyed_rows.proofs.Members.{contains-among}
 mutual
   -- more values reach no less
   more-live : (D E : MValue → Type 0) (t : MTree) → ((v : MValue) → D v → E v) → Lives D t → Lives E t
-  more-live D E (SwitchTree place branches) h l =
-      ((l.0.0, h l.0.0 l.0.1), more-live-all (Taking D place branches) (Taking E place branches) 0 branches
-      (λ i v d. (h v d.0, d.1)) l.1)
+  more-live D E (SwitchTree place branches) h l = (
+    (l.0.0, h l.0.0 l.0.1),
+    more-live-all (Taking D place branches) (Taking E place branches) 0 branches
+        (λ i v d. (h v d.0, d.1)) l.1,
+  )
   more-live D E (AskTree arm binds t) h l = ((l.0.0, h l.0.0 l.0.1), more-live D E t h l.1)
   more-live D E (TakeTree arm binds) h l = (l.0, h l.0 l.1)
   more-live D E MissTree h l = (l.0, h l.0 l.1)
@@ -149,7 +151,7 @@ module _ {T : Type 0} (cx : Context T) (V : T → Bool → MValue → Type 0) (d
         let one = cut.one x.0 x.1 in
         let same : one.0 ≡ piece = elim one.1 [ inl h ↦ h | inr h ↦ absurd h ] in
         let built : builds (named_in (piece ∷ [])) piece x.0 ≡ true = subst
-            (λ y. builds (named_in (piece ∷ [])) y x.0 ≡ true) same one.2 in
+        (λ y. builds (named_in (piece ∷ [])) y x.0 ≡ true) same one.2 in
         let opened = cut.opened piece (inl refl) (x.0, x.1, built) in
         more-live (Passing D c (λ x. builds (named_in (piece ∷ [])) piece x ≡ true)) D tree (λ v d. d.0)
         (lowered-lives (replaced_at i columns (part_columns cx c piece)) next tree t
@@ -161,8 +163,8 @@ module _ {T : Type 0} (cx : Context T) (V : T → Bool → MValue → Type 0) (d
         let cut = engine.cut i c columns expanded pieces ready e are w in (
           someone D columns f,
           branches-live i c columns expanded pieces pieces branches k D
-          (record { filled = f; ready = ready; there = e; are = are; cut = cut; sw = sl }) branches [] refl tt
-          (λ x a q m b h. tt) (λ x m. m) cut.distinct,
+              (record { filled = f; ready = ready; there = e; are = are; cut = cut; sw = sl }) branches [] refl tt
+              (λ x a q m b h. tt) (λ x m. m) cut.distinct,
         )
 
     branches-live : (i : ℕ) (c : MColumn T) (columns : List (MColumn T)) (rows : List (MRow T))
@@ -191,15 +193,14 @@ module _ {T : Type 0} (cx : Context T) (V : T → Bool → MValue → Type 0) (d
             p.1.0,
             p.1.2,
             subst (λ l. number_for p.1.0 l ≡ Some (length done)) (sym e)
-            (else-number p.1.0 done (record { case = ElseCase; next = 0 })
-            (a p.1.0 p.1.1.0 piece (contains-among all piece m.0) p.1.1.1 (inr m.1)) refl n refl),
+                (else-number p.1.0 done (record { case = ElseCase; next = 0 })
+                (a p.1.0 p.1.1.0 piece (contains-among all piece m.0) p.1.1.1 (inr m.1)) refl n refl),
           ),
         )
     branches-live _ _ _ _ _ _ _ (no_case i c columns rows all piece pieces branches x k) D s whole done e n a sub d =
         branches-live i c columns rows all pieces branches k D s whole done e n
         (λ y w q m b h. a y w q m b (elim h [ inl z ↦ inl (inr z) | inr z ↦ inr z ])) (λ y m. sub y (inr m)) d.1
-    branches-live _ _ _ _ _ _ _ (one_case i c columns rows next all piece pieces tree branches pr h o t k) D s whole done e n a sub d =
-        (
+    branches-live _ _ _ _ _ _ _ (one_case i c columns rows next all piece pieces tree branches pr h o t k) D s whole done e n a sub d = (
       more-live Inside (Taking D c.place whole (length done)) tree taking
           (lowered-lives (replaced_at i columns (part_columns cx c piece)) next tree t Inside
           (engine.entered i c columns rows next all piece s.ready s.there s.are mine o)
@@ -228,8 +229,8 @@ module _ {T : Type 0} (cx : Context T) (V : T → Bool → MValue → Type 0) (d
                 p.1.0,
                 p.1.2,
                 subst (λ l. number_for p.1.0 l ≡ Some (length done)) (sym e)
-                (case-number p.1.0 done (bare_branches branches) branch (a p.1.0 p.1.1.0 piece mine p.1.1.1
-                (inl (inl refl))) has),
+                    (case-number p.1.0 done (bare_branches branches) branch (a p.1.0 p.1.1.0 piece mine p.1.1.1
+                    (inl (inl refl))) has),
               ),
             )
 

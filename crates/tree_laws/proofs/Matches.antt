@@ -63,8 +63,11 @@ module _ {T : Type 0} (IsType : T → Type 0) (cx : Context T) (V : T → Bool �
   typed-match Chooses BareOnly m tree nodes v type arms numbered inside lowers shared =
       good-match cx V decides (IsGood IsType cx decides) (IsReady IsType cx decides)
       (context-engine IsType cx V law values decides) Chooses BareOnly m tree nodes v inside numbered
-      (record { columns_are = (record { type = type; straight = tt }, tt); rows_are = first-good m.type m.sure 0 m.arms
-      arms numbered }) lowers shared
+      (record {
+        columns_are = (record { type = type; straight = tt }, tt);
+        rows_are = first-good m.type m.sure 0 m.arms
+            arms numbered;
+      }) lowers shared
 
   -- the arms of a well-typed match are good
   arms-good : (m : MDeMatch T) → IsWellTyped IsType cx m → AreArmsMade m.arms → Every (IsGoodArm cx m.type) m.arms
@@ -85,8 +88,11 @@ void-good Domain select none = record {
   defined = λ v d. absurd (none v d);
   once = λ v d answers a b c p x y z e f. none v d;
   live =
-      record { reached = λ n less. inr (refl, none); taken = λ n i place branches e less. absurd
-      (no-switch n place branches e) };
+      record {
+        reached = λ n less. inr (refl, none);
+        taken = λ n i place branches e less. absurd
+            (no-switch n place branches e);
+      };
   forward = λ n k x e c. absurd (no-successor n k x e c);
   apart = λ i j x e f. lone i x e ∙ sym (lone j x f);
 }
@@ -125,7 +131,7 @@ module _ {T : Type 0} (IsType : T → Type 0) (cx : Context T) (V : T → Bool �
   one-match-tree m _ _ (lowered v t ns h l s) (nothing_to_lower none) = absurd (none v h)
   one-match-tree m _ _ (lowered v t ns h l s) (lowered u r ms k b q) =
       let same : r ≡ t = one-fewest-tree cx V (match_decisions m) ((u : MValue) → InMatchDomain V m u → u ≡ Unseen)
-          (first_matrix m).columns (first_matrix m).rows r t b l in
+      (first_matrix m).columns (first_matrix m).rows r t b l in
       one-shared t ns ms s (subst (λ x. IsShared x ms) same q)
 
   -- its places and cases are of the match's type
@@ -135,9 +141,11 @@ module _ {T : Type 0} (IsType : T → Type 0) (cx : Context T) (V : T → Bool �
   tree-of-type law values Chooses m _ w made (nothing_to_lower none) = refl
   tree-of-type law values Chooses m _ w made (lowered v tree nodes inside lowers shared) =
       let arms : Every (IsGoodArm cx m.type) m.arms = arms-good IsType cx V law values (match_decisions m) m w made in
-      let good : IsGood IsType cx (match_decisions m) (first_matrix m).columns (first_matrix m).rows = record
-          { columns_are = (record { type = w.type; straight = tt }, tt); rows_are = first-good IsType cx V law values
-          (match_decisions m) m.type m.sure 0 m.arms arms (arms-numbered m w.uids) } in
+      let good : IsGood IsType cx (match_decisions m) (first_matrix m).columns (first_matrix m).rows = record {
+        columns_are = (record { type = w.type; straight = tt }, tt);
+        rows_are = first-good IsType cx V law values
+            (match_decisions m) m.type m.sure 0 m.arms arms (arms-numbered m w.uids);
+      } in
       shared-of cx m.type tree nodes
       (lowered-of IsType cx V law values (match_decisions m) m.type Chooses
       ((u : MValue) → InMatchDomain V m u → u ≡ Unseen) (first_matrix m).columns (first_matrix m).rows tree lowers good

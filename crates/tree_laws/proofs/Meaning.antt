@@ -136,8 +136,13 @@ module _ {T : Type 0} (cx : Context T) (V : T → Bool → MValue → Type 0) (d
   -- the one thing to try of a first row that is a leaf
   abbrev leaf_tried : List (MColumn T) → MValue → MRow T → KeyedTry
   leaf_tried columns v r =
-      record { arm = r.arm; guarded = r.guarded; key = row_key decides r; bindings = bindings_in
-      v (row_binds columns r) }
+      record {
+        arm = r.arm;
+        guarded = r.guarded;
+        key = row_key decides r;
+        bindings = bindings_in
+            v (row_binds columns r);
+      }
 
   leaf-first : (columns : List (MColumn T)) (v : MValue) (r : MRow T) (rows : List (MRow T)) → IsTrue (all_wild r) →
       row_keyed_tries decides columns v r ≡ leaf_tried columns v r ∷ [] → Every (RowParted decides r) rows →
@@ -345,10 +350,9 @@ module _ {T : Type 0} (cx : Context T) (V : T → Bool → MValue → Type 0) (d
         (refl, tt)
     rest-lacks _ _ _ _ _ _ _ u q (no_case i c columns rows all piece pieces branches x k) cut sw sub only not =
         rest-lacks i c columns rows all pieces branches u q k cut sw (λ y a. sub y (inr a)) only (λ a. not (inr a))
-    rest-lacks _ _ _ _ _ _ _ u q (one_case i c columns rows next all piece pieces tree branches pr h o t k) cut sw sub only not =
-        (
+    rest-lacks _ _ _ _ _ _ _ u q (one_case i c columns rows next all piece pieces tree branches pr h o t k) cut sw sub only not = (
       (cut.case piece u (sub piece (inl refl)) pr sw).0 ∙ not-true (builds (named_in all) piece u) (λ b. not
-      (inl (sym (only piece (sub piece (inl refl)) b)))),
+          (inl (sym (only piece (sub piece (inl refl)) b)))),
       rest-lacks i c columns rows all pieces branches u q k cut sw (λ y a. sub y (inr a)) only (λ a. not (inr a)),
     )
 
@@ -434,7 +438,7 @@ module _ {T : Type 0} (cx : Context T) (V : T → Bool → MValue → Type 0) (d
           let one = cut.one l.u l.is in
           let same : one.0 ≡ piece = elim one.1 [ inl h ↦ h | inr h ↦ absurd h ] in
           let built : builds (named_in (piece ∷ [])) piece l.u ≡ true = subst
-              (λ x. builds (named_in (piece ∷ [])) x l.u ≡ true) same one.2 in
+          (λ x. builds (named_in (piece ∷ [])) x l.u ≡ true) same one.2 in
           lowered-runs (replaced_at i columns (part_columns cx c piece)) next tree t v seen tried answers
           (less-seen v l.p seen (replaced_at i columns (part_columns cx c piece)) next tried
           (next-entered v seen tried i c columns expanded next (piece ∷ []) piece l are cut (inl refl) built q))
@@ -443,9 +447,9 @@ module _ {T : Type 0} (cx : Context T) (V : T → Bool → MValue → Type 0) (d
           let cut = engine.cut i c columns expanded pieces l.ready l.there are w in
           let one = cut.one l.u l.is in
           let g : Goes v seen tried i c columns expanded pieces = record
-              { looks = l; are = are; cut = cut; sw = sl; q = one.0; of = one.1; built = one.2; only = one.3 } in
+          { looks = l; are = are; cut = cut; sw = sl; q = one.0; of = one.1; built = one.2; only = one.3 } in
           let b = branches-run i c columns expanded pieces pieces branches k v seen tried answers g [] tt tt
-              (λ x m. m) cut.distinct (either-way (is_present (ctors_at i expanded) one.0) one.1) in
+          (λ x m. m) cut.distinct (either-way (is_present (ctors_at i expanded) one.0) one.1) in
           at_switch seen c.place branches answers (select_keyed tried answers) l.u l.p b.j b.arc l.part l.position
           (not-seen seen l.ps i l.p l.spread l.at) b.one (b.number ∙ ap Some (zero-plus b.j)) b.there b.runs
         where
@@ -486,8 +490,15 @@ module _ {T : Type 0} (cx : Context T) (V : T → Bool → MValue → Type 0) (d
           }
       branches-run _ _ _ _ _ _ _ (no_case i c columns rows all piece pieces branches x k) v seen tried answers g done l
           n sub d (inl (inl e, pr)) =
-          absurd (elim x [ inl y ↦ clash _ pr (rw e y) | inr y ↦ y (g.looks.u, g.looks.is, subst
-          (λ z. builds (named_in all) z g.looks.u ≡ true) e g.built) ])
+          absurd (elim x [
+            | inl y ↦ clash _ pr (rw e y)
+            | inr y ↦ y (
+              g.looks.u,
+              g.looks.is,
+              subst
+                  (λ z. builds (named_in all) z g.looks.u ≡ true) e g.built,
+            )
+          ])
       branches-run _ _ _ _ _ _ _ (no_case i c columns rows all piece pieces branches x k) v seen tried answers g done l
           n sub d (inl (inr m, pr)) =
           branches-run i c columns rows all pieces branches k v seen tried answers g done l n
@@ -499,10 +510,10 @@ module _ {T : Type 0} (cx : Context T) (V : T → Bool → MValue → Type 0) (d
       branches-run _ _ _ _ _ _ _ (one_case i c columns rows next all piece pieces tree branches pr h o t k) v seen
           tried answers g done l n sub d (inl (inl e, there)) =
           let has : case_has (case_of piece) g.looks.u ≡ true = (g.cut.case piece g.looks.u
-              (sub piece (inl refl)) pr g.sw).0 ∙ subst (λ z. builds (named_in all) z g.looks.u ≡ true) e g.built in
+          (sub piece (inl refl)) pr g.sw).0 ∙ subst (λ z. builds (named_in all) z g.looks.u ≡ true) e g.built in
           let rest : Lacks g.looks.u (bare_branches branches) = rest-lacks i c columns rows all pieces branches
-              g.looks.u g.q k g.cut g.sw (λ y a. sub y (inr a)) g.only (λ a. not-among piece g.q pieces d.0 a
-              (sym e)) in
+          g.looks.u g.q k g.cut g.sw (λ y a. sub y (inr a)) g.only (λ a. not-among piece g.q pieces d.0 a
+          (sym e)) in
           record {
             j = 0;
             arc = record { case = case_of piece; tree = tree };
@@ -522,8 +533,8 @@ module _ {T : Type 0} (cx : Context T) (V : T → Bool → MValue → Type 0) (d
           tried answers g done l n sub d (inl (inr m, there)) =
           let cases = g.cut.case piece g.looks.u (sub piece (inl refl)) pr g.sw in
           let lacks : case_has (case_of piece) g.looks.u ≡ false = cases.0
-              ∙ not-true (builds (named_in all) piece g.looks.u) (λ b. not-among piece g.q pieces d.0 m
-              (g.only piece (sub piece (inl refl)) b)) in
+          ∙ not-true (builds (named_in all) piece g.looks.u) (λ b. not-among piece g.q pieces d.0 m
+          (g.only piece (sub piece (inl refl)) b)) in
           moved-on v g.looks.u (g.looks.p ∷ seen) answers (select_keyed tried answers) done
           (case_of piece) tree branches
           (branches-run i c columns rows all pieces branches k v seen tried answers g

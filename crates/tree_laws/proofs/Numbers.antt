@@ -105,8 +105,11 @@ one-case u done rest b d h r = rw (count-one (λ b. case_has b.case u) done rest
 pub one-else : (u : MValue) (done : List MBranch) (b : MBranch) → Lacks u done →
     case_has b.case u ≡ false → NoElse done → is_else b.case ≡ true → one_has u (done ++ b ∷ []) ≡ true
 one-else u done b d h n e =
-    rw (count-none (λ b. case_has b.case u) (done ++ b ∷ []) (all done d), count-one
-    (λ b. is_else b.case) done [] b n e tt) refl
+    rw (
+      count-none (λ b. case_has b.case u) (done ++ b ∷ []) (all done d),
+      count-one
+          (λ b. is_else b.case) done [] b n e tt,
+    ) refl
   where
     all : (xs : List MBranch) → Lacks u xs → Lacks u (xs ++ b ∷ [])
     all [] l = (h, tt)

@@ -288,10 +288,10 @@ module _ {T : Type 0} (IsType : T → Type 0) (cx : Context T) (V : T → Bool �
           let g : IsGoodRow cx decides columns a.0 = among-every (IsGoodRow cx decides columns) rows a.0 good a.1 in
           let h = head-at cx columns a.0.heads i c g.typed there in
           let typed : IsHeadTyped cx c.type m.head = subst (IsHeadTyped cx c.type)
-              (some-head h.0 m.head (sym h.1 ∙ m.there)) h.2 in
+          (some-head h.0 m.head (sym h.1 ∙ m.there)) h.2 in
           let new : AreOf cx root (map (bind_at c.place) b.0.binds) = subst
-              (λ (l : List MBound). AreOf cx root (map (bind_at c.place) l)) (sym m.binds)
-              (bound-of cx root c e m.by.binds (each m.head m.by typed m.of)) in
+          (λ (l : List MBound). AreOf cx root (map (bind_at c.place) l)) (sym m.binds)
+          (bound-of cx root c e m.by.binds (each m.head m.by typed m.of)) in
           subst (λ (x : MRow T). AreOf cx root x.caught) (sym b.2) (of-append cx root a.0.caught
           (map (bind_at c.place) b.0.binds) (among-every
           (λ (x : MRow T). AreOf cx root x.caught) rows a.0 caught a.1) new)
@@ -303,7 +303,7 @@ module _ {T : Type 0} (IsType : T → Type 0) (cx : Context T) (V : T → Bool �
   expanded-of t None y ty (inr e) = absurd e
   expanded-of t (Some p) y ty j =
       let m = among-map (λ x. record { heads = Some x.pat ∷ []; chosen = x.chosen; binds = x.binds })
-          (choices_of p) y j in
+      (choices_of p) y j in
       subst (λ (x : Replacement T). Every (λ (b : MBound). IsPartOf cx root t b.part) x.binds) (sym m.2)
       (whole-of cx root t m.0.binds (among-every (λ (x : Choice T). AreWhole x.binds) (choices_of p) m.0
       (choices-whole cx t p ty) m.1))
@@ -344,9 +344,11 @@ module _ {T : Type 0} (IsType : T → Type 0) (cx : Context T) (V : T → Bool �
       lowered-of _ _ _ (no_value_left columns b) g e h = tt
       lowered-of _ _ _ (no_row_left columns n) g e h = tt
       lowered-of _ _ _ (takes columns r rows w u) g e h = binds-of cx root columns r e g.rows_are.0.typed h.0
-      lowered-of _ _ _ (asks columns r rows refused w u t) g e h =
-          (binds-of cx root columns r e g.rows_are.0.typed h.0, lowered-of columns rows refused t
-          (engine.others columns r rows g) e h.1)
+      lowered-of _ _ _ (asks columns r rows refused w u t) g e h = (
+        binds-of cx root columns r e g.rows_are.0.typed h.0,
+        lowered-of columns rows refused t
+            (engine.others columns r rows g) e h.1,
+      )
       lowered-of _ _ _ (drops i c columns rows expanded next tree pk there o w q t) g e h =
           let ready = engine.expanded i c columns rows expanded g there o in
           let at : IsColumnOf cx root c = column-at (IsColumnOf cx root) columns i c e there in
@@ -359,7 +361,7 @@ module _ {T : Type 0} (IsType : T → Type 0) (cx : Context T) (V : T → Bool �
           let at : IsColumnOf cx root c = column-at (IsColumnOf cx root) columns i c e there in
           let column : IsGoodColumn IsType c = column-at (IsGoodColumn IsType) columns i c g.columns_are there in
           let fit : IsFit cx i c expanded (piece ∷ []) piece = pieces-fit IsType cx V values decides i c columns
-              expanded (piece ∷ []) piece ready there are (inl refl) in
+          expanded (piece ∷ []) piece ready there are (inl refl) in
           lowered-of (replaced_at i columns (part_columns cx c piece)) next tree t
           (engine.entered i c columns expanded next (piece ∷ []) piece ready there are (inl refl) q)
           (replaced-every (IsColumnOf cx root) i columns (part_columns cx c piece) e
@@ -371,7 +373,7 @@ module _ {T : Type 0} (IsType : T → Type 0) (cx : Context T) (V : T → Bool �
           let ready = engine.expanded i c columns rows expanded g there o in
           let at : IsColumnOf cx root c = column-at (IsColumnOf cx root) columns i c e there in
           let r = branches-of i c columns expanded pieces pieces branches k ready there are (λ x m. m) e
-              (step-of expand_head i c columns rows expanded g.rows_are there at (expanded-of c.type) o h) in
+          (step-of expand_head i c columns rows expanded g.rows_are there at (expanded-of c.type) o h) in
           ((c.type, at, r.0), r.1)
 
       branches-of : (i : ℕ) (c : MColumn T) (columns : List (MColumn T)) (rows : List (MRow T))
@@ -386,7 +388,7 @@ module _ {T : Type 0} (IsType : T → Type 0) (cx : Context T) (V : T → Bool �
             (refl, tt),
             (
               lowered-of (replaced_at i columns []) next tree t (engine.dropped i c columns rows next ready there o)
-              (replaced-every (IsColumnOf cx root) i columns [] e tt)
+                  (replaced-every (IsColumnOf cx root) i columns [] e tt)
                   (step-of default_head i c columns rows next ready.good.rows_are there at (default-of c.type) o h),
               tt,
             ),
@@ -397,15 +399,15 @@ module _ {T : Type 0} (IsType : T → Type 0) (cx : Context T) (V : T → Bool �
           are sub e h =
           let at : IsColumnOf cx root c = column-at (IsColumnOf cx root) columns i c e there in
           let column : IsGoodColumn IsType c = column-at
-              (IsGoodColumn IsType) columns i c ready.good.columns_are there in
+          (IsGoodColumn IsType) columns i c ready.good.columns_are there in
           let mine : Among piece all = sub piece (inl refl) in
           let fit : IsFit cx i c rows all piece = pieces-fit IsType cx V values decides i c columns rows all piece
-              ready there are mine in
+          ready there are mine in
           let rest = branches-of i c columns rows all pieces branches k ready there are (λ y m. sub y (inr m)) e h in (
             (case-of-ctor cx root c.type piece fit.belong, rest.0),
             (
               lowered-of (replaced_at i columns (part_columns cx c piece)) next tree t
-              (engine.entered i c columns rows next all piece ready there are mine o)
+                  (engine.entered i c columns rows next all piece ready there are mine o)
                   (replaced-every (IsColumnOf cx root) i columns (part_columns cx c piece) e
                   (parts-of c piece column.type fit.belong at))
                   (step-of (specialise_head piece (cx.arity piece c.type)) i c columns rows next ready.good.rows_are

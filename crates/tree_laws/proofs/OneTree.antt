@@ -121,7 +121,7 @@ module _ {T : Type 0} (cx : Context T) (V : T → Bool → MValue → Type 0) (d
     one-tree _ _ _ _ (drops i c cs _ xs next s pk e o w q l) (drops j d _ rows ys last t px f u v y m) =
         let z = same-look cs rows i j c d xs ys pk px e f o u in
         let there : AreInOrder decides (rows_at default_head c.place i xs) last = subst
-            (λ (k : Look T). AreInOrder decides (rows_at default_head k.c.place k.i k.rows) last) z y in
+        (λ (k : Look T). AreInOrder decides (rows_at default_head k.c.place k.i k.rows) last) z y in
         let same : last ≡ next = order-one decides (rows_at default_head c.place i xs) last next there q in
         one-tree (replaced_at i cs []) next s t l (subst (λ k. L (replaced_at i cs []) k t) same
         (subst (λ (k : Look T). L (replaced_at k.i cs []) last t) z m))
@@ -144,7 +144,7 @@ module _ {T : Type 0} (cx : Context T) (V : T → Bool → MValue → Type 0) (d
         (opens j d _ rows ys last r t px f u v sr ar y m) =
         let z = same-look cs rows i j c d xs ys pk px e f o u in
         let pieces : ArePieces (cx.set_of c.type) (ctors_at i xs) (r ∷ []) = subst
-            (λ (k : Look T). ArePieces (cx.set_of k.c.type) (ctors_at k.i k.rows) (r ∷ [])) z ar in
+        (λ (k : Look T). ArePieces (cx.set_of k.c.type) (ctors_at k.i k.rows) (r ∷ [])) z ar in
         let lists : r ∷ [] ≡ p ∷ [] = one_pieces (cx.set_of c.type) (ctors_at i xs) (r ∷ []) (p ∷ []) pieces are in
         let piece : r ≡ p = cc in
         let there : AreInOrder decides (rows_at (specialise_head p (cx.arity p c.type)) c.place i xs) last =
@@ -152,7 +152,7 @@ module _ {T : Type 0} (cx : Context T) (V : T → Bool → MValue → Type 0) (d
         (subst (λ (k : Look T). AreInOrder decides (rows_at
         (specialise_head r (cx.arity r k.c.type)) k.c.place k.i k.rows) last) z y) in
         let same : last ≡ next = order-one decides (rows_at
-            (specialise_head p (cx.arity p c.type)) c.place i xs) last next there q in
+        (specialise_head p (cx.arity p c.type)) c.place i xs) last next there q in
         one-tree (replaced_at i cs (part_columns cx c p)) next s t l
         (subst (λ k. L (replaced_at i cs (part_columns cx c p)) k t) same
         (subst (λ k. L (replaced_at i cs (part_columns cx c k)) last t) piece
@@ -177,7 +177,7 @@ module _ {T : Type 0} (cx : Context T) (V : T → Bool → MValue → Type 0) (d
     one-tree _ _ _ _ (switches i c cs _ xs ps ss pk e o w sl are l) (switches j d _ rows ys rs ts px f u v sr ar m) =
         let z = same-look cs rows i j c d xs ys pk px e f o u in
         let pieces : ArePieces (cx.set_of c.type) (ctors_at i xs) rs = subst
-            (λ (k : Look T). ArePieces (cx.set_of k.c.type) (ctors_at k.i k.rows) rs) z ar in
+        (λ (k : Look T). ArePieces (cx.set_of k.c.type) (ctors_at k.i k.rows) rs) z ar in
         let lists : rs ≡ ps = one_pieces (cx.set_of c.type) (ctors_at i xs) rs ps pieces are in
         let places : d.place ≡ c.place = ap (λ (k : Look T). k.c.place) z in
         let there : Branches cx V decides Chooses BareOnly i c cs xs ps ps ts =
@@ -204,7 +204,10 @@ module _ {T : Type 0} (cx : Context T) (V : T → Bool → MValue → Type 0) (d
     one-branches _ _ _ _ _ _ _ _ (one_case i c cs rows next all p ps s ss pr h o l a)
         (one_case _ _ _ _ last _ _ _ t ts px k u v b) =
         let same : last ≡ next = order-one decides (rows_at
-            (specialise_head p (cx.arity p c.type)) c.place i rows) last next u o in
-        rw (one-tree (replaced_at i cs (part_columns cx c p)) next s t l
-        (subst (λ z. L (replaced_at i cs (part_columns cx c p)) z t) same v), one-branches i c cs rows all ps ss ts a
-        b) refl
+        (specialise_head p (cx.arity p c.type)) c.place i rows) last next u o in
+        rw (
+          one-tree (replaced_at i cs (part_columns cx c p)) next s t l
+              (subst (λ z. L (replaced_at i cs (part_columns cx c p)) z t) same v),
+          one-branches i c cs rows all ps ss ts a
+              b,
+        ) refl

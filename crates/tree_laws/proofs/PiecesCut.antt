@@ -37,13 +37,23 @@ hit-one named (p ∷ pieces) v h = go (builds named p v) refl (λ k. hit-one nam
     go true e f =
         let k : one (builds named p v) ≡ 1 = ap one e in
         let none : hits named pieces v ≡ 0 = omega (arith, h, k) in
-        record { by = p; among = inl refl; built = e; only = λ q a b. elim a
-            [ inl s ↦ s | inr c ↦ absurd (hit-some named pieces v q c b none) ] }
+        record {
+          by = p;
+          among = inl refl;
+          built = e;
+          only = λ q a b. elim a
+              [ inl s ↦ s | inr c ↦ absurd (hit-some named pieces v q c b none) ];
+        }
     go false e f =
         let k : one (builds named p v) ≡ 0 = ap one e in
         let r : IsHit named pieces v = f (omega (arith, h, k)) in
-        record { by = r.by; among = inr r.among; built = r.built; only = λ q a b. elim a
-            [ inl s ↦ untrue (sym e ∙ subst (λ x. builds named x v ≡ true) s b) | inr c ↦ r.only q c b ] }
+        record {
+          by = r.by;
+          among = inr r.among;
+          built = r.built;
+          only = λ q a b. elim a
+              [ inl s ↦ untrue (sym e ∙ subst (λ x. builds named x v ≡ true) s b) | inr c ↦ r.only q c b ];
+        }
 
 -- a value of a type with a constructor is seen
 pub seen : (e : Elementary) (v : MValue) → builds_one e v ≡ true → (v ≡ Unseen) ⊎ (v ≡ Thing) → ⊥

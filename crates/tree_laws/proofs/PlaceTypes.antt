@@ -151,9 +151,9 @@ module _ {T : Type 0} (IsType : T → Type 0) (V : T → Bool → MValue → Typ
       (subst (λ x. belongs x OtherTextCtor ≡ true) (sym q) b)) l
   by-set (RowSet len) q (RowCtor (FixedShape n)) i b l =
       let count : cx.arity (RowCtor (FixedShape n)) t ≡ n = law.arity t (RowCtor (FixedShape n)) type
-          (subst (λ x. belongs x (RowCtor (FixedShape n)) ≡ true) (sym q) b) in
+      (subst (λ x. belongs x (RowCtor (FixedShape n)) ≡ true) (sym q) b) in
       let fits : shape_belongs len (LongerShape (suc i) 0) ≡ true = front_fits len (FixedShape n) n i
-          (omega (arith, l, count)) (λ m e. least len (FixedShape n) n b m e refl) in
+      (omega (arith, l, count)) (λ m e. least len (FixedShape n) n b m e refl) in
       front len (FixedShape n) i q fits b
     where
       front : (len : Option ℕ) (p : MShape) (i : ℕ) → cx.set_of t ≡ RowSet len →
@@ -162,20 +162,20 @@ module _ {T : Type 0} (IsType : T → Type 0) (V : T → Bool → MValue → Typ
           (cx.sub (RowCtor p) t i)
       front len p i q f b =
           let items : cx.arity (RowCtor (LongerShape (suc i) 0)) t ≡ suc i + 0 = law.arity t
-              (RowCtor (LongerShape (suc i) 0)) type (subst (λ x. belongs x (RowCtor (LongerShape (suc i) 0)) ≡ true)
-              (sym q) f) in
+          (RowCtor (LongerShape (suc i) 0)) type (subst (λ x. belongs x (RowCtor (LongerShape (suc i) 0)) ≡ true)
+          (sym q) f) in
           item len (LongerShape (suc i) 0) p i i q f b (omega (arith, items))
   by-set (RowSet len) q (RowCtor (LongerShape f c)) i b l =
       let count : cx.arity (RowCtor (LongerShape f c)) t ≡ f + c = law.arity t (RowCtor (LongerShape f c)) type
-          (subst (λ x. belongs x (RowCtor (LongerShape f c)) ≡ true) (sym q) b) in
+      (subst (λ x. belongs x (RowCtor (LongerShape f c)) ≡ true) (sym q) b) in
       go (nat_lt i f) (f + c - i) refl (omega (arith, l, count))
     where
       front : shape_belongs len (LongerShape (suc i) 0) ≡ true → type_entered cx t (Some
           (record { ctor = RowCtor (LongerShape (suc i) 0); part = i })) ≡ Some (cx.sub (RowCtor (LongerShape f c)) t i)
       front g =
           let items : cx.arity (RowCtor (LongerShape (suc i) 0)) t ≡ suc i + 0 = law.arity t
-              (RowCtor (LongerShape (suc i) 0)) type (subst (λ x. belongs x (RowCtor (LongerShape (suc i) 0)) ≡ true)
-              (sym q) g) in
+          (RowCtor (LongerShape (suc i) 0)) type (subst (λ x. belongs x (RowCtor (LongerShape (suc i) 0)) ≡ true)
+          (sym q) g) in
           item len (LongerShape (suc i) 0) (LongerShape f c) i i q g b (omega (arith, items))
 
       back : (j : ℕ) → shape_belongs len (LongerShape 0 (suc j)) ≡ true →
@@ -183,8 +183,8 @@ module _ {T : Type 0} (IsType : T → Type 0) (V : T → Bool → MValue → Typ
           (cx.sub (RowCtor (LongerShape f c)) t i)
       back j g =
           let items : cx.arity (RowCtor (LongerShape 0 (suc j))) t ≡ 0 + suc j = law.arity t
-              (RowCtor (LongerShape 0 (suc j))) type (subst (λ x. belongs x (RowCtor (LongerShape 0 (suc j))) ≡ true)
-              (sym q) g) in
+          (RowCtor (LongerShape 0 (suc j))) type (subst (λ x. belongs x (RowCtor (LongerShape 0 (suc j))) ≡ true)
+          (sym q) g) in
           item len (LongerShape 0 (suc j)) (LongerShape f c) 0 i q g b (omega (arith, items))
 
       go : (before : Bool) (rest : ℕ) → rest ≡ f + c - i → i < f + c →

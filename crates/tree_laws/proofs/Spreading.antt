@@ -69,9 +69,11 @@ all-parts q p (k ∷ ks) a = (apart-part q p k a, all-parts q p ks a)
 parts-before : (p : List ℕ) (ks : List ℕ) (qs : List (List ℕ)) → Every (AreApart p) qs →
     Every (λ x. Every (AreApart x) qs) (map (inside p) ks)
 parts-before p [] qs a = tt
-parts-before p (k ∷ ks) qs a =
-    (every-to (AreApart p) (AreApart (inside p k)) qs (λ q i. apart-sym q (inside p k)
-    (apart-part q p k (apart-sym p q i))) a, parts-before p ks qs a)
+parts-before p (k ∷ ks) qs a = (
+  every-to (AreApart p) (AreApart (inside p k)) qs (λ q i. apart-sym q (inside p k)
+      (apart-part q p k (apart-sym p q i))) a,
+  parts-before p ks qs a,
+)
 
 some-is : {A : Type 0} (x y : A) → Some x ≡ Some y → x ≡ y
 some-is x y e = cc
@@ -88,9 +90,14 @@ spread-step seen ps i p ks s e o = record { fresh = fresh ps i s.fresh s.apart e
     part-fresh : (ks : List ℕ) → Every (λ s. ¬ IsIn p s) seen →
         Every (λ q. Every (λ s. ¬ IsIn q s) (p ∷ seen)) (map (inside p) ks)
     part-fresh [] f = tt
-    part-fresh (k ∷ ks) f =
-        ((not-in-part p k, every-to (λ s. ¬ IsIn p s) (λ s. ¬ IsIn (inside p k) s) seen
-        (λ s n h. n (in-whole p k s h)) f), part-fresh ks f)
+    part-fresh (k ∷ ks) f = (
+      (
+        not-in-part p k,
+        every-to (λ s. ¬ IsIn p s) (λ s. ¬ IsIn (inside p k) s) seen
+            (λ s n h. n (in-whole p k s h)) f,
+      ),
+      part-fresh ks f,
+    )
 
     others : (qs : List (List ℕ)) → Every (λ q. Every (λ s. ¬ IsIn q s) seen) qs → Every (AreApart p) qs →
         Every (λ q. Every (λ s. ¬ IsIn q s) (p ∷ seen)) qs

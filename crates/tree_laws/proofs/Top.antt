@@ -95,8 +95,13 @@ module _ {T : Type 0} (decides : ℕ → Decision) where
       subst (λ ws. Ordered TryFirst (map (keyed_try decides v
       (record { heads = Some a.pat ∷ []; arm = j; guarded = a.guarded; chosen = []; caught = [] })) ws)) (sym ways)
       (ordered-map (λ w u. IsBefore (way_key decides w) (way_key decides u)) TryFirst
-      (keyed_try decides v (record { heads = Some a.pat ∷ []; arm = j; guarded = a.guarded; chosen = [];
-      caught = [] })) (arena_ways a.pat v) (λ w u b. inr (refl, b)) (pat-fine decides a.pat n v i).ordered)
+      (keyed_try decides v (record {
+        heads = Some a.pat ∷ [];
+        arm = j;
+        guarded = a.guarded;
+        chosen = [];
+        caught = [];
+      })) (arena_ways a.pat v) (λ w u b. inr (refl, b)) (pat-fine decides a.pat n v i).ordered)
     where
       ways : combine (map (under_all []) (arena_ways a.pat v)) (bare_way ∷ []) ≡ arena_ways a.pat v
       ways = combine_bare_right (map (under_all []) (arena_ways a.pat v)) ∙ outermost (arena_ways a.pat v)
@@ -169,10 +174,10 @@ good-match cx V decides Good Ready engine Chooses BareOnly m tree nodes v inside
       lives =
           lowered-lives cx V decides Good Ready engine Chooses BareOnly (first_matrix m).columns
           (first_matrix m).rows tree lowers (InMatchDomain V m) good (record {
-        held = λ u d. (u ∷ [], (d, tt), (refl, tt));
-        filled = λ us a. fill us a;
-        lives = (v ∷ [], (inside, tt));
-      });
+            held = λ u d. (u ∷ [], (d, tt), (refl, tt));
+            filled = λ us a. fill us a;
+            lives = (v ∷ [], (inside, tt));
+          });
     })
   where
     fill : (us : List MValue) → AreValues V (first_matrix m).columns us → (u : MValue) × InMatchDomain V m u
