@@ -54,14 +54,18 @@ module _ (decides : ℕ → Decision) where
     above = λ o b. w.above o (omega (arith, b, k));
   }
 
-  fine-wider : (low high low' high' : ℕ) (ws : List Way) → low' ≤ low → high ≤ high' → Fine low high ws → Fine low' high' ws
+  fine-wider : (low high low' high' : ℕ) (ws : List Way) → low' ≤ low → high ≤ high' → Fine low high ws →
+      Fine low' high' ws
   fine-wider low high low' high' ws h k f = record {
     ordered = f.ordered;
-    within = every-to (λ w. IsWithin low high (K w)) (λ w. IsWithin low' high' (K w)) ws (λ w i. wider low high low' high' (K w) h k i) f.within;
+    within =
+        every-to (λ w. IsWithin low high (K w)) (λ w. IsWithin low' high' (K w)) ws
+        (λ w i. wider low high low' high' (K w) h k i) f.within;
   }
 
   -- a map of ways that leaves what they decided
-  fine-map : (low high : ℕ) (f : Way → Way) (ws : List Way) → ((w : Way) → (f w).trace ≡ w.trace) → Fine low high ws → Fine low high (map f ws)
+  fine-map : (low high : ℕ) (f : Way → Way) (ws : List Way) → ((w : Way) → (f w).trace ≡ w.trace) → Fine low high ws →
+      Fine low high (map f ws)
   fine-map low high f ws h i = record {
     ordered = ordered-map Earlier Earlier f ws (λ w u b. before w u b) i.ordered;
     within = every-map (λ w. IsWithin low high (K w)) (λ w. IsWithin low high (K w)) f ws (λ w k. inside w k) i.within;
@@ -73,14 +77,16 @@ module _ (decides : ℕ → Decision) where
       inside : (w : Way) → IsWithin low high (K w) → IsWithin low high (K (f w))
       inside w k = rw (h w) k
 
-  join-within : (low mid high : ℕ) (a b : Way) → low ≤ mid → mid ≤ high → IsWithin low mid (K a) → IsWithin mid high (K b) → IsWithin low high (K (join a b))
+  join-within : (low mid high : ℕ) (a b : Way) → low ≤ mid → mid ≤ high → IsWithin low mid (K a) → IsWithin
+      mid high (K b) → IsWithin low high (K (join a b))
   join-within low mid high a b h k i j = record {
     below = λ o l. join-key a b o ∙ rw (i.below o l, j.below o (omega (arith, l, h))) refl;
     above = λ o l. join-key a b o ∙ rw (i.above o (omega (arith, l, k)), j.above o l) refl;
   }
 
   -- the second part comes before, the first being one
-  join-second : (low mid high : ℕ) (a b c : Way) → IsWithin low mid (K a) → IsWithin mid high (K b) → Earlier b c → Earlier (join a b) (join a c)
+  join-second : (low mid high : ℕ) (a b c : Way) → IsWithin low mid (K a) → IsWithin mid high (K b) → Earlier b c →
+      Earlier (join a b) (join a c)
   join-second low mid high a b c i j e =
       record {
         at = e.at;
@@ -96,7 +102,8 @@ module _ (decides : ℕ → Decision) where
       late = elim (cases_lt e.at mid) [ inl l ↦ none_is_not (K b) e.at e.one (j.below e.at l) e.first | inr l ↦ l ]
 
   -- the first part comes before
-  join-first : (low mid high : ℕ) (a b c d : Way) → IsWithin low mid (K a) → IsWithin mid high (K b) → IsWithin mid high (K d) → Earlier a c → Earlier (join a b) (join c d)
+  join-first : (low mid high : ℕ) (a b c d : Way) → IsWithin low mid (K a) → IsWithin mid high (K b) → IsWithin
+      mid high (K d) → Earlier a c → Earlier (join a b) (join c d)
   join-first low mid high a b c d i j k e =
       record {
         at = e.at;
@@ -116,7 +123,8 @@ module _ (decides : ℕ → Decision) where
           let below : o < mid = omega (arith, l, early) in
           rw (e.same o l, j.below o below, k.below o below) refl
 
-  joins-ordered : (low mid high : ℕ) (a : Way) (us : List Way) → IsWithin low mid (K a) → Ordered Earlier us → Every (λ w. IsWithin mid high (K w)) us → Ordered Earlier (map (join a) us)
+  joins-ordered : (low mid high : ℕ) (a : Way) (us : List Way) → IsWithin low mid (K a) → Ordered Earlier us →
+      Every (λ w. IsWithin mid high (K w)) us → Ordered Earlier (map (join a) us)
   joins-ordered low mid high a [] i o w = tt
   joins-ordered low mid high a (b ∷ us) i o w = (later us o.0, joins-ordered low mid high a us i o.1 w.1)
     where
@@ -124,29 +132,40 @@ module _ (decides : ℕ → Decision) where
       later [] e = tt
       later (c ∷ cs) e = (join-second low mid high a b c i w.0 e.0, later cs e.1)
 
-  joins-within : (low mid high : ℕ) (a : Way) (us : List Way) → low ≤ mid → mid ≤ high → IsWithin low mid (K a) → Every (λ w. IsWithin mid high (K w)) us → Every (λ w. IsWithin low high (K w)) (map (join a) us)
+  joins-within : (low mid high : ℕ) (a : Way) (us : List Way) → low ≤ mid → mid ≤ high → IsWithin low mid (K a) →
+      Every (λ w. IsWithin mid high (K w)) us → Every (λ w. IsWithin low high (K w)) (map (join a) us)
   joins-within low mid high a [] h k i w = tt
-  joins-within low mid high a (b ∷ us) h k i w = (join-within low mid high a b h k i w.0, joins-within low mid high a us h k i w.1)
+  joins-within low mid high a (b ∷ us) h k i w =
+      (join-within low mid high a b h k i w.0, joins-within low mid high a us h k i w.1)
 
-  joins-later : (low mid high : ℕ) (a b : Way) (ws us : List Way) → IsWithin low mid (K a) → IsWithin mid high (K b) → Every (Earlier a) ws → Every (λ w. IsWithin mid high (K w)) us → Every (Earlier (join a b)) (combine ws us)
+  joins-later : (low mid high : ℕ) (a b : Way) (ws us : List Way) → IsWithin low mid (K a) → IsWithin mid high (K b) →
+      Every (Earlier a) ws → Every (λ w. IsWithin mid high (K w)) us → Every (Earlier (join a b)) (combine ws us)
   joins-later low mid high a b [] us i j e w = tt
   joins-later low mid high a b (c ∷ ws) us i j e w =
-      every-append (Earlier (join a b)) (map (join c) us) (combine ws us) (go us w) (joins-later low mid high a b ws us i j e.1 w)
+      every-append (Earlier (join a b)) (map (join c) us) (combine ws us) (go us w)
+      (joins-later low mid high a b ws us i j e.1 w)
     where
       go : (ds : List Way) → Every (λ x. IsWithin mid high (K x)) ds → Every (Earlier (join a b)) (map (join c) ds)
       go [] k = tt
       go (d ∷ ds) k = (join-first low mid high a b c d i j k.0 e.0, go ds k.1)
 
-  pub fine-combine : (low mid high : ℕ) (ws us : List Way) → low ≤ mid → mid ≤ high → Fine low mid ws → Fine mid high us → Fine low high (combine ws us)
+  pub fine-combine : (low mid high : ℕ) (ws us : List Way) → low ≤ mid → mid ≤ high → Fine low mid ws →
+      Fine mid high us → Fine low high (combine ws us)
   fine-combine low mid high [] us h k f g = record { ordered = tt; within = tt }
   fine-combine low mid high (a ∷ ws) us h k f g =
-      let rest : Fine low high (combine ws us) = fine-combine low mid high ws us h k (record { ordered = f.ordered.1; within = f.within.1 }) g in
+      let rest : Fine low high (combine ws us) = fine-combine low mid high ws us h k
+      (record { ordered = f.ordered.1; within = f.within.1 }) g in
       record {
-        ordered = ordered-append Earlier (map (join a) us) (combine ws us) (joins-ordered low mid high a us f.within.0 g.ordered g.within) rest.ordered (cross us g.within);
-        within = every-append (λ w. IsWithin low high (K w)) (map (join a) us) (combine ws us) (joins-within low mid high a us h k f.within.0 g.within) rest.within;
+        ordered =
+            ordered-append Earlier (map (join a) us) (combine ws us)
+            (joins-ordered low mid high a us f.within.0 g.ordered g.within) rest.ordered (cross us g.within);
+        within =
+            every-append (λ w. IsWithin low high (K w)) (map (join a) us) (combine ws us)
+            (joins-within low mid high a us h k f.within.0 g.within) rest.within;
       }
     where
-      cross : (bs : List Way) → Every (λ w. IsWithin mid high (K w)) bs → Every (λ x. Every (Earlier x) (combine ws us)) (map (join a) bs)
+      cross : (bs : List Way) → Every (λ w. IsWithin mid high (K w)) bs →
+          Every (λ x. Every (Earlier x) (combine ws us)) (map (join a) bs)
       cross [] w = tt
       cross (b ∷ bs) w = (joins-later low mid high a b ws us f.within.0 w.0 f.ordered.0 g.within, cross bs w.1)
 
@@ -155,19 +174,23 @@ module _ (decides : ℕ → Decision) where
     pub fine : Fine n high ws
     pub choice : Every (λ w. (a : ℕ) × (K w n ≡ Some a) × (k ≤ a)) ws
 
-  choosing-key : (uid n k : ℕ) (w : Way) (o : ℕ) → decides uid ≡ record { number = n; alternative = k } → K (choosing uid w) o ≡ cond (nat_eq n o) (Some k) (K w o)
+  choosing-key : (uid n k : ℕ) (w : Way) (o : ℕ) → decides uid ≡ record { number = n; alternative = k } →
+      K (choosing uid w) o ≡ cond (nat_eq n o) (Some k) (K w o)
   choosing-key uid n k w o e = rw e refl
 
-  choosing-here : (uid n k : ℕ) (w : Way) → decides uid ≡ record { number = n; alternative = k } → K (choosing uid w) n ≡ Some k
+  choosing-here : (uid n k : ℕ) (w : Way) → decides uid ≡ record { number = n; alternative = k } →
+      K (choosing uid w) n ≡ Some k
   choosing-here uid n k w e = choosing-key uid n k w n e ∙ rw (itself n) refl
 
-  choosing-within : (uid n k m high : ℕ) (w : Way) → decides uid ≡ record { number = n; alternative = k } → n < m → m ≤ high → IsWithin m high (K w) → IsWithin n high (K (choosing uid w))
+  choosing-within : (uid n k m high : ℕ) (w : Way) → decides uid ≡ record { number = n; alternative = k } → n < m →
+      m ≤ high → IsWithin m high (K w) → IsWithin n high (K (choosing uid w))
   choosing-within uid n k m high w e h g i = record {
     below = λ o l. choosing-key uid n k w o e ∙ rw (differs n o l, i.below o (omega (arith, l, h))) refl;
     above = λ o l. choosing-key uid n k w o e ∙ rw (differs_above n o (omega (arith, l, h, g)), i.above o l) refl;
   }
 
-  choosing-earlier : (uid n k m high : ℕ) (w u : Way) → decides uid ≡ record { number = n; alternative = k } → n < m → IsWithin m high (K w) → Earlier w u → Earlier (choosing uid w) (choosing uid u)
+  choosing-earlier : (uid n k m high : ℕ) (w u : Way) → decides uid ≡ record { number = n; alternative = k } → n < m →
+      IsWithin m high (K w) → Earlier w u → Earlier (choosing uid w) (choosing uid u)
   choosing-earlier uid n k m high w u e h i b =
       record {
         at = b.at;
@@ -180,15 +203,23 @@ module _ (decides : ℕ → Decision) where
       }
     where
       late : n < b.at
-      late = elim (cases_lt b.at m) [ inl l ↦ none_is_not (K w) b.at b.one (i.below b.at l) b.first | inr l ↦ omega (arith, h, l) ]
+      late =
+          elim (cases_lt b.at m) [
+            | inl l ↦ none_is_not (K w) b.at b.one (i.below b.at l) b.first
+            | inr l ↦ omega
+                (arith, h, l)
+          ]
 
   -- the ways of the first alternative come before those of the later ones
-  chosen-cross : (uid n k m high : ℕ) (ws us : List Way) → decides uid ≡ record { number = n; alternative = k } → Every (λ w. IsWithin m high (K w)) ws → n < m → Chosen n (suc k) n high us →
+  chosen-cross : (uid n k m high : ℕ) (ws us : List Way) → decides uid ≡ record { number = n; alternative = k } →
+      Every (λ w. IsWithin m high (K w)) ws → n < m → Chosen n (suc k) n high us →
       Every (λ x. Every (Earlier x) us) (map (choosing uid) ws)
   chosen-cross uid n k m high [] us e i h c = tt
-  chosen-cross uid n k m high (w ∷ ws) us e i h c = (go us c.choice c.fine.within, chosen-cross uid n k m high ws us e i.1 h c)
+  chosen-cross uid n k m high (w ∷ ws) us e i h c =
+      (go us c.choice c.fine.within, chosen-cross uid n k m high ws us e i.1 h c)
     where
-      go : (xs : List Way) → Every (λ x. (a : ℕ) × (K x n ≡ Some a) × (suc k ≤ a)) xs → Every (λ x. IsWithin n high (K x)) xs → Every (Earlier (choosing uid w)) xs
+      go : (xs : List Way) → Every (λ x. (a : ℕ) × (K x n ≡ Some a) × (suc k ≤ a)) xs →
+          Every (λ x. IsWithin n high (K x)) xs → Every (Earlier (choosing uid w)) xs
       go [] p q = tt
       go (x ∷ xs) p q = (
         record {
@@ -198,27 +229,40 @@ module _ (decides : ℕ → Decision) where
           first = choosing-here uid n k w e;
           second = p.0.1;
           less = let later : suc k ≤ p.0.0 = p.0.2 in omega (arith, later);
-          same = λ o l. choosing-key uid n k w o e ∙ rw (differs n o l, i.0.below o (omega (arith, l, h)), q.0.below o l) refl;
+          same =
+              λ o l. choosing-key uid n k w o e ∙ rw (
+                differs n o l,
+                i.0.below o
+                    (omega (arith, l, h)),
+                q.0.below o l,
+              ) refl;
         },
         go xs p.1 q.1,
       )
 
-  chosen-join : (uid n k m high : ℕ) (ws us : List Way) → decides uid ≡ record { number = n; alternative = k } → n < m → m ≤ high → Fine m high ws → Chosen n (suc k) n high us →
+  chosen-join : (uid n k m high : ℕ) (ws us : List Way) → decides uid ≡ record { number = n; alternative = k } →
+      n < m → m ≤ high → Fine m high ws → Chosen n (suc k) n high us →
       Chosen n k n high (map (choosing uid) ws ++ us)
   chosen-join uid n k m high ws us e h g f c =
       record {
         fine = record {
-          ordered = ordered-append Earlier (map (choosing uid) ws) us (own ws f.ordered f.within) c.fine.ordered (chosen-cross uid n k m high ws us e f.within h c);
+          ordered =
+              ordered-append Earlier (map (choosing uid) ws) us (own ws f.ordered f.within) c.fine.ordered
+              (chosen-cross uid n k m high ws us e f.within h c);
           within = every-append (λ w. IsWithin n high (K w)) (map (choosing uid) ws) us
-              (every-map (λ w. IsWithin m high (K w)) (λ w. IsWithin n high (K w)) (choosing uid) ws (λ w i. choosing-within uid n k m high w e h g i) f.within) c.fine.within;
+              (every-map (λ w. IsWithin m high (K w)) (λ w. IsWithin n high (K w)) (choosing uid) ws
+              (λ w i. choosing-within uid n k m high w e h g i) f.within) c.fine.within;
         };
-        choice = every-append (λ w. (a : ℕ) × (K w n ≡ Some a) × (k ≤ a)) (map (choosing uid) ws) us (mine ws) (every-to _ _ us (λ w i. (i.0, i.1, lower i.0 i.2)) c.choice);
+        choice =
+            every-append (λ w. (a : ℕ) × (K w n ≡ Some a) × (k ≤ a)) (map (choosing uid) ws) us (mine ws)
+            (every-to _ _ us (λ w i. (i.0, i.1, lower i.0 i.2)) c.choice);
       }
     where
       lower : (a : ℕ) → suc k ≤ a → k ≤ a
       lower a l = omega (arith, l)
 
-      own : (xs : List Way) → Ordered Earlier xs → Every (λ w. IsWithin m high (K w)) xs → Ordered Earlier (map (choosing uid) xs)
+      own : (xs : List Way) → Ordered Earlier xs → Every (λ w. IsWithin m high (K w)) xs →
+          Ordered Earlier (map (choosing uid) xs)
       own [] o w = tt
       own (x ∷ xs) o w = (after xs o.0, own xs o.1 w.1)
         where
@@ -236,7 +280,8 @@ module _ (decides : ℕ → Decision) where
   none-fine : (low high : ℕ) → Fine low high []
   none-fine low high = record { ordered = tt; within = tt }
 
-  where-fine : (low high : ℕ) (o : Option (List NumberedPart)) (ways_on : List NumberedPart → List Way) → ((ps : List NumberedPart) → Fine low high (ways_on ps)) → Fine low high (ways_where o ways_on)
+  where-fine : (low high : ℕ) (o : Option (List NumberedPart)) (ways_on : List NumberedPart → List Way) →
+      ((ps : List NumberedPart) → Fine low high (ways_on ps)) → Fine low high (ways_where o ways_on)
   where-fine low high None ways_on h = none-fine low high
   where-fine low high (Some ps) ways_on h = h ps
 
@@ -244,14 +289,17 @@ module _ (decides : ℕ → Decision) where
   ctor-fine : {T : Type 0} (c : MCtor) (subs : MDePats T) (at n : ℕ) (v : MValue) →
       ((ps : List NumberedPart) → Fine n (own_count c subs + or_counts subs + n) (subs_ways subs ps)) →
       (c ≡ OrCtor → Fine n (own_count c subs + or_counts subs + n) (arena_alternatives_ways (chosen_of subs) subs v)) →
-      Fine n (own_count c subs + or_counts subs + n) (ways_by_ctor c at (λ u. arena_alternatives_ways (chosen_of subs) subs u) (λ ps. subs_ways subs ps) v)
+      Fine n (own_count c subs + or_counts subs + n) (ways_by_ctor c at
+      (λ u. arena_alternatives_ways (chosen_of subs) subs u) (λ ps. subs_ways subs ps) v)
   ctor-fine SingleCtor subs at n v parts or = where-fine n _ (parts_built SingleCtor v) _ parts
   ctor-fine PointCtor subs at n v parts or = where-fine n _ (parts_built PointCtor v) _ parts
   ctor-fine LaterCtor subs at n v parts or = where-fine n _ (parts_built LaterCtor v) _ parts
   ctor-fine OtherTextCtor subs at n v parts or = where-fine n _ (parts_built OtherTextCtor v) _ parts
   ctor-fine (VariantCtor k) subs at n v parts or = where-fine n _ (parts_built (VariantCtor k) v) _ parts
   ctor-fine (FlagCtor b) subs at n v parts or = where-fine n _ (parts_built (FlagCtor b) v) _ parts
-  ctor-fine (NumbersCtor r) subs at n v parts or = fine-map n _ (with_spans_of (span_way at r)) _ (λ w. refl) (where-fine n _ (parts_built (NumbersCtor r) v) _ parts)
+  ctor-fine (NumbersCtor r) subs at n v parts or =
+      fine-map n _ (with_spans_of (span_way at r)) _ (λ w. refl) (where-fine n _
+      (parts_built (NumbersCtor r) v) _ parts)
   ctor-fine (TextCtor t) subs at n v parts or = where-fine n _ (parts_built (TextCtor t) v) _ parts
   ctor-fine (RowCtor s) subs at n v parts or = where-fine n _ (parts_built (RowCtor s) v) _ parts
   ctor-fine WildCtor subs at n v parts or = bare-fine n _
@@ -270,20 +318,27 @@ module _ (decides : ℕ → Decision) where
   map-same (w ∷ ws) = ap (λ l. w ∷ l) (map-same ws)
 
   -- the ways of an or-pattern, from those of its alternatives
-  only-or : {T : Type 0} (subs : MDePats T) (n : ℕ) (v : MValue) → IsDecided decides n OrCtor subs → AreNumbered decides (own_count OrCtor subs + n) subs →
+  only-or : {T : Type 0} (subs : MDePats T) (n : ℕ) (v : MValue) → IsDecided decides n OrCtor subs →
+      AreNumbered decides (own_count OrCtor subs + n) subs →
       FirstFine (own_count OrCtor subs + n) v subs →
-      (AreAlternatives decides n 0 subs → AreNumbered decides (1 + n) subs → Chosen n 0 n (or_counts subs + (1 + n)) (arena_alternatives_ways choosing subs v)) →
+      (AreAlternatives decides n 0 subs → AreNumbered decides (1 + n) subs →
+      Chosen n 0 n (or_counts subs + (1 + n)) (arena_alternatives_ways choosing subs v)) →
       Fine n (own_count OrCtor subs + or_counts subs + n) (arena_alternatives_ways (chosen_of subs) subs v)
   only-or no_de_pats n v d i f h = none-fine n _
   only-or (more_de_pats p no_de_pats) n v d i f h =
-      rw (map-same (arena_ways p v)) (fine-wider (0 + n) (or_count p + (0 + n)) n (0 + (or_count p + 0) + n) (arena_ways p v) (omega arith) (omega arith) f)
+      rw (map-same (arena_ways p v)) (fine-wider (0 + n) (or_count p + (0 + n)) n (0 + (or_count p + 0) + n)
+      (arena_ways p v) (omega arith) (omega arith) f)
   only-or (more_de_pats p (more_de_pats q qs)) n v d i f h =
       let c : Chosen n 0 n (or_count p + (or_count q + or_counts qs) + (1 + n)) (arena_alternatives_ways choosing (more_de_pats p (more_de_pats q qs)) v) = h d i in
-      fine-wider n (or_count p + (or_count q + or_counts qs) + (1 + n)) n (1 + (or_count p + (or_count q + or_counts qs)) + n) (arena_alternatives_ways choosing (more_de_pats p (more_de_pats q qs)) v) (omega arith) (omega arith) c.fine
+      fine-wider n (or_count p + (or_count q + or_counts qs) + (1 + n)) n
+      (1 + (or_count p + (or_count q + or_counts qs)) + n) (arena_alternatives_ways choosing
+      (more_de_pats p (more_de_pats q qs)) v) (omega arith) (omega arith) c.fine
 
-  or-fine : {T : Type 0} (c : MCtor) (subs : MDePats T) (n : ℕ) (v : MValue) → c ≡ OrCtor → IsDecided decides n c subs → AreNumbered decides (own_count c subs + n) subs →
+  or-fine : {T : Type 0} (c : MCtor) (subs : MDePats T) (n : ℕ) (v : MValue) → c ≡ OrCtor →
+      IsDecided decides n c subs → AreNumbered decides (own_count c subs + n) subs →
       FirstFine (own_count c subs + n) v subs →
-      (AreAlternatives decides n 0 subs → AreNumbered decides (1 + n) subs → Chosen n 0 n (or_counts subs + (1 + n)) (arena_alternatives_ways choosing subs v)) →
+      (AreAlternatives decides n 0 subs → AreNumbered decides (1 + n) subs →
+      Chosen n 0 n (or_counts subs + (1 + n)) (arena_alternatives_ways choosing subs v)) →
       Fine n (own_count c subs + or_counts subs + n) (arena_alternatives_ways (chosen_of subs) subs v)
   or-fine SingleCtor subs n v e d i f h = cc
   or-fine PointCtor subs n v e d i f h = cc
@@ -299,35 +354,45 @@ module _ (decides : ℕ → Decision) where
 
   mutual
     -- the ways of a pattern that is numbered from `n` come in order, and decide its or-patterns alone
-    pub pat-fine : {T : Type 0} (p : MDePat T) (n : ℕ) (v : MValue) → IsNumbered decides n p → Fine n (or_count p + n) (arena_ways p v)
+    pub pat-fine : {T : Type 0} (p : MDePat T) (n : ℕ) (v : MValue) → IsNumbered decides n p →
+        Fine n (or_count p + n) (arena_ways p v)
     pat-fine (de_pat c t uid at subs binds) n v i =
         fine-map n _ (with_bounds binds v) _ (bounds-trace binds v)
         (
         ctor-fine c subs at n v
-        (λ parts. fine-wider (own_count c subs + n) (or_counts subs + (own_count c subs + n)) n (own_count c subs + or_counts subs + n) (subs_ways subs parts) (omega arith) (omega arith)
+        (λ parts. fine-wider (own_count c subs + n) (or_counts subs + (own_count c subs + n)) n
+        (own_count c subs + or_counts subs + n) (subs_ways subs parts) (omega arith) (omega arith)
         (subs-fine subs (own_count c subs + n) parts i.1))
-        (λ e. or-fine c subs n v e i.0 i.1 (first-fine subs (own_count c subs + n) v i.1) (λ a j. choices-fine subs n 0 (1 + n) v a j (omega arith)))
+        (λ e. or-fine c subs n v e i.0 i.1 (first-fine subs (own_count c subs + n) v i.1)
+        (λ a j. choices-fine subs n 0 (1 + n) v a j (omega arith)))
         )
 
-    pub subs-fine : {T : Type 0} (subs : MDePats T) (n : ℕ) (parts : List NumberedPart) → AreNumbered decides n subs → Fine n (or_counts subs + n) (subs_ways subs parts)
+    pub subs-fine : {T : Type 0} (subs : MDePats T) (n : ℕ) (parts : List NumberedPart) → AreNumbered decides n subs →
+        Fine n (or_counts subs + n) (subs_ways subs parts)
     subs-fine no_de_pats n [] i = bare-fine n _
     subs-fine no_de_pats n (q ∷ parts) i = none-fine n _
     subs-fine (more_de_pats p ps) n [] i = none-fine n _
     subs-fine (more_de_pats p ps) n (q ∷ parts) i =
-        fine-wider n (or_counts ps + (or_count p + n)) n (or_count p + or_counts ps + n) (combine (map (under q.number) (arena_ways p q.part)) (subs_ways ps parts)) (omega arith) (omega arith)
+        fine-wider n (or_counts ps + (or_count p + n)) n (or_count p + or_counts ps + n)
+        (combine (map (under q.number) (arena_ways p q.part)) (subs_ways ps parts)) (omega arith) (omega arith)
         (
         fine-combine n (or_count p + n) (or_counts ps + (or_count p + n)) _ _ (omega arith) (omega arith)
         (fine-map n (or_count p + n) (under q.number) (arena_ways p q.part) (λ w. refl) (pat-fine p n q.part i.0))
         (subs-fine ps (or_count p + n) parts i.1)
         )
 
-    choices-fine : {T : Type 0} (subs : MDePats T) (n k m : ℕ) (v : MValue) → AreAlternatives decides n k subs → AreNumbered decides m subs → n < m →
+    choices-fine : {T : Type 0} (subs : MDePats T) (n k m : ℕ) (v : MValue) → AreAlternatives decides n k subs →
+        AreNumbered decides m subs → n < m →
         Chosen n k n (or_counts subs + m) (arena_alternatives_ways choosing subs v)
     choices-fine no_de_pats n k m v a i h = record { fine = none-fine n _; choice = tt }
     choices-fine (more_de_pats p ps) n k m v a i h =
-        chosen-join (uid_of p) n k m (or_count p + or_counts ps + m) (arena_ways p v) (arena_alternatives_ways choosing ps v) a.0 h (omega arith)
-        (fine-wider m (or_count p + m) m (or_count p + or_counts ps + m) (arena_ways p v) (omega arith) (omega arith) (pat-fine p m v i.0))
-        (subst (λ x. Chosen n (suc k) n x (arena_alternatives_ways choosing ps v)) (same-sum (or_counts ps) (or_count p) m) (choices-fine ps n (suc k) (or_count p + m) v a.1 i.1 (omega (arith, h))))
+        chosen-join (uid_of p) n k m (or_count p + or_counts ps + m) (arena_ways p v)
+        (arena_alternatives_ways choosing ps v) a.0 h (omega arith)
+        (fine-wider m (or_count p + m) m (or_count p + or_counts ps + m) (arena_ways p v) (omega arith) (omega arith)
+        (pat-fine p m v i.0))
+        (subst (λ x. Chosen n (suc k) n x (arena_alternatives_ways choosing ps v))
+        (same-sum (or_counts ps) (or_count p) m) (choices-fine ps n (suc k) (or_count p + m) v a.1 i.1
+        (omega (arith, h))))
 
     first-fine : {T : Type 0} (subs : MDePats T) (n : ℕ) (v : MValue) → AreNumbered decides n subs → FirstFine n v subs
     first-fine no_de_pats n v i = tt

@@ -10,12 +10,14 @@ greater-from : (a b : Binding) → compare_texts a.name b.name ≡ Less → comp
 greater-from a b h = nat_list_cmp_total.antisymm b.name a.name ∙ ap ordering_reverse h
 
 -- two bindings of different names go in in either order
-pub swap-less : (a b : Binding) (bs : List Binding) → compare_texts a.name b.name ≡ Less → bind_into a (bind_into b bs) ≡ bind_into b (bind_into a bs)
+pub swap-less : (a b : Binding) (bs : List Binding) → compare_texts a.name b.name ≡ Less →
+    bind_into a (bind_into b bs) ≡ bind_into b (bind_into a bs)
 swap-less a b [] h = rw (h, greater-from a b h) refl
 swap-less a b (c ∷ rest) h =
     go (compare_texts c.name a.name) (compare_texts c.name b.name) refl refl (swap-less a b rest h)
   where
-    go : (o p : Ordering) → compare_texts c.name a.name ≡ o → compare_texts c.name b.name ≡ p → bind_into a (bind_into b rest) ≡ bind_into b (bind_into a rest) →
+    go : (o p : Ordering) → compare_texts c.name a.name ≡ o → compare_texts c.name b.name ≡ p →
+        bind_into a (bind_into b rest) ≡ bind_into b (bind_into a rest) →
         bind_into a (bind_into b (c ∷ rest)) ≡ bind_into b (bind_into a (c ∷ rest))
     go Less p e f ih =
         let f' : compare_texts c.name b.name ≡ Less = nat_list_cmp_total.trans c.name a.name b.name e h in
@@ -31,7 +33,8 @@ swap-less a b (c ∷ rest) h =
 abbrev pub Differ : Binding → Binding → Type 0
 Differ a b = compare_texts a.name b.name ≢ Equal
 
-pub swap : (a b : Binding) (bs : List Binding) → Differ a b → bind_into a (bind_into b bs) ≡ bind_into b (bind_into a bs)
+pub swap : (a b : Binding) (bs : List Binding) → Differ a b →
+    bind_into a (bind_into b bs) ≡ bind_into b (bind_into a bs)
 swap a b bs d = go (compare_texts a.name b.name) refl
   where
     go : (o : Ordering) → compare_texts a.name b.name ≡ o → bind_into a (bind_into b bs) ≡ bind_into b (bind_into a bs)
@@ -52,7 +55,8 @@ pub put-into : (a : Binding) (bs zs : List Binding) → put_all (bind_into a bs)
 put-into a [] zs = refl
 put-into a (b ∷ rest) zs = go (compare_texts b.name a.name) refl (put-into a rest zs)
   where
-    go : (o : Ordering) → compare_texts b.name a.name ≡ o → put_all (bind_into a rest) zs ≡ bind_into a (put_all rest zs) → put_all (bind_into a (b ∷ rest)) zs ≡ bind_into a (put_all (b ∷ rest) zs)
+    go : (o : Ordering) → compare_texts b.name a.name ≡ o → put_all (bind_into a rest) zs ≡ bind_into a
+        (put_all rest zs) → put_all (bind_into a (b ∷ rest)) zs ≡ bind_into a (put_all (b ∷ rest) zs)
     go Less e ih = rw e (ap (bind_into b) ih ∙ swap-less b a (put_all rest zs) e)
     go Equal e ih = rw e refl
     go Greater e ih = rw e refl
@@ -84,7 +88,8 @@ canonical-both xs ys h k = subst Canonical (sym (both-put xs ys h)) (canonical-p
 abbrev pub Apart : List Binding → List Binding → Type 0
 Apart xs ys = Every (λ a. Every (Differ a) ys) xs
 
-push-through : (a : Binding) (ys zs : List Binding) → Every (Differ a) ys → bind_into a (put_all ys zs) ≡ put_all ys (bind_into a zs)
+push-through : (a : Binding) (ys zs : List Binding) → Every (Differ a) ys →
+    bind_into a (put_all ys zs) ≡ put_all ys (bind_into a zs)
 push-through a [] zs d = refl
 push-through a (y ∷ ys) zs d = swap a y (put_all ys zs) d.0 ∙ ap (bind_into y) (push-through a ys zs d.1)
 
@@ -93,7 +98,8 @@ put-swap [] ys zs d = refl
 put-swap (a ∷ xs) ys zs d = ap (bind_into a) (put-swap xs ys zs d.1) ∙ push-through a ys (put_all xs zs) d.0
 
 -- bindings of different names may be joined in either order
-pub both-swap : (xs ys : List Binding) → Canonical xs → Canonical ys → Apart xs ys → bindings_of_both xs ys ≡ bindings_of_both ys xs
+pub both-swap : (xs ys : List Binding) → Canonical xs → Canonical ys → Apart xs ys →
+    bindings_of_both xs ys ≡ bindings_of_both ys xs
 both-swap xs ys h k d =
     both-put xs ys h ∙ (ap (put_all xs) (sym k) ∙ (put-swap xs ys [] d ∙ (ap (put_all ys) h ∙ sym (both-put ys xs k))))
 
@@ -102,7 +108,9 @@ put-put [] ys zs = refl
 put-put (a ∷ xs) ys zs = put-into a (put_all xs ys) zs ∙ ap (bind_into a) (put-put xs ys zs)
 
 -- the groups do not count
-pub both-assoc : (xs ys zs : List Binding) → Canonical xs → Canonical ys → bindings_of_both (bindings_of_both xs ys) zs ≡ bindings_of_both xs (bindings_of_both ys zs)
+pub both-assoc : (xs ys zs : List Binding) → Canonical xs → Canonical ys →
+    bindings_of_both (bindings_of_both xs ys) zs ≡ bindings_of_both xs (bindings_of_both ys zs)
 both-assoc xs ys zs h k =
     both-put (bindings_of_both xs ys) zs (canonical-both xs ys h k)
-    ∙ (ap (λ l. put_all l zs) (both-put xs ys h) ∙ (put-put xs ys zs ∙ (ap (put_all xs) (sym (both-put ys zs k)) ∙ sym (both-put xs (bindings_of_both ys zs) h))))
+    ∙ (ap (λ l. put_all l zs) (both-put xs ys h) ∙ (put-put xs ys zs ∙
+    (ap (put_all xs) (sym (both-put ys zs k)) ∙ sym (both-put xs (bindings_of_both ys zs) h))))

@@ -35,13 +35,16 @@ module _ (decides : ℕ → Decision) where
   combine-late : (n : ℕ) (ws us : List Way) → Every (Late n) ws → Every (Late n) us → Every (Late n) (combine ws us)
   combine-late n [] us h k = tt
   combine-late n (w ∷ ws) us h k =
-      every-append (Late n) (map (join w) us) (combine ws us) (every-map (Late n) (Late n) (join w) us (λ u i. join-late n w u h.0 i) k) (combine-late n ws us h.1 k)
+      every-append (Late n) (map (join w) us) (combine ws us) (every-map (Late n) (Late n) (join w) us
+      (λ u i. join-late n w u h.0 i) k) (combine-late n ws us h.1 k)
 
   module _ {T : Type 0} where
     -- a head whose or-patterns come later decides later ones alone
     above-late : (d : ℕ) (h : Head T) (v : MValue) → IsAbove decides d h → Every (Late (d + 1)) (head_ways h v)
     above-late d None v a = ((λ o l. refl), tt)
-    above-late d (Some p) v a = every-to (λ w. IsWithin a.0 (or_count p + a.0) (way_key decides w)) (Late (d + 1)) (arena_ways p v) one (pat-fine decides p a.0 v a.2).within
+    above-late d (Some p) v a =
+        every-to (λ w. IsWithin a.0 (or_count p + a.0) (way_key decides w)) (Late (d + 1)) (arena_ways p v) one
+        (pat-fine decides p a.0 v a.2).within
       where
         one : (w : Way) → IsWithin a.0 (or_count p + a.0) (way_key decides w) → Late (d + 1) w
         one w i o l = let over : d < a.0 = a.1 in i.below o (omega (arith, l, over))
@@ -49,7 +52,8 @@ module _ (decides : ℕ → Decision) where
     -- a wildcard or a name decides nothing
     wild-late : (n : ℕ) (h : Head T) (v : MValue) → IsTrue (is_wild h) → Every (Late n) (head_ways h v)
     wild-late n None v i = ((λ o l. refl), tt)
-    wild-late n (Some (de_pat WildCtor t uid at subs binds)) v i = ((λ o l. rw (bounds-trace decides binds v bare_way) refl), tt)
+    wild-late n (Some (de_pat WildCtor t uid at subs binds)) v i =
+        ((λ o l. rw (bounds-trace decides binds v bare_way) refl), tt)
     wild-late n (Some (de_pat SingleCtor t uid at subs binds)) v i = cc
     wild-late n (Some (de_pat PointCtor t uid at subs binds)) v i = cc
     wild-late n (Some (de_pat LaterCtor t uid at subs binds)) v i = cc
@@ -61,19 +65,23 @@ module _ (decides : ℕ → Decision) where
     wild-late n (Some (de_pat (TextCtor u) t uid at subs binds)) v i = cc
     wild-late n (Some (de_pat (RowCtor s) t uid at subs binds)) v i = cc
 
-    at-late : (n : ℕ) (o : Option (List ℕ)) (u : Option MValue) (h : Head T) → ((x : MValue) → Every (Late n) (head_ways h x)) → Every (Late n) (ways_at o u h)
+    at-late : (n : ℕ) (o : Option (List ℕ)) (u : Option MValue) (h : Head T) →
+        ((x : MValue) → Every (Late n) (head_ways h x)) → Every (Late n) (ways_at o u h)
     at-late n None u h k = tt
     at-late n (Some is) None h k = tt
-    at-late n (Some is) (Some x) h k = every-map (Late n) (Late n) (under_all is) (head_ways h x) (λ w i. under-late n is w i) (k x)
+    at-late n (Some is) (Some x) h k =
+        every-map (Late n) (Late n) (under_all is) (head_ways h x) (λ w i. under-late n is w i) (k x)
 
     -- a row of wildcards decides nothing more
-    wilds-late : (n : ℕ) (columns : List (MColumn T)) (hs : List (Head T)) (v : MValue) → IsTrue (list_all is_wild hs) → Every (Late n) (heads_ways columns hs v)
+    wilds-late : (n : ℕ) (columns : List (MColumn T)) (hs : List (Head T)) (v : MValue) →
+        IsTrue (list_all is_wild hs) → Every (Late n) (heads_ways columns hs v)
     wilds-late n [] [] v w = ((λ o l. refl), tt)
     wilds-late n [] (h ∷ hs) v w = tt
     wilds-late n (c ∷ columns) [] v w = tt
     wilds-late n (c ∷ columns) (h ∷ hs) v w =
         combine-late n (ways_at (position_at c.place v) (part_at c.place v) h) (heads_ways columns hs v)
-        (at-late n (position_at c.place v) (part_at c.place v) h (λ x. wild-late n h x (first (is_wild h) (list_all is_wild hs) w)))
+        (at-late n (position_at c.place v) (part_at c.place v) h (λ x. wild-late n h x
+        (first (is_wild h) (list_all is_wild hs) w)))
         (wilds-late n columns hs v (second (is_wild h) (list_all is_wild hs) w))
       where
         first : (a b : Bool) → IsTrue (a && b) → IsTrue a
@@ -85,7 +93,8 @@ module _ (decides : ℕ → Decision) where
         second false b h = cc
 
     -- beside a row of wildcards the other rows of the arm decide later or-patterns alone
-    alike-late : (d : ℕ) (columns : List (MColumn T)) (hs gs : List (Head T)) (v : MValue) → IsTrue (list_all is_wild hs) → AreAlike decides d hs gs → Every (Late (d + 1)) (heads_ways columns gs v)
+    alike-late : (d : ℕ) (columns : List (MColumn T)) (hs gs : List (Head T)) (v : MValue) →
+        IsTrue (list_all is_wild hs) → AreAlike decides d hs gs → Every (Late (d + 1)) (heads_ways columns gs v)
     alike-late d [] [] [] v w a = ((λ o l. refl), tt)
     alike-late d [] [] (g ∷ gs) v w a = elim a [ ]
     alike-late d [] (h ∷ hs) [] v w a = elim a [ ]
@@ -106,15 +115,22 @@ module _ (decides : ℕ → Decision) where
         second true b h = h
         second false b h = cc
 
-        one : (x : MValue) → (h ≡ g) ⊎ (IsAbove decides d h × IsAbove decides d g) → Every (Late (d + 1)) (head_ways g x)
-        one x (inl e) = subst (λ k. Every (Late (d + 1)) (head_ways k x)) e (wild-late (d + 1) h x (first (is_wild h) (list_all is_wild hs) w))
+        one : (x : MValue) → (h ≡ g) ⊎ (IsAbove decides d h × IsAbove decides d g) →
+            Every (Late (d + 1)) (head_ways g x)
+        one x (inl e) =
+            subst (λ k. Every (Late (d + 1)) (head_ways k x)) e (wild-late (d + 1) h x
+            (first (is_wild h) (list_all is_wild hs) w))
         one x (inr b) = above-late d g x b.1
 
     -- the way of a first row of wildcards comes before every way of the other rows of its arm
-    pub first-way : (columns : List (MColumn T)) (k l : Key) (hs gs : List (Head T)) (v : MValue) → IsTrue (list_all is_wild hs) → IsParted decides k hs l gs →
-        Every (λ w. Every (λ x. IsBefore (both_keys k (way_key decides w)) (both_keys l (way_key decides x))) (heads_ways columns gs v)) (heads_ways columns hs v)
+    pub first-way : (columns : List (MColumn T)) (k l : Key) (hs gs : List (Head T)) (v : MValue) →
+        IsTrue (list_all is_wild hs) → IsParted decides k hs l gs →
+        Every (λ w. Every (λ x. IsBefore (both_keys k (way_key decides w)) (both_keys l (way_key decides x)))
+        (heads_ways columns gs v)) (heads_ways columns hs v)
     first-way columns k l hs gs v w p =
         every-to (Late (p.before.at + 1)) _ (heads_ways columns hs v)
-        (λ a i. every-to (Late (p.before.at + 1)) _ (heads_ways columns gs v) (λ b j. before-keep k l (way_key decides a) (way_key decides b) p.before (λ o m. i o (omega (arith, m)) ∙ sym (j o (omega (arith, m)))))
+        (λ a i. every-to (Late (p.before.at + 1)) _ (heads_ways columns gs v)
+        (λ b j. before-keep k l (way_key decides a) (way_key decides b) p.before
+        (λ o m. i o (omega (arith, m)) ∙ sym (j o (omega (arith, m)))))
         (alike-late p.before.at columns hs gs v w p.alike))
         (wilds-late (p.before.at + 1) columns hs v w)

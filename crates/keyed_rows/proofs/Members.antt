@@ -6,7 +6,8 @@ use Rattle.match_model.specs.Lists.{Among}
 pub among-contains : {A : Type 0} (xs : List A) (x : A) → Among x xs → Contains xs x
 among-contains [] x a = elim a [ ]
 among-contains (y ∷ xs) x (inl e) = (0, omega arith, sym e)
-among-contains (y ∷ xs) x (inr a) = let r = among-contains xs x a in let l : r.0 < length xs = r.1 in (suc r.0, omega (arith, l), r.2)
+among-contains (y ∷ xs) x (inr a) =
+    let r = among-contains xs x a in let l : r.0 < length xs = r.1 in (suc r.0, omega (arith, l), r.2)
 
 pub contains-among : {A : Type 0} (xs : List A) (x : A) → Contains xs x → Among x xs
 contains-among [] x c = let h : c.0 < 0 = c.1 in absurd (omega (arith, h))

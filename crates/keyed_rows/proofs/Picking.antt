@@ -12,7 +12,8 @@ before-asym f g a b = elim (cases_lt a.at b.at) [
   | inl l ↦ unequal a.one a.other a.less (same_some a.one a.other (sym a.first ∙ (sym (b.same a.at l) ∙ a.second)))
   | inr l ↦ (elim (cases_lt b.at a.at) [
     | inl m ↦ unequal b.one b.other b.less (same_some b.one b.other (sym b.first ∙ (sym (a.same b.at m) ∙ b.second)))
-    | inr m ↦ both a.at b.at (omega (arith, l, m)) a.one a.other b.one b.other a.first a.second b.first b.second a.less b.less
+    | inr m ↦ both a.at b.at (omega (arith, l, m)) a.one a.other b.one b.other a.first a.second b.first b.second a.less
+        b.less
   ])
 ]
   where
@@ -22,7 +23,8 @@ before-asym f g a b = elim (cases_lt a.at b.at) [
     unequal : (x y : ℕ) → x < y → x ≡ y → ⊥
     unequal x y l e = omega (arith, l, e)
 
-    both : (m n : ℕ) → m ≡ n → (p q r s : ℕ) → f m ≡ Some p → g m ≡ Some q → g n ≡ Some r → f n ≡ Some s → p < q → r < s → ⊥
+    both : (m n : ℕ) → m ≡ n → (p q r s : ℕ) → f m ≡ Some p → g m ≡ Some q → g n ≡ Some r → f n ≡ Some s → p < q →
+        r < s → ⊥
     both m n e p q r s h i j k l o =
         let first : p ≡ s = same_some p s (sym h ∙ (ap f e ∙ k)) in
         let second : q ≡ r = same_some q r (sym i ∙ (ap g e ∙ j)) in
@@ -41,7 +43,8 @@ pub record Picked {A : Type 0} (R : A → A → Type 0) (t : A) (others all : Li
   pub ordered : Ordered R rest
   pub same : SameMembers others rest
 
-pub first-of : {A : Type 0} (R : A → A → Type 0) → ((x y : A) → R x y → R y x → ⊥) → (t : A) (others all : List A) → Ordered R all → SameMembers (t ∷ others) all → Every (R t) others → Picked R t others all
+pub first-of : {A : Type 0} (R : A → A → Type 0) → ((x y : A) → R x y → R y x → ⊥) → (t : A) (others all : List A) →
+    Ordered R all → SameMembers (t ∷ others) all → Every (R t) others → Picked R t others all
 first-of R asym t others [] o s e = absurd (s.forth t (inl refl))
 first-of R asym t others (x ∷ all) o s e = go (s.back x (inl refl))
   where

@@ -37,7 +37,8 @@ module _ (decides : ℕ → Decision) where
 
   done-combine : (ws us : List Way) → all_done (combine ws us) ≡ products (all_done ws) (all_done us)
   done-combine [] us = refl
-  done-combine (w ∷ ws) us = map-append (done_of decides) (map (join w) us) (combine ws us) ∙ rw (done-joins w us, done-combine ws us) refl
+  done-combine (w ∷ ws) us =
+      map-append (done_of decides) (map (join w) us) (combine ws us) ∙ rw (done-joins w us, done-combine ws us) refl
 
   done-under-all : (is : List ℕ) (ws : List Way) → all_done (map (under_all is) ws) ≡ all_done ws
   done-under-all is [] = refl
@@ -63,22 +64,28 @@ module _ (decides : ℕ → Decision) where
     heads_done (h ∷ hs) (x ∷ xs) = products (all_done (head_ways h x)) (heads_done hs xs)
 
     -- wildcards do nothing
-    wild-done : (m : ℕ) (ys xs : List MValue) (hs : List (Head T)) → length ys ≡ m → heads_done (wildcards m ++ hs) (ys ++ xs) ≡ heads_done hs xs
+    wild-done : (m : ℕ) (ys xs : List MValue) (hs : List (Head T)) → length ys ≡ m →
+        heads_done (wildcards m ++ hs) (ys ++ xs) ≡ heads_done hs xs
     wild-done zero [] xs hs e = refl
     wild-done zero (y ∷ ys) xs hs e = absurd (omega (arith, e))
     wild-done (suc m) [] xs hs e = absurd (omega (arith, e))
-    wild-done (suc m) (y ∷ ys) xs hs e = alone (heads_done (wildcards m ++ hs) (ys ++ xs)) ∙ wild-done m ys xs hs (omega (arith, e))
+    wild-done (suc m) (y ∷ ys) xs hs e =
+        alone (heads_done (wildcards m ++ hs) (ys ++ xs)) ∙ wild-done m ys xs hs (omega (arith, e))
 
     -- wildcards put in between
-    pub between-done : (g m : ℕ) (hs : List (Head T)) (xs ys zs : List MValue) → length xs ≡ g → length ys ≡ m → g ≤ length hs → heads_done (take g hs ++ (wildcards m ++ drop g hs)) (xs ++ (ys ++ zs)) ≡ heads_done hs (xs ++ zs)
+    pub between-done : (g m : ℕ) (hs : List (Head T)) (xs ys zs : List MValue) → length xs ≡ g → length ys ≡ m →
+        g ≤ length hs → heads_done (take g hs ++ (wildcards m ++ drop g hs)) (xs ++ (ys ++ zs)) ≡ heads_done hs
+        (xs ++ zs)
     between-done zero m hs [] ys zs e f l = wild-done m ys zs hs f
     between-done zero m hs (x ∷ xs) ys zs e f l = absurd (omega (arith, e))
     between-done (suc g) m hs [] ys zs e f l = absurd (omega (arith, e))
     between-done (suc g) m [] (x ∷ xs) ys zs e f l = absurd (omega (arith, l))
-    between-done (suc g) m (h ∷ hs) (x ∷ xs) ys zs e f l = ap (products (all_done (head_ways h x))) (between-done g m hs xs ys zs (omega (arith, e)) f (omega (arith, l)))
+    between-done (suc g) m (h ∷ hs) (x ∷ xs) ys zs e f l =
+        ap (products (all_done (head_ways h x))) (between-done g m hs xs ys zs (omega (arith, e)) f (omega (arith, l)))
 
     -- the patterns of parts do so
-    pub subs-done : (subs : MDePats T) (parts : List NumberedPart) → length (de_pats_list subs) ≡ length parts → all_done (subs_ways subs parts) ≡ heads_done (map Some (de_pats_list subs)) (map (λ n. n.part) parts)
+    pub subs-done : (subs : MDePats T) (parts : List NumberedPart) → length (de_pats_list subs) ≡ length parts →
+        all_done (subs_ways subs parts) ≡ heads_done (map Some (de_pats_list subs)) (map (λ n. n.part) parts)
     subs-done no_de_pats [] e = refl
     subs-done no_de_pats (n ∷ parts) e = absurd (omega (arith, e))
     subs-done (more_de_pats p ps) [] e = absurd (omega (arith, e))
@@ -91,9 +98,11 @@ module _ (decides : ℕ → Decision) where
     AtColumns v [] [] = Unit {0}
     AtColumns v [] (x ∷ xs) = ⊥
     AtColumns v (c ∷ cs) [] = ⊥
-    AtColumns v (c ∷ cs) (x ∷ xs) = (part_at c.place v ≡ Some x) × (((is : List ℕ) × (position_at c.place v ≡ Some is)) × AtColumns v cs xs)
+    AtColumns v (c ∷ cs) (x ∷ xs) =
+        (part_at c.place v ≡ Some x) × (((is : List ℕ) × (position_at c.place v ≡ Some is)) × AtColumns v cs xs)
 
-    pub columns-done : (v : MValue) (cs : List (MColumn T)) (hs : List (Head T)) (xs : List MValue) → AtColumns v cs xs → length hs ≡ length cs → all_done (heads_ways cs hs v) ≡ heads_done hs xs
+    pub columns-done : (v : MValue) (cs : List (MColumn T)) (hs : List (Head T)) (xs : List MValue) →
+        AtColumns v cs xs → length hs ≡ length cs → all_done (heads_ways cs hs v) ≡ heads_done hs xs
     columns-done v [] [] [] a e = refl
     columns-done v [] [] (x ∷ xs) a e = elim a [ ]
     columns-done v [] (h ∷ hs) xs a e = absurd (omega (arith, e))
@@ -101,19 +110,23 @@ module _ (decides : ℕ → Decision) where
     columns-done v (c ∷ cs) (h ∷ hs) [] a e = elim a [ ]
     columns-done v (c ∷ cs) (h ∷ hs) (x ∷ xs) a e =
         done-combine (ways_at (position_at c.place v) (part_at c.place v) h) (heads_ways cs hs v)
-        ∙ (ap (λ l. products l (all_done (heads_ways cs hs v))) one ∙ ap (products (all_done (head_ways h x))) (columns-done v cs hs xs a.1.1 (omega (arith, e))))
+        ∙ (ap (λ l. products l (all_done (heads_ways cs hs v))) one
+        ∙ ap (products (all_done (head_ways h x))) (columns-done v cs hs xs a.1.1 (omega (arith, e))))
       where
         one : all_done (ways_at (position_at c.place v) (part_at c.place v) h) ≡ all_done (head_ways h x)
         one = rw (a.1.0.1, a.0) (done-under-all a.1.0.0 (head_ways h x))
 
     -- a head that has the piece
-    module _ (piece : MCtor) (n : ℕ) (e : MColumn T) (cols : List (MColumn T)) (v u : MValue) (is : List ℕ) (xs : List MValue) (part : part_at e.place v ≡ Some u) (position : position_at e.place v ≡ Some is) (columns : AtColumns v cols xs) (count : length cols ≡ n) where
+    module _ (piece : MCtor) (n : ℕ) (e : MColumn T) (cols : List (MColumn T)) (v u : MValue) (is : List ℕ)
+        (xs : List MValue) (part : part_at e.place v ≡ Some u) (position : position_at e.place v ≡ Some is)
+        (columns : AtColumns v cols xs) (count : length cols ≡ n) where
       here : (h : Head T) → all_done (ways_at (position_at e.place v) (part_at e.place v) h) ≡ all_done (head_ways h u)
       here h = rw (position, part) (done-under-all is (head_ways h u))
 
       -- from equal lists of what is done
       keeps-by : (h : Head T) (y : Replacement T) → specialise_head piece n h ≡ y ∷ [] → length y.heads ≡ length cols →
-          all_done (head_ways h u) ≡ map (times (yield_done decides e.place v y)) (heads_done y.heads xs) → HeadKeeps decides (specialise_head piece n) e cols v h
+          all_done (head_ways h u) ≡ map (times (yield_done decides e.place v y)) (heads_done y.heads xs) →
+          HeadKeeps decides (specialise_head piece n) e cols v h
       keeps-by h y only wide same = record {
         wide = λ z a. ap (λ x. length x.heads) (lone z (subst (Among z) only a)) ∙ wide;
         forth = forth;
@@ -124,33 +137,57 @@ module _ (decides : ℕ → Decision) where
           lone z (inl q) = q
           lone z (inr q) = absurd q
 
-          all : all_done (ways_at (position_at e.place v) (part_at e.place v) h) ≡ map (times (yield_done decides e.place v y)) (all_done (heads_ways cols y.heads v))
-          all = here h ∙ (same ∙ ap (map (times (yield_done decides e.place v y))) (sym (columns-done v cols y.heads xs columns wide)))
+          all : all_done (ways_at (position_at e.place v) (part_at e.place v) h) ≡ map
+              (times (yield_done decides e.place v y)) (all_done (heads_ways cols y.heads v))
+          all =
+              here h ∙ (same ∙ ap (map (times (yield_done decides e.place v y)))
+              (sym (columns-done v cols y.heads xs columns wide)))
 
           forth : (a : Way) → Among a (ways_at (position_at e.place v) (part_at e.place v) h) →
-              (z : Replacement T) × Among z (specialise_head piece n h) × ((w : Way) × Among w (heads_ways cols z.heads v) × (done_of decides a ≡ times (yield_done decides e.place v z) (done_of decides w)))
+              (z : Replacement T) × Among z (specialise_head piece n h) × ((w : Way) × Among w
+              (heads_ways cols z.heads v) × (done_of decides a ≡ times (yield_done decides e.place v z)
+              (done_of decides w)))
           forth a i =
-              let d = subst (Among (done_of decides a)) all (map-among (done_of decides) (ways_at (position_at e.place v) (part_at e.place v) h) a i) in
-              let m = among-map (times (yield_done decides e.place v y)) (all_done (heads_ways cols y.heads v)) (done_of decides a) d in
-              let w = among-map (done_of decides) (heads_ways cols y.heads v) m.0 m.1 in
-              (y, subst (Among y) (sym only) (inl refl), (w.0, w.1, m.2 ∙ ap (times (yield_done decides e.place v y)) w.2))
+              let d = subst (Among (done_of decides a)) all (map-among (done_of decides)
+              (ways_at (position_at e.place v) (part_at e.place v) h) a i) in
+              let m = among-map (times (yield_done decides e.place v y)) (all_done (heads_ways cols y.heads v))
+              (done_of decides a) d in
+              let w = among-map (done_of decides) (heads_ways cols y.heads v) m.0 m.1 in (
+                y,
+                subst (Among y) (sym only) (inl refl),
+                (
+                  w.0,
+                  w.1,
+                  m.2 ∙ ap
+                      (times (yield_done decides e.place v y)) w.2,
+                ),
+              )
 
-          back : (z : Replacement T) → z ≡ y → (w : Way) → Among w (heads_ways cols z.heads v) → (a : Way) × Among a (ways_at (position_at e.place v) (part_at e.place v) h) × (done_of decides a ≡ times (yield_done decides e.place v z) (done_of decides w))
+          back : (z : Replacement T) → z ≡ y → (w : Way) → Among w (heads_ways cols z.heads v) → (a : Way)
+              × Among a (ways_at (position_at e.place v) (part_at e.place v) h)
+              × (done_of decides a ≡ times (yield_done decides e.place v z) (done_of decides w))
           back z q w i =
               let j = subst (λ x. Among w (heads_ways cols x.heads v)) q i in
-              let d = map-among (times (yield_done decides e.place v y)) (all_done (heads_ways cols y.heads v)) (done_of decides w) (map-among (done_of decides) (heads_ways cols y.heads v) w j) in
-              let m = among-map (done_of decides) (ways_at (position_at e.place v) (part_at e.place v) h) (times (yield_done decides e.place v y) (done_of decides w)) (subst (Among (times (yield_done decides e.place v y) (done_of decides w))) (sym all) d) in
+              let d = map-among (times (yield_done decides e.place v y)) (all_done (heads_ways cols y.heads v))
+              (done_of decides w) (map-among (done_of decides) (heads_ways cols y.heads v) w j) in
+              let m = among-map (done_of decides) (ways_at (position_at e.place v) (part_at e.place v) h)
+              (times (yield_done decides e.place v y) (done_of decides w))
+              (subst (Among (times (yield_done decides e.place v y) (done_of decides w))) (sym all) d) in
               (m.0, m.1, sym m.2 ∙ ap (λ x. times (yield_done decides e.place v x) (done_of decides w)) (sym q))
 
       -- a pattern whose constructor has the piece: its patterns do on the parts what its ways do
-      pub piece-keeps : (c : MCtor) (t : T) (uid at : ℕ) (subs : MDePats T) (binds : List MBound) → has_piece c piece ≡ true → length (heads_of c (map Some (de_pats_list subs)) n) ≡ n →
+      pub piece-keeps : (c : MCtor) (t : T) (uid at : ℕ) (subs : MDePats T) (binds : List MBound) →
+          has_piece c piece ≡ true → length (heads_of c (map Some (de_pats_list subs)) n) ≡ n →
           bound_of u binds ≡ bindings_in v (map (bind_at e.place) binds) →
-          all_done (ways_by_ctor c at (λ w. arena_alternatives_ways (chosen_of subs) subs w) (λ parts. subs_ways subs parts) u) ≡ heads_done (heads_of c (map Some (de_pats_list subs)) n) xs →
+          all_done (ways_by_ctor c at (λ w. arena_alternatives_ways (chosen_of subs) subs w)
+          (λ parts. subs_ways subs parts) u) ≡ heads_done (heads_of c (map Some (de_pats_list subs)) n) xs →
           HeadKeeps decides (specialise_head piece n) e cols v (Some (de_pat c t uid at subs binds))
       piece-keeps c t uid at subs binds has wide bound ways =
           keeps-by (Some (de_pat c t uid at subs binds)) Y (ap (λ b. cond b (Y ∷ []) []) has) (wide ∙ sym count)
-          (done-map-bounds decides u binds (ways_by_ctor c at (λ w. arena_alternatives_ways (chosen_of subs) subs w) (λ parts. subs_ways subs parts) u)
-          ∙ (ap (map (act decides u binds)) ways ∙ ap (λ l. map (times (record { key = key_of []; bindings = l })) (heads_done (heads_of c (map Some (de_pats_list subs)) n) xs)) bound))
+          (done-map-bounds decides u binds (ways_by_ctor c at (λ w. arena_alternatives_ways (chosen_of subs) subs w)
+          (λ parts. subs_ways subs parts) u)
+          ∙ (ap (map (act decides u binds)) ways ∙ ap (λ l. map (times (record { key = key_of []; bindings = l }))
+          (heads_done (heads_of c (map Some (de_pats_list subs)) n) xs)) bound))
         where
           Y : Replacement T
           Y = record { heads = heads_of c (map Some (de_pats_list subs)) n; chosen = []; binds = binds }

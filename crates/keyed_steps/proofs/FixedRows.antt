@@ -26,8 +26,11 @@ fixed-length NothingSet n h = untrue h
 fixed-length (VariantSet count later) n h = untrue h
 fixed-length (NumberSet first second) n h = untrue h
 
-module _ {T : Type 0} (IsType : T → Type 0) (cx : Context T) (V : T → Bool → MValue → Type 0) (law : PartsLaw IsType V cx) (values : ValuesLaw IsType V cx) (c : MColumn T) (is : IsType c.type) (named : List (List ℕ)) (n : ℕ) (of : belongs (cx.set_of c.type) (RowCtor (FixedShape n)) ≡ true) where
-  pub fixed-parts : (u : MValue) → V c.type c.sure u → builds named (RowCtor (FixedShape n)) u ≡ true → HasParts cx V c named (RowCtor (FixedShape n)) u (parts_of u)
+module _ {T : Type 0} (IsType : T → Type 0) (cx : Context T) (V : T → Bool → MValue → Type 0)
+    (law : PartsLaw IsType V cx) (values : ValuesLaw IsType V cx) (c : MColumn T) (is : IsType c.type)
+    (named : List (List ℕ)) (n : ℕ) (of : belongs (cx.set_of c.type) (RowCtor (FixedShape n)) ≡ true) where
+  pub fixed-parts : (u : MValue) → V c.type c.sure u → builds named (RowCtor (FixedShape n)) u ≡ true →
+      HasParts cx V c named (RowCtor (FixedShape n)) u (parts_of u)
   fixed-parts (Row items) w b =
       let count : n ≡ length (values_list items) = nat_equal n (length (values_list items)) b in
       record {
@@ -47,17 +50,24 @@ module _ {T : Type 0} (IsType : T → Type 0) (cx : Context T) (V : T → Bool �
   fixed-parts Later w b = cc
   fixed-parts Unseen w b = cc
 
-  fixed-makes : (us : List MValue) → Each cx V c named (RowCtor (FixedShape n)) 0 (cx.arity (RowCtor (FixedShape n)) c.type) us →
-      (u : MValue) × V c.type c.sure u × (builds named (RowCtor (FixedShape n)) u ≡ true) × HasParts cx V c named (RowCtor (FixedShape n)) u us
+  fixed-makes : (us : List MValue) → Each cx V c named (RowCtor (FixedShape n)) 0 (cx.arity
+      (RowCtor (FixedShape n)) c.type) us →
+      (u : MValue) × V c.type c.sure u × (builds named (RowCtor (FixedShape n)) u ≡ true)
+      × HasParts cx V c named (RowCtor (FixedShape n)) u us
   fixed-makes us e =
       let u : MValue = Row (values_of us) in
       let count : length us ≡ n = e.count ∙ law.arity c.type (RowCtor (FixedShape n)) is of in
-      let b : builds named (RowCtor (FixedShape n)) u ≡ true = subst (λ k. nat_eq n k ≡ true) (sym (ap length (values-same us) ∙ count)) (nat_itself n) in
-      let o : is_of_set (cx.set_of c.type) (OneLength (length us)) ≡ true = subst (λ k. is_of_set (cx.set_of c.type) (OneLength k) ≡ true) (sym count) (fixed-length (cx.set_of c.type) n of) in
+      let b : builds named (RowCtor (FixedShape n)) u ≡ true = subst (λ k. nat_eq n k ≡ true)
+      (sym (ap length (values-same us) ∙ count)) (nat_itself n) in
+      let o : is_of_set (cx.set_of c.type) (OneLength (length us)) ≡ true = subst
+      (λ k. is_of_set (cx.set_of c.type) (OneLength k) ≡ true) (sym count) (fixed-length (cx.set_of c.type) n of) in
       let w : V c.type c.sure u = row-of IsType cx V law values c is (FixedShape n) of us o
-      (λ i x a j. subst (λ (t : T). V t c.sure x) (law.items c.type (FixedShape n) (FixedShape n) (i + 0) j is of of) (parts-get V c.sure (cx.sub (RowCtor (FixedShape n)) c.type) 0 us i x e.values a)) in
+      (λ i x a j. subst (λ (t : T). V t c.sure x) (law.items c.type (FixedShape n) (FixedShape n) (i + 0) j is of of)
+      (parts-get V c.sure (cx.sub (RowCtor (FixedShape n)) c.type) 0 us i x e.values a)) in
       (u, w, b, subst (HasParts cx V c named (RowCtor (FixedShape n)) u) (values-same us) (fixed-parts u w b))
 
   -- rows of one length are opened
-  pub fixed-opened : HasValue V (open_of c) named (RowCtor (FixedShape n)) → IsOpened cx V c named (RowCtor (FixedShape n))
-  fixed-opened some = opened-by cx V c named (RowCtor (FixedShape n)) some (λ u w b. (parts_of u, fixed-parts u w b)) fixed-makes
+  pub fixed-opened : HasValue V (open_of c) named (RowCtor (FixedShape n)) →
+      IsOpened cx V c named (RowCtor (FixedShape n))
+  fixed-opened some =
+      opened-by cx V c named (RowCtor (FixedShape n)) some (λ u w b. (parts_of u, fixed-parts u w b)) fixed-makes

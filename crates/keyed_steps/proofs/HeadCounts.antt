@@ -30,13 +30,16 @@ pub record IsWritten {T : Type 0} (cx : Context T) (t : T) (k : MCtor) (subs : M
   pub count : length (de_pats_list subs) ≡ cx.arity k t
 
 module _ {T : Type 0} (cx : Context T) (t ty : T) (uid at : ℕ) (subs : MDePats T) (binds : List MBound) where
-  pub own-parts : (k : MCtor) → IsTyped cx t (de_pat k ty uid at subs binds) → list_all (λ b. part_is_of k b.part) binds ≡ true
+  pub own-parts : (k : MCtor) → IsTyped cx t (de_pat k ty uid at subs binds) →
+      list_all (λ b. part_is_of k b.part) binds ≡ true
   own-parts k h = h.1
 
-  written-by : (k : MCtor) → (belongs (cx.set_of t) k && is_written k) ≡ true → length (de_pats_list subs) ≡ cx.arity k t → IsWritten cx t k subs
+  written-by : (k : MCtor) → (belongs (cx.set_of t) k && is_written k) ≡ true →
+      length (de_pats_list subs) ≡ cx.arity k t → IsWritten cx t k subs
   written-by k b e = record { belong = (both (belongs (cx.set_of t) k) (is_written k) b).0; count = e }
 
-  pub written : (k : MCtor) → IsPlain k → is_wild_ctor k ≡ false → IsTyped cx t (de_pat k ty uid at subs binds) → IsWritten cx t k subs
+  pub written : (k : MCtor) → IsPlain k → is_wild_ctor k ≡ false → IsTyped cx t (de_pat k ty uid at subs binds) →
+      IsWritten cx t k subs
   written WildCtor p w h = untrue (sym w)
   written OrCtor p w h = elim p [ ]
   written SingleCtor p w h = written-by SingleCtor h.2.0 h.2.1
@@ -49,7 +52,8 @@ module _ {T : Type 0} (cx : Context T) (t ty : T) (uid at : ℕ) (subs : MDePats
   written (TextCtor k) p w h = written-by (TextCtor k) h.2.0 h.2.1
   written (RowCtor k) p w h = written-by (RowCtor k) h.2.0 h.2.1
 
-module _ {T : Type 0} (IsType : T → Type 0) (cx : Context T) (V : T → Bool → MValue → Type 0) (law : PartsLaw IsType V cx) (t : T) (is : IsType t) where
+module _ {T : Type 0} (IsType : T → Type 0) (cx : Context T) (V : T → Bool → MValue → Type 0)
+    (law : PartsLaw IsType V cx) (t : T) (is : IsType t) where
   abbrev Of : MCtor → Type 0
   Of k = belongs (cx.set_of t) k ≡ true
 
@@ -69,44 +73,68 @@ module _ {T : Type 0} (IsType : T → Type 0) (cx : Context T) (V : T → Bool �
   arity-same (VariantCtor i) _ m h a b = untrue h
   arity-same (FlagCtor i) (FlagCtor j) m h a b = law.arity t (FlagCtor i) is a ∙ sym (law.arity t (FlagCtor j) is b)
   arity-same (FlagCtor i) _ m h a b = untrue h
-  arity-same (NumbersCtor i) (NumbersCtor j) m h a b = law.arity t (NumbersCtor i) is a ∙ sym (law.arity t (NumbersCtor j) is b)
+  arity-same (NumbersCtor i) (NumbersCtor j) m h a b =
+      law.arity t (NumbersCtor i) is a ∙ sym (law.arity t (NumbersCtor j) is b)
   arity-same (NumbersCtor i) _ m h a b = untrue h
   arity-same (TextCtor i) (TextCtor j) m h a b = law.arity t (TextCtor i) is a ∙ sym (law.arity t (TextCtor j) is b)
   arity-same (TextCtor i) _ m h a b = untrue h
-  arity-same (RowCtor (FixedShape i)) (RowCtor (FixedShape j)) m h a b = law.arity t (RowCtor (FixedShape i)) is a ∙ (nat_equal i j h ∙ sym (law.arity t (RowCtor (FixedShape j)) is b))
+  arity-same (RowCtor (FixedShape i)) (RowCtor (FixedShape j)) m h a b =
+      law.arity t (RowCtor (FixedShape i)) is a ∙ (nat_equal i j h ∙ sym (law.arity t (RowCtor (FixedShape j)) is b))
   arity-same (RowCtor (FixedShape i)) (RowCtor (LongerShape f g)) m h a b = untrue h
   arity-same (RowCtor (FixedShape i)) _ m h a b = untrue h
   arity-same (RowCtor (LongerShape f g)) p m h a b = elim m [ ]
 
   -- the piece of a row with a rest has at least its items
   pub enough : (f b : ℕ) (p : MCtor) → has_piece (RowCtor (LongerShape f b)) p ≡ true → Of p → f + b ≤ cx.arity p t
-  enough f b (RowCtor (FixedShape n)) h o = let l : f + b ≤ n = at-least (f + b) n h in let e : cx.arity (RowCtor (FixedShape n)) t ≡ n = law.arity t (RowCtor (FixedShape n)) is o in omega (arith, l, e)
-  enough f b (RowCtor (LongerShape g c)) h o = let l : f + b ≤ g + c = at-least (f + b) (g + c) h in let e : cx.arity (RowCtor (LongerShape g c)) t ≡ g + c = law.arity t (RowCtor (LongerShape g c)) is o in omega (arith, l, e)
+  enough f b (RowCtor (FixedShape n)) h o =
+      let l : f + b ≤ n = at-least (f + b) n h in let e : cx.arity (RowCtor (FixedShape n)) t ≡ n = law.arity t
+      (RowCtor (FixedShape n)) is o in omega (arith, l, e)
+  enough f b (RowCtor (LongerShape g c)) h o =
+      let l : f + b ≤ g + c = at-least (f + b) (g + c) h in let e : cx.arity (RowCtor
+      (LongerShape g c)) t ≡ g + c = law.arity t (RowCtor (LongerShape g c)) is o in omega (arith, l, e)
   enough f b _ h o = untrue h
 
-  longer-count : (f b n : ℕ) (hs : List (Head T)) → length hs ≡ f + b → f + b ≤ n → length (take f hs ++ (wildcards (n - (f + b)) ++ drop f hs)) ≡ n
+  longer-count : (f b n : ℕ) (hs : List (Head T)) → length hs ≡ f + b → f + b ≤ n →
+      length (take f hs ++ (wildcards (n - (f + b)) ++ drop f hs)) ≡ n
   longer-count f b n hs e l =
       let a : length (take f hs) ≡ f = take-length f hs (omega (arith, e)) in
       let d : length (drop f hs) + f ≡ length hs = drop-length f hs (omega (arith, e)) in
       let m : length {A = Head T} (wildcards (n - (f + b))) ≡ n - (f + b) = wilds-length T (n - (f + b)) in
       let p : length (take f hs ++ (wildcards (n - (f + b)) ++ drop f hs)) ≡ length (take f hs) + length (wildcards (n - (f + b)) ++ drop f hs) = length-append {A = Head T} (take f hs) (wildcards (n - (f + b)) ++ drop f hs) in
-      let q : length (wildcards (n - (f + b)) ++ drop f hs) ≡ length {A = Head T} (wildcards (n - (f + b))) + length (drop f hs) = length-append {A = Head T} (wildcards (n - (f + b))) (drop f hs) in
+      let q : length (wildcards (n - (f + b)) ++ drop f hs) ≡ length {A = Head T} (wildcards (n - (f + b))) + length
+      (drop f hs) = length-append {A = Head T} (wildcards (n - (f + b))) (drop f hs) in
       omega (arith, a, d, m, p, q, e, l)
 
-  ctor-count : (k p : MCtor) (subs : MDePats T) → IsPlain k → (is_wild_ctor k ≡ false → IsWritten cx t k subs) → has_piece k p ≡ true → Of p → length (heads_of k (map {B = Head T} Some (de_pats_list subs)) (cx.arity p t)) ≡ cx.arity p t
+  ctor-count : (k p : MCtor) (subs : MDePats T) → IsPlain k → (is_wild_ctor k ≡ false → IsWritten cx t k subs) →
+      has_piece k p ≡ true → Of p → length (heads_of k (map {B = Head T} Some (de_pats_list subs))
+      (cx.arity p t)) ≡ cx.arity p t
   ctor-count WildCtor p subs pl w h o = wilds-length T (cx.arity p t)
   ctor-count OrCtor p subs pl w h o = elim pl [ ]
-  ctor-count (RowCtor (LongerShape f b)) p subs pl w h o = longer-count f b (cx.arity p t) (map Some (de_pats_list subs)) (length-heads (de_pats_list subs) ∙ ((w refl).count ∙ law.arity t (RowCtor (LongerShape f b)) is (w refl).belong)) (enough f b p h o)
-  ctor-count SingleCtor p subs pl w h o = length-heads (de_pats_list subs) ∙ ((w refl).count ∙ arity-same SingleCtor p tt h (w refl).belong o)
-  ctor-count PointCtor p subs pl w h o = length-heads (de_pats_list subs) ∙ ((w refl).count ∙ arity-same PointCtor p tt h (w refl).belong o)
-  ctor-count LaterCtor p subs pl w h o = length-heads (de_pats_list subs) ∙ ((w refl).count ∙ arity-same LaterCtor p tt h (w refl).belong o)
-  ctor-count OtherTextCtor p subs pl w h o = length-heads (de_pats_list subs) ∙ ((w refl).count ∙ arity-same OtherTextCtor p tt h (w refl).belong o)
-  ctor-count (VariantCtor k) p subs pl w h o = length-heads (de_pats_list subs) ∙ ((w refl).count ∙ arity-same (VariantCtor k) p tt h (w refl).belong o)
-  ctor-count (FlagCtor k) p subs pl w h o = length-heads (de_pats_list subs) ∙ ((w refl).count ∙ arity-same (FlagCtor k) p tt h (w refl).belong o)
-  ctor-count (NumbersCtor k) p subs pl w h o = length-heads (de_pats_list subs) ∙ ((w refl).count ∙ arity-same (NumbersCtor k) p tt h (w refl).belong o)
-  ctor-count (TextCtor k) p subs pl w h o = length-heads (de_pats_list subs) ∙ ((w refl).count ∙ arity-same (TextCtor k) p tt h (w refl).belong o)
-  ctor-count (RowCtor (FixedShape k)) p subs pl w h o = length-heads (de_pats_list subs) ∙ ((w refl).count ∙ arity-same (RowCtor (FixedShape k)) p tt h (w refl).belong o)
+  ctor-count (RowCtor (LongerShape f b)) p subs pl w h o =
+      longer-count f b (cx.arity p t) (map Some (de_pats_list subs))
+      (length-heads (de_pats_list subs) ∙ ((w refl).count ∙ law.arity t (RowCtor (LongerShape f b)) is
+      (w refl).belong)) (enough f b p h o)
+  ctor-count SingleCtor p subs pl w h o =
+      length-heads (de_pats_list subs) ∙ ((w refl).count ∙ arity-same SingleCtor p tt h (w refl).belong o)
+  ctor-count PointCtor p subs pl w h o =
+      length-heads (de_pats_list subs) ∙ ((w refl).count ∙ arity-same PointCtor p tt h (w refl).belong o)
+  ctor-count LaterCtor p subs pl w h o =
+      length-heads (de_pats_list subs) ∙ ((w refl).count ∙ arity-same LaterCtor p tt h (w refl).belong o)
+  ctor-count OtherTextCtor p subs pl w h o =
+      length-heads (de_pats_list subs) ∙ ((w refl).count ∙ arity-same OtherTextCtor p tt h (w refl).belong o)
+  ctor-count (VariantCtor k) p subs pl w h o =
+      length-heads (de_pats_list subs) ∙ ((w refl).count ∙ arity-same (VariantCtor k) p tt h (w refl).belong o)
+  ctor-count (FlagCtor k) p subs pl w h o =
+      length-heads (de_pats_list subs) ∙ ((w refl).count ∙ arity-same (FlagCtor k) p tt h (w refl).belong o)
+  ctor-count (NumbersCtor k) p subs pl w h o =
+      length-heads (de_pats_list subs) ∙ ((w refl).count ∙ arity-same (NumbersCtor k) p tt h (w refl).belong o)
+  ctor-count (TextCtor k) p subs pl w h o =
+      length-heads (de_pats_list subs) ∙ ((w refl).count ∙ arity-same (TextCtor k) p tt h (w refl).belong o)
+  ctor-count (RowCtor (FixedShape k)) p subs pl w h o =
+      length-heads (de_pats_list subs) ∙ ((w refl).count ∙ arity-same (RowCtor (FixedShape k)) p tt h (w refl).belong o)
 
-  pub head-count : (named : List (List ℕ)) (p : MCtor) (h : Head T) → Of p → IsHeadTyped cx t h → HeadFits named p h → HasCount p (cx.arity p t) h
+  pub head-count : (named : List (List ℕ)) (p : MCtor) (h : Head T) → Of p → IsHeadTyped cx t h → HeadFits named p h →
+      HasCount p (cx.arity p t) h
   head-count named p None o ty f = tt
-  head-count named p (Some (de_pat k u uid at subs binds)) o ty f = λ h. ctor-count k p subs f.plain (λ w. written cx t u uid at subs binds k f.plain w ty) h o
+  head-count named p (Some (de_pat k u uid at subs binds)) o ty f =
+      λ h. ctor-count k p subs f.plain (λ w. written cx t u uid at subs binds k f.plain w ty) h o

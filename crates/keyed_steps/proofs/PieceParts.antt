@@ -72,9 +72,12 @@ or-belongs NothingSet = refl
 or-belongs (VariantSet count later) = refl
 or-belongs (NumberSet first second) = refl
 
-module _ {T : Type 0} (IsType : T → Type 0) (cx : Context T) (V : T → Bool → MValue → Type 0) (law : PartsLaw IsType V cx) (values : ValuesLaw IsType V cx) (c : MColumn T) (is : IsType c.type) (named : List (List ℕ)) where
+module _ {T : Type 0} (IsType : T → Type 0) (cx : Context T) (V : T → Bool → MValue → Type 0)
+    (law : PartsLaw IsType V cx) (values : ValuesLaw IsType V cx) (c : MColumn T) (is : IsType c.type)
+    (named : List (List ℕ)) where
   -- a value without parts
-  bare-parts : (p : MCtor) (u : MValue) → cx.arity p c.type ≡ 0 → parts_of u ≡ [] → HasParts cx V c named p u (parts_of u)
+  bare-parts : (p : MCtor) (u : MValue) → cx.arity p c.type ≡ 0 → parts_of u ≡ [] →
+      HasParts cx V c named p u (parts_of u)
   bare-parts p u none e = subst (HasParts cx V c named p u) (sym e) (record {
     count = sym none;
     steps = λ i x a. absurd (no-item i x a);
@@ -108,7 +111,8 @@ module _ {T : Type 0} (IsType : T → Type 0) (cx : Context T) (V : T → Bool �
   later-none Later e = refl
   later-none _ e = untrue e
 
-  point-parts : (u : MValue) → belongs (cx.set_of c.type) PointCtor ≡ true → V c.type c.sure u → builds named PointCtor u ≡ true → HasParts cx V c named PointCtor u (parts_of u)
+  point-parts : (u : MValue) → belongs (cx.set_of c.type) PointCtor ≡ true → V c.type c.sure u →
+      builds named PointCtor u ≡ true → HasParts cx V c named PointCtor u (parts_of u)
   point-parts (Point m w) of h b = record {
     count = sym one;
     steps = λ i x a. at i x a;
@@ -141,14 +145,18 @@ module _ {T : Type 0} (IsType : T → Type 0) (cx : Context T) (V : T → Bool �
   point-parts Unseen of h b = cc
 
   -- a value that the piece builds has its parts at the piece's columns
-  pub piece-parts : (p : MCtor) (u : MValue) → belongs (cx.set_of c.type) p ≡ true → V c.type c.sure u → builds named p u ≡ true → HasParts cx V c named p u (parts_by p u)
+  pub piece-parts : (p : MCtor) (u : MValue) → belongs (cx.set_of c.type) p ≡ true → V c.type c.sure u →
+      builds named p u ≡ true → HasParts cx V c named p u (parts_by p u)
   piece-parts SingleCtor u of w b = single-parts IsType cx V law c is named (single-of (cx.set_of c.type) of) u w b
   piece-parts PointCtor u of w b = point-parts u of w b
   piece-parts LaterCtor u of w b = bare-parts LaterCtor u (law.arity c.type LaterCtor is of) (later-none u b)
-  piece-parts OtherTextCtor u of w b = bare-parts OtherTextCtor u (law.arity c.type OtherTextCtor is of) (other-none u b)
-  piece-parts (VariantCtor k) u of w b = variant-parts IsType cx V law c is named k (variant-of (cx.set_of c.type) k of) u w b
+  piece-parts OtherTextCtor u of w b =
+      bare-parts OtherTextCtor u (law.arity c.type OtherTextCtor is of) (other-none u b)
+  piece-parts (VariantCtor k) u of w b =
+      variant-parts IsType cx V law c is named k (variant-of (cx.set_of c.type) k of) u w b
   piece-parts (FlagCtor t) u of w b = bare-parts (FlagCtor t) u (law.arity c.type (FlagCtor t) is of) (flag-none t u b)
-  piece-parts (NumbersCtor r) u of w b = bare-parts (NumbersCtor r) u (law.arity c.type (NumbersCtor r) is of) (number-none r u b)
+  piece-parts (NumbersCtor r) u of w b =
+      bare-parts (NumbersCtor r) u (law.arity c.type (NumbersCtor r) is of) (number-none r u b)
   piece-parts (TextCtor t) u of w b = bare-parts (TextCtor t) u (law.arity c.type (TextCtor t) is of) (text-none t u b)
   piece-parts (RowCtor (FixedShape n)) u of w b = fixed-parts IsType cx V law values c is named n of u w b
   piece-parts (RowCtor (LongerShape f g)) u of w b = ends-parts IsType cx V law values c is named f g of u w b
@@ -156,15 +164,23 @@ module _ {T : Type 0} (IsType : T → Type 0) (cx : Context T) (V : T → Bool �
   piece-parts OrCtor u of w b = untrue (sym (or-belongs (cx.set_of c.type)) ∙ of)
 
   -- each piece of the type with a value is opened
-  pub piece-opened : (p : MCtor) → belongs (cx.set_of c.type) p ≡ true → HasValue V (open_of c) named p → IsOpened cx V c named p
+  pub piece-opened : (p : MCtor) → belongs (cx.set_of c.type) p ≡ true → HasValue V (open_of c) named p →
+      IsOpened cx V c named p
   piece-opened SingleCtor of some = single-opened IsType cx V law c is named (single-of (cx.set_of c.type) of) some
-  piece-opened PointCtor of some = point-opened IsType cx V law c is named (point-of (cx.set_of c.type) of) (law.arity c.type PointCtor is of) some
-  piece-opened LaterCtor of some = bare-opened IsType cx V law c is named LaterCtor (law.arity c.type LaterCtor is of) some
-  piece-opened OtherTextCtor of some = bare-opened IsType cx V law c is named OtherTextCtor (law.arity c.type OtherTextCtor is of) some
-  piece-opened (VariantCtor k) of some = variant-opened IsType cx V law c is named k (variant-of (cx.set_of c.type) k of) some
-  piece-opened (FlagCtor t) of some = bare-opened IsType cx V law c is named (FlagCtor t) (law.arity c.type (FlagCtor t) is of) some
-  piece-opened (NumbersCtor r) of some = bare-opened IsType cx V law c is named (NumbersCtor r) (law.arity c.type (NumbersCtor r) is of) some
-  piece-opened (TextCtor t) of some = bare-opened IsType cx V law c is named (TextCtor t) (law.arity c.type (TextCtor t) is of) some
+  piece-opened PointCtor of some =
+      point-opened IsType cx V law c is named (point-of (cx.set_of c.type) of) (law.arity c.type PointCtor is of) some
+  piece-opened LaterCtor of some =
+      bare-opened IsType cx V law c is named LaterCtor (law.arity c.type LaterCtor is of) some
+  piece-opened OtherTextCtor of some =
+      bare-opened IsType cx V law c is named OtherTextCtor (law.arity c.type OtherTextCtor is of) some
+  piece-opened (VariantCtor k) of some =
+      variant-opened IsType cx V law c is named k (variant-of (cx.set_of c.type) k of) some
+  piece-opened (FlagCtor t) of some =
+      bare-opened IsType cx V law c is named (FlagCtor t) (law.arity c.type (FlagCtor t) is of) some
+  piece-opened (NumbersCtor r) of some =
+      bare-opened IsType cx V law c is named (NumbersCtor r) (law.arity c.type (NumbersCtor r) is of) some
+  piece-opened (TextCtor t) of some =
+      bare-opened IsType cx V law c is named (TextCtor t) (law.arity c.type (TextCtor t) is of) some
   piece-opened (RowCtor (FixedShape n)) of some = fixed-opened IsType cx V law values c is named n of some
   piece-opened (RowCtor (LongerShape f g)) of some = longer-opened IsType cx V law values c is named f g of some
   piece-opened WildCtor of some = untrue (sym (wild-belongs (cx.set_of c.type)) ∙ of)

@@ -16,11 +16,14 @@ pub at-least : (a b : ℕ) → nat_le a b ≡ true → a ≤ b
 at-least a b h = grind (arith, nat_tests)
 
 -- a set with a row has the elementary rows of the lengths of its values
-row-length : (set : MSet) (s : MShape) (sure : Bool) (items : MValues) → belongs set (RowCtor s) ≡ true → ValueIs set sure (Row items) → is_of_set set (OneLength (length (values_list items))) ≡ true
+row-length : (set : MSet) (s : MShape) (sure : Bool) (items : MValues) → belongs set (RowCtor s) ≡ true →
+    ValueIs set sure (Row items) → is_of_set set (OneLength (length (values_list items))) ≡ true
 row-length (RowSet len) s sure items h w = go w.by w.of_set w.build
   where
-    go : (e : Elementary) → is_of_set (RowSet len) e ≡ true → builds_one e (Row items) ≡ true → is_of_set (RowSet len) (OneLength (length (values_list items))) ≡ true
-    go (OneLength n) a b = subst (λ k. is_of_set (RowSet len) (OneLength k) ≡ true) (nat_equal n (length (values_list items)) b) a
+    go : (e : Elementary) → is_of_set (RowSet len) e ≡ true → builds_one e (Row items) ≡ true →
+        is_of_set (RowSet len) (OneLength (length (values_list items))) ≡ true
+    go (OneLength n) a b =
+        subst (λ k. is_of_set (RowSet len) (OneLength k) ≡ true) (nat_equal n (length (values_list items)) b) a
     go _ a b = untrue a
 row-length SingleSet s sure items h w = untrue h
 row-length PointSet s sure items h w = untrue h
@@ -44,7 +47,9 @@ length-belongs NothingSet n h = untrue h
 length-belongs (VariantSet count later) n h = untrue h
 length-belongs (NumberSet first second) n h = untrue h
 
-module _ {T : Type 0} (IsType : T → Type 0) (cx : Context T) (V : T → Bool → MValue → Type 0) (law : PartsLaw IsType V cx) (values : ValuesLaw IsType V cx) (c : MColumn T) (is : IsType c.type) (s : MShape) (of : belongs (cx.set_of c.type) (RowCtor s) ≡ true) where
+module _ {T : Type 0} (IsType : T → Type 0) (cx : Context T) (V : T → Bool → MValue → Type 0)
+    (law : PartsLaw IsType V cx) (values : ValuesLaw IsType V cx) (c : MColumn T) (is : IsType c.type) (s : MShape)
+    (of : belongs (cx.set_of c.type) (RowCtor s) ≡ true) where
   -- each is an item
   abbrev pub AreItems : List MValue → Type 0
   AreItems xs = (i : ℕ) (x : MValue) → slice_get xs i ≡ Some x → (j : ℕ) → V (cx.sub (RowCtor s) c.type j) c.sure x
@@ -52,7 +57,8 @@ module _ {T : Type 0} (IsType : T → Type 0) (cx : Context T) (V : T → Bool �
   different : (n : ℕ) → OneLength n ≡ OnePoint → ⊥
   different n e = cc
 
-  pub of-length : (items : MValues) → V c.type c.sure (Row items) → is_of_set (cx.set_of c.type) (OneLength (length (values_list items))) ≡ true
+  pub of-length : (items : MValues) → V c.type c.sure (Row items) →
+      is_of_set (cx.set_of c.type) (OneLength (length (values_list items))) ≡ true
   of-length items w = row-length (cx.set_of c.type) s c.sure items of (values.each c.type c.sure (Row items) is w)
 
   pub items-of : (items : MValues) → V c.type c.sure (Row items) → AreItems (values_list items)
@@ -60,15 +66,20 @@ module _ {T : Type 0} (IsType : T → Type 0) (cx : Context T) (V : T → Bool �
       let n : ℕ = length (values_list items) in
       let o : is_of_set (cx.set_of c.type) (OneLength n) ≡ true = of-length items w in
       let l = (law.parts c.type (OneLength n) c.sure (Row items) is o (nat_itself n) (λ e. different n e)).0 w in
-      subst (λ (t : T). V t c.sure x) (law.items c.type (FixedShape n) s (i + 0) j is (length-belongs (cx.set_of c.type) n o) of)
+      subst (λ (t : T). V t c.sure x) (law.items c.type (FixedShape n) s (i + 0) j is
+      (length-belongs (cx.set_of c.type) n o) of)
       (parts-get V c.sure (cx.sub (RowCtor (FixedShape n)) c.type) 0 (values_list items) i x l.1 a)
 
-  pub row-of : (xs : List MValue) → is_of_set (cx.set_of c.type) (OneLength (length xs)) ≡ true → AreItems xs → V c.type c.sure (Row (values_of xs))
+  pub row-of : (xs : List MValue) → is_of_set (cx.set_of c.type) (OneLength (length xs)) ≡ true → AreItems xs →
+      V c.type c.sure (Row (values_of xs))
   row-of xs o h =
       let n : ℕ = length xs in
       let same : values_list (values_of xs) ≡ xs = values-same xs in
-      (law.parts c.type (OneLength n) c.sure (Row (values_of xs)) is o (subst (λ l. nat_eq n (length l) ≡ true) (sym same) (nat_itself n)) (λ e. different n e)).1 (
+      (law.parts c.type (OneLength n) c.sure (Row (values_of xs)) is o
+      (subst (λ l. nat_eq n (length l) ≡ true) (sym same) (nat_itself n)) (λ e. different n e)).1 (
         ap length same,
         subst (PartsAre V c.sure (cx.sub (RowCtor (FixedShape n)) c.type) 0) (sym same)
-            (parts-each V c.sure (cx.sub (RowCtor (FixedShape n)) c.type) 0 xs (λ i x a. subst (λ (t : T). V t c.sure x) (law.items c.type s (FixedShape n) 0 (i + 0) is of (length-belongs (cx.set_of c.type) n o)) (h i x a 0))),
+            (parts-each V c.sure (cx.sub (RowCtor (FixedShape n)) c.type) 0 xs
+            (λ i x a. subst (λ (t : T). V t c.sure x) (law.items c.type s (FixedShape n) 0 (i + 0) is of
+            (length-belongs (cx.set_of c.type) n o)) (h i x a 0))),
       )

@@ -12,7 +12,9 @@ use Rattle.keyed_steps.specs.Filled.{IsOpened}
 use Rattle.keyed_steps.proofs.Opening.{HasParts, Each, opened-by}
 use Rattle.keyed_steps.proofs.Items.{parts-get, values-same}
 
-module _ {T : Type 0} (IsType : T → Type 0) (cx : Context T) (V : T → Bool → MValue → Type 0) (law : PartsLaw IsType V cx) (c : MColumn T) (is : IsType c.type) (named : List (List ℕ)) (of : IsTrue (is_of_set (cx.set_of c.type) OneSingle)) where
+module _ {T : Type 0} (IsType : T → Type 0) (cx : Context T) (V : T → Bool → MValue → Type 0)
+    (law : PartsLaw IsType V cx) (c : MColumn T) (is : IsType c.type) (named : List (List ℕ))
+    (of : IsTrue (is_of_set (cx.set_of c.type) OneSingle)) where
   different : OneSingle ≡ OnePoint → ⊥
   different e = cc
 
@@ -22,13 +24,16 @@ module _ {T : Type 0} (IsType : T → Type 0) (cx : Context T) (V : T → Bool �
   plus-zero : (i : ℕ) → i + 0 ≡ i
   plus-zero i = omega arith
 
-  pub single-parts : (u : MValue) → V c.type c.sure u → builds named SingleCtor u ≡ true → HasParts cx V c named SingleCtor u (parts_of u)
+  pub single-parts : (u : MValue) → V c.type c.sure u → builds named SingleCtor u ≡ true →
+      HasParts cx V c named SingleCtor u (parts_of u)
   single-parts (Node j ps) w b =
       let l = (law.parts c.type OneSingle c.sure (Node j ps) is of b (λ e. different e)).0 w in
       record {
         count = l.0;
         steps = λ i x a. ap (λ t. found_if t (slice_get (values_list ps) i)) (turned j 0 b) ∙ a;
-        values = λ i x a. subst (λ m. V (cx.sub SingleCtor c.type m) c.sure x) (plus-zero i) (parts-get V c.sure (cx.sub SingleCtor c.type) 0 (values_list ps) i x l.1 a);
+        values =
+            λ i x a. subst (λ m. V (cx.sub SingleCtor c.type m) c.sure x) (plus-zero i)
+            (parts-get V c.sure (cx.sub SingleCtor c.type) 0 (values_list ps) i x l.1 a);
         num = λ i. i;
         numbers = λ i h. refl;
         apart = λ i j h m e. omega (arith, h, e);
@@ -47,8 +52,10 @@ module _ {T : Type 0} (IsType : T → Type 0) (cx : Context T) (V : T → Bool �
   single-makes us e =
       let u : MValue = Node 0 (values_of us) in
       let b : builds named SingleCtor u ≡ true = refl in
-      let count : length (values_list (values_of us)) ≡ cx.arity SingleCtor c.type = ap length (values-same us) ∙ e.count in
-      let parts : PartsAre V c.sure (cx.sub SingleCtor c.type) 0 (values_list (values_of us)) = subst (PartsAre V c.sure (cx.sub SingleCtor c.type) 0) (sym (values-same us)) e.values in
+      let count : length (values_list (values_of us)) ≡ cx.arity SingleCtor c.type = ap length (values-same us)
+      ∙ e.count in
+      let parts : PartsAre V c.sure (cx.sub SingleCtor c.type) 0 (values_list (values_of us)) = subst
+      (PartsAre V c.sure (cx.sub SingleCtor c.type) 0) (sym (values-same us)) e.values in
       let w : V c.type c.sure u = (law.parts c.type OneSingle c.sure u is of b (λ h. different h)).1 (count, parts) in
       (u, w, b, subst (HasParts cx V c named SingleCtor u) (values-same us) (single-parts u w b))
 

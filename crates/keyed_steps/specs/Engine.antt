@@ -47,7 +47,13 @@ pub record IsEngine {T : Type 0} (cx : Context T) (V : T → Bool → MValue →
     (Ready : ℕ → List (MColumn T) → List (MRow T) → Type 0) : Type 0 where
   pub leaf : (columns : List (MColumn T)) (r : MRow T) (rows : List (MRow T)) (v : MValue) →
       Good columns (r ∷ rows) → IsTrue (all_wild r) → IsHeld V columns v → IsTrue (places_are v r.caught) →
-      (row_keyed_tries decides columns v r ≡ record { arm = r.arm; guarded = r.guarded; key = row_key decides r; bindings = bindings_in v (row_binds columns r) } ∷ [])
+      (row_keyed_tries decides columns v r ≡ record {
+        arm = r.arm;
+        guarded = r.guarded;
+        key = row_key decides r;
+        bindings = bindings_in
+            v (row_binds columns r);
+      } ∷ [])
       × IsTrue (places_are v (row_binds columns r))
   pub others : (columns : List (MColumn T)) (r : MRow T) (rows : List (MRow T)) → Good columns (r ∷ rows) →
       Good columns rows

@@ -32,10 +32,13 @@ Fewest cs rows i = IsFewest (rust_context program) (RustValue program) cs rows i
 abbrev pub Count : ℕ → MColumn MType → List (MRow MType) → ℕ → Type 0
 Count i c rows n = AreBranches (rust_context program) (RustValue program) i c rows n
 
-pub alone : (c : MColumn MType) (rows : List (MRow MType)) (n : ℕ) → IsTrue (is_asked 0 rows) → Count 0 c rows n → Fewest (c ∷ []) rows 0
-alone c rows n asked b = fewest-of (rust_context program) (RustValue program) (c ∷ []) rows 0 c n asked refl b (λ j d e h. only j d e)
+pub alone : (c : MColumn MType) (rows : List (MRow MType)) (n : ℕ) → IsTrue (is_asked 0 rows) → Count 0 c rows n →
+    Fewest (c ∷ []) rows 0
+alone c rows n asked b =
+    fewest-of (rust_context program) (RustValue program) (c ∷ []) rows 0 c n asked refl b (λ j d e h. only j d e)
   where
-    only : (j : ℕ) (d : MColumn MType) → slice_get (c ∷ []) j ≡ Some d → (j ≡ 0) ⊎ ((m : ℕ) × Count j d rows m × (j < 0 → n < m) × (n ≤ m))
+    only : (j : ℕ) (d : MColumn MType) → slice_get (c ∷ []) j ≡ Some d → (j ≡ 0)
+        ⊎ ((m : ℕ) × Count j d rows m × (j < 0 → n < m) × (n ≤ m))
     only zero d e = inl refl
     only (suc j) d e = cc
 
@@ -56,12 +59,19 @@ only_unseen Later h = cc
 
 pub unseen_tree : IsMatchTree (rust_context program) (RustValue program) no_arm (VoidNode ∷ [])
 unseen_tree =
-    lowered Unseen VoidTree (VoidNode ∷ []) refl (no_value_left (record { place = []; type = empty_enum; sure = false } ∷ []) only_unseen)
+    lowered Unseen VoidTree (VoidNode ∷ []) refl (no_value_left
+    (record { place = []; type = empty_enum; sure = false } ∷ []) only_unseen)
     (record { trees = VoidTree ∷ []; walk = to_void [] (no_tree VoidTree); are = (void_of, tt) })
 
 -- `_ if g => ..` on a marked enum without variants: the tree asks, and then misses
 abbrev any_guarded : MDeMatch MType
-any_guarded = record { type = marked_enum; sure = true; arms = record { pat = de_pat WildCtor marked_enum 1 1 no_de_pats []; guarded = true } ∷ [] }
+any_guarded =
+    record {
+      type = marked_enum;
+      sure = true;
+      arms = record
+          { pat = de_pat WildCtor marked_enum 1 1 no_de_pats []; guarded = true } ∷ [];
+    }
 
 later_seen : Later ≡ Unseen → ⊥
 later_seen e = cc
@@ -69,7 +79,8 @@ later_seen e = cc
 pub marked_tree : IsMatchTree (rust_context program) (RustValue program) any_guarded (AskNode 0 [] 1 ∷ MissNode ∷ [])
 marked_tree =
     lowered Later (AskTree 0 [] MissTree) (AskNode 0 [] 1 ∷ MissNode ∷ []) refl
-    (asks (record { place = []; type = marked_enum; sure = true } ∷ []) _ [] MissTree refl refl (no_row_left _ (λ only. later_seen (only Later refl))))
+    (asks (record { place = []; type = marked_enum; sure = true } ∷ []) _ [] MissTree refl refl
+    (no_row_left _ (λ only. later_seen (only Later refl))))
     (record {
       trees = AskTree 0 [] MissTree ∷ MissTree ∷ [];
       walk = to_ask [] (MissTree ∷ []) 0 [] MissTree (no_tree (AskTree 0 [] MissTree)) (to_miss [] (no_tree MissTree));
@@ -84,7 +95,9 @@ abbrev one_arm : MDePat MType → MDeMatch MType
 one_arm p = record { type = BoolType; sure = true; arms = record { pat = p; guarded = false } ∷ [] }
 
 abbrev either_wild : MDePat MType
-either_wild = de_pat OrCtor BoolType 1 1 (de_pats_of (de_pat WildCtor BoolType 2 1 no_de_pats [] ∷ de_pat WildCtor BoolType 3 5 no_de_pats [] ∷ [])) []
+either_wild =
+    de_pat OrCtor BoolType 1 1 (de_pats_of
+    (de_pat WildCtor BoolType 2 1 no_de_pats [] ∷ de_pat WildCtor BoolType 3 5 no_de_pats [] ∷ [])) []
 
 abbrev wild_rows : List (MRow MType)
 wild_rows = (first_matrix (one_arm either_wild)).rows
@@ -100,8 +113,19 @@ abbrev dropped_wild : List (MRow MType)
 dropped_wild = rows_at default_head [] 0 expanded_wild
 
 -- the first alternative of the first or-pattern comes before the second one
-pub first_alternative : IsBefore (key_of (record { number = 0; alternative = 0 } ∷ [])) (key_of (record { number = 0; alternative = 1 } ∷ []))
-first_alternative = record { at = 0; one = 0; other = 1; first = refl; second = refl; less = omega arith; same = λ o l. absurd (none_below o l) }
+pub first_alternative : IsBefore (key_of (record { number = 0; alternative = 0 } ∷ []))
+    (key_of (record { number = 0; alternative = 1 } ∷ []))
+first_alternative =
+    record {
+      at = 0;
+      one = 0;
+      other = 1;
+      first = refl;
+      second = refl;
+      less = omega arith;
+      same = λ o l. absurd
+          (none_below o l);
+    }
   where
     none_below : (o : ℕ) → o < 0 → ⊥
     none_below o l = omega (arith, l)
@@ -109,15 +133,18 @@ first_alternative = record { at = 0; one = 0; other = 1; first = refl; second = 
 pub wild_tree : IsMatchTree (rust_context program) (RustValue program) (one_arm either_wild) (TakeNode 0 [] ∷ [])
 wild_tree =
     lowered (Flag true) (TakeTree 0 []) (TakeNode 0 [] ∷ []) refl
-    (drops 0 flag_column (flag_column ∷ []) wild_rows expanded_wild dropped_wild (TakeTree 0 []) (alone flag_column wild_rows 0 refl (no_branches refl)) refl
+    (drops 0 flag_column (flag_column ∷ []) wild_rows expanded_wild dropped_wild (TakeTree 0 [])
+    (alone flag_column wild_rows 0 refl (no_branches refl)) refl
     (as_they_are wild_decides expanded_wild ((inr (refl, first_alternative), tt), (tt, tt))) refl
     (as_they_are wild_decides dropped_wild ((inr (refl, first_alternative), tt), (tt, tt)))
     (takes [] _ _ refl refl))
     (record { trees = TakeTree 0 [] ∷ []; walk = to_take [] 0 [] (no_tree (TakeTree 0 [])); are = (take_of 0 [], tt) })
 
 -- a place of flags of which a head has only `true` has two branches, the one and an else
-pub count_two : (i : ℕ) (place : List MStep) (rows : List (MRow MType)) → all_wild_at i (rows_at expand_head place i rows) ≡ false →
-    is_present (ctors_at i (rows_at expand_head place i rows)) (FlagCtor false) ≡ false → IsTrue (is_present (ctors_at i (rows_at expand_head place i rows)) (FlagCtor true)) →
+pub count_two : (i : ℕ) (place : List MStep) (rows : List (MRow MType)) →
+    all_wild_at i (rows_at expand_head place i rows) ≡ false →
+    is_present (ctors_at i (rows_at expand_head place i rows)) (FlagCtor false) ≡ false →
+    IsTrue (is_present (ctors_at i (rows_at expand_head place i rows)) (FlagCtor true)) →
     Count i (record { place = place; type = BoolType; sure = true }) rows 2
 count_two i place rows some absent present =
     as_cases (FlagCtor false ∷ FlagCtor true ∷ []) 2 some refl
@@ -146,19 +173,25 @@ more_than_unseen only = no_unseen (only (Flag true) refl)
     no_unseen e = cc
 
 pub only_true : IsMatchTree (rust_context program) (RustValue program) (one_arm (flag_pat 0 true))
-    (SwitchNode [] (record { case = FlagCase true; next = 1 } ∷ record { case = ElseCase; next = 2 } ∷ []) ∷ TakeNode 0 [] ∷ MissNode ∷ [])
+    (SwitchNode [] (record { case = FlagCase true; next = 1 } ∷ record { case = ElseCase; next = 2 } ∷ []) ∷ TakeNode 0
+    [] ∷ MissNode ∷ [])
 only_true =
     lowered (Flag true) true_tree _ refl
-    (switches 0 flag_column (flag_column ∷ []) true_rows (rows_at expand_head [] 0 true_rows) (FlagCtor false ∷ FlagCtor true ∷ []) _ (alone flag_column true_rows 2 refl (count_two 0 [] true_rows refl refl refl)) refl
+    (switches 0 flag_column (flag_column ∷ []) true_rows (rows_at expand_head [] 0 true_rows)
+    (FlagCtor false ∷ FlagCtor true ∷ []) _ (alone flag_column true_rows 2 refl
+    (count_two 0 [] true_rows refl refl refl)) refl
     (as_they_are _ _ (tt, tt)) refl refl refl
     (no_case 0 _ _ _ _ (FlagCtor false) (FlagCtor true ∷ []) _ (inl refl)
-    (one_case 0 _ _ (rows_at expand_head [] 0 true_rows) (rows_at (specialise_head (FlagCtor true) 0) [] 0 (rows_at expand_head [] 0 true_rows)) _ (FlagCtor true) [] (TakeTree 0 []) _ refl (Flag true, refl, refl)
+    (one_case 0 _ _ (rows_at expand_head [] 0 true_rows) (rows_at (specialise_head (FlagCtor true) 0) [] 0
+    (rows_at expand_head [] 0 true_rows)) _ (FlagCtor true) [] (TakeTree 0 []) _ refl (Flag true, refl, refl)
     (as_they_are _ _ (tt, tt)) (takes [] _ [] refl refl)
-    (with_else 0 _ _ (rows_at expand_head [] 0 true_rows) [] _ (FlagCtor false) MissTree ((0, omega arith, refl), refl) (Flag false, refl, refl)
+    (with_else 0 _ _ (rows_at expand_head [] 0 true_rows) [] _ (FlagCtor false) MissTree ((0, omega arith, refl), refl)
+    (Flag false, refl, refl)
     (as_they_are _ _ tt) (no_row_left [] more_than_unseen)))))
     (record {
       trees = true_tree ∷ TakeTree 0 [] ∷ MissTree ∷ [];
       walk = to_switch [] _ [] _ (no_tree true_tree)
-          (last_first [] _ _ (FlagCase true) (TakeTree 0 []) _ (last_first [] _ _ ElseCase MissTree no_branch (nothing []) (to_miss [] (no_tree MissTree))) (to_take (MissTree ∷ []) 0 [] take_is_no_miss));
+          (last_first [] _ _ (FlagCase true) (TakeTree 0 []) _ (last_first [] _ _ ElseCase MissTree no_branch
+          (nothing []) (to_miss [] (no_tree MissTree))) (to_take (MissTree ∷ []) 0 [] take_is_no_miss));
       are = (switch_of [] _ _ ((refl, refl), ((refl, refl), tt)), (take_of 0 [], (miss_of, tt)));
     })

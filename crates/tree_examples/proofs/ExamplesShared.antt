@@ -14,10 +14,12 @@ abbrev second : MTree
 second = TakeTree 1 []
 
 abbrev inner_x : MTree
-inner_x = SwitchTree (FieldStep 0 0 ∷ []) (more_branches (VariantCase 0) first (more_branches ElseCase second no_branch))
+inner_x =
+    SwitchTree (FieldStep 0 0 ∷ []) (more_branches (VariantCase 0) first (more_branches ElseCase second no_branch))
 
 abbrev inner_y : MTree
-inner_y = SwitchTree (FieldStep 1 0 ∷ []) (more_branches (VariantCase 0) first (more_branches ElseCase second no_branch))
+inner_y =
+    SwitchTree (FieldStep 1 0 ∷ []) (more_branches (VariantCase 0) first (more_branches ElseCase second no_branch))
 
 abbrev whole : MTree
 whole = SwitchTree [] (more_branches (VariantCase 0) inner_x (more_branches (VariantCase 1) inner_y no_branch))
@@ -55,14 +57,19 @@ walk =
     to_switch [] _ [] _ (λ a. a)
     (last_first [] _ _ (VariantCase 0) inner_x _
     (last_first [] _ _ (VariantCase 1) inner_y no_branch (nothing [])
-    (to_switch [] _ _ _ y_new (last_first [] _ _ (VariantCase 0) first _ (last_first [] _ _ ElseCase second no_branch (nothing []) (to_take [] 1 [] (nothing_there second))) (to_take (second ∷ []) 0 [] apart_takes))))
+    (to_switch [] _ _ _ y_new (last_first [] _ _ (VariantCase 0) first _
+    (last_first [] _ _ ElseCase second no_branch (nothing []) (to_take [] 1 [] (nothing_there second)))
+    (to_take (second ∷ []) 0 [] apart_takes))))
     (to_switch (inner_y ∷ first ∷ second ∷ []) _ _ _ x_new
-    (last_first _ _ _ (VariantCase 0) first _ (last_first _ _ _ ElseCase second no_branch (nothing _) (known _ second (inr (inr (inl refl))))) (known _ first (inr (inl refl))))))
+    (last_first _ _ _ (VariantCase 0) first _ (last_first _ _ _ ElseCase second no_branch (nothing _)
+    (known _ second (inr (inr (inl refl))))) (known _ first (inr (inl refl))))))
 
 pub nodes : IsShared whole
     (SwitchNode [] (record { case = VariantCase 0; next = 1 } ∷ record { case = VariantCase 1; next = 2 } ∷ [])
-    ∷ SwitchNode (FieldStep 0 0 ∷ []) (record { case = VariantCase 0; next = 3 } ∷ record { case = ElseCase; next = 4 } ∷ [])
-    ∷ SwitchNode (FieldStep 1 0 ∷ []) (record { case = VariantCase 0; next = 3 } ∷ record { case = ElseCase; next = 4 } ∷ [])
+    ∷ SwitchNode (FieldStep 0 0 ∷ [])
+    (record { case = VariantCase 0; next = 3 } ∷ record { case = ElseCase; next = 4 } ∷ [])
+    ∷ SwitchNode (FieldStep 1 0 ∷ [])
+    (record { case = VariantCase 0; next = 3 } ∷ record { case = ElseCase; next = 4 } ∷ [])
     ∷ TakeNode 0 [] ∷ TakeNode 1 [] ∷ [])
 nodes = record {
   trees = whole ∷ inner_x ∷ inner_y ∷ first ∷ second ∷ [];

@@ -45,5 +45,6 @@ abbrev pub flag_pat : ℕ → Bool → MDePat MType
 flag_pat uid b = de_pat (FlagCtor b) BoolType uid uid no_de_pats []
 
 -- rows that stand in order already
-pub as_they_are : {T : Type 0} (decides : ℕ → Decision) (rows : List (MRow T)) → Ordered (RowFirst decides) rows → AreInOrder decides rows rows
+pub as_they_are : {T : Type 0} (decides : ℕ → Decision) (rows : List (MRow T)) → Ordered (RowFirst decides) rows →
+    AreInOrder decides rows rows
 as_they_are decides rows o = record { same = record { forth = λ x a. a; back = λ x a. a }; ordered = o }

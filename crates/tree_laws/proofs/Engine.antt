@@ -19,14 +19,18 @@ use Rattle.tree_laws.proofs.PiecesFit.{IsColumnCtor, column-ctors, column-heads,
 use Rattle.tree_laws.proofs.PiecesCut.{IsHit, hit-one, value-seen, case-is}
 use Rattle.tree_laws.proofs.PiecesDistinct.{pieces-distinct}
 
-module _ {T : Type 0} (IsType : T → Type 0) (cx : Context T) (V : T → Bool → MValue → Type 0) (law : PartsLaw IsType V cx) (values : ValuesLaw IsType V cx) (decides : ℕ → Decision) where
+module _ {T : Type 0} (IsType : T → Type 0) (cx : Context T) (V : T → Bool → MValue → Type 0)
+    (law : PartsLaw IsType V cx) (values : ValuesLaw IsType V cx) (decides : ℕ → Decision) where
   pub pieces-cut : PiecesCut IsType cx V decides
   pieces-cut i c columns rows pieces ready there are some = record {
-    distinct = pieces-distinct (cx.set_of c.type) (ctors_at i rows) pieces (values.ascend c.type type) (column-heads IsType cx V values decides i c columns rows ready there) are;
+    distinct =
+        pieces-distinct (cx.set_of c.type) (ctors_at i rows) pieces (values.ascend c.type type)
+        (column-heads IsType cx V values decides i c columns rows ready there) are;
     one = λ u w. one u w;
     case = λ p u a present s.
         (let k = present-some (ctors_at i rows) p present in
-        let f : IsFit cx i c rows pieces p = fit-here IsType cx V values decides i c columns rows ready there pieces p are a in
+        let f : IsFit cx i c rows pieces p = fit-here IsType cx V values decides i c columns rows ready there pieces p
+        are a in
         case-is (cx.set_of c.type) (named_in pieces) p k.0 u f.belong (ctor k.0 k.1) k.2 s);
   }
     where
@@ -34,15 +38,20 @@ module _ {T : Type 0} (IsType : T → Type 0) (cx : Context T) (V : T → Bool �
       type = type-of IsType cx V values decides i c columns rows ready there
 
       ctor : (k : MCtor) → Among k (ctors_at i rows) → IsColumnCtor (cx.set_of c.type) k
-      ctor k a = among-every (IsColumnCtor (cx.set_of c.type)) (ctors_at i rows) k (column-ctors IsType cx V values decides i c columns rows ready there) a
+      ctor k a =
+          among-every (IsColumnCtor (cx.set_of c.type)) (ctors_at i rows) k
+          (column-ctors IsType cx V values decides i c columns rows ready there) a
 
-      one : (u : MValue) → V c.type c.sure u → (p : MCtor) × Among p pieces × (builds (named_in pieces) p u ≡ true) × ((q : MCtor) → Among q pieces → builds (named_in pieces) q u ≡ true → q ≡ p)
+      one : (u : MValue) → V c.type c.sure u → (p : MCtor) × Among p pieces × (builds (named_in pieces) p u ≡ true)
+          × ((q : MCtor) → Among q pieces → builds (named_in pieces) q u ≡ true → q ≡ p)
       one u w =
           let k = column-some i rows some in
           let g : IsColumnCtor (cx.set_of c.type) k.0 = ctor k.0 k.1 in
           let v : ValueIs (cx.set_of c.type) c.sure u = values.each c.type c.sure u type w in
-          let h : IsHit (named_in pieces) pieces u = hit-one (named_in pieces) pieces u (once_of (cx.set_of c.type) c.sure (ctors_at i rows) pieces (values.ascend c.type type) are u v
-          (λ e. value-seen (cx.set_of c.type) c.sure k.0 u g.belong v (inl e)) (λ e. value-seen (cx.set_of c.type) c.sure k.0 u g.belong v (inr e))) in
+          let h : IsHit (named_in pieces) pieces u = hit-one (named_in pieces) pieces u
+          (once_of (cx.set_of c.type) c.sure (ctors_at i rows) pieces (values.ascend c.type type) are u v
+          (λ e. value-seen (cx.set_of c.type) c.sure k.0 u g.belong v (inl e))
+          (λ e. value-seen (cx.set_of c.type) c.sure k.0 u g.belong v (inr e))) in
           (h.by, h.among, h.built, h.only)
 
   -- the record of the tree theorem

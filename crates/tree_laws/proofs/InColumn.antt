@@ -40,7 +40,8 @@ unless-is (TextCtor k) w = refl
 unless-is (RowCtor k) w = refl
 
 module _ {T : Type 0} (i : ℕ) where
-  on-drop : (Q : MCtor → Type 0) (j : ℕ) (hs : List (Head T)) → GoodAt (λ h. OnCtor Q (first_ctor (h ∷ []))) j hs → OnCtor Q (first_ctor (drop j hs))
+  on-drop : (Q : MCtor → Type 0) (j : ℕ) (hs : List (Head T)) → GoodAt (λ h. OnCtor Q (first_ctor (h ∷ []))) j hs →
+      OnCtor Q (first_ctor (drop j hs))
   on-drop Q zero [] g = tt
   on-drop Q (suc j) [] g = tt
   on-drop Q zero (h ∷ hs) g = go h g
@@ -51,7 +52,8 @@ module _ {T : Type 0} (i : ℕ) where
   on-drop Q (suc j) (h ∷ hs) g = on-drop Q j hs g
 
   -- what holds of each head's constructor holds of the column's
-  pub column-every : (Q : MCtor → Type 0) (rows : List (MRow T)) → Every (λ r. GoodAt (λ h. OnCtor Q (first_ctor (h ∷ []))) i r.heads) rows → Every Q (ctors_at i rows)
+  pub column-every : (Q : MCtor → Type 0) (rows : List (MRow T)) →
+      Every (λ r. GoodAt (λ h. OnCtor Q (first_ctor (h ∷ []))) i r.heads) rows → Every Q (ctors_at i rows)
   column-every Q [] g = tt
   column-every Q (r ∷ rows) g = add (first_ctor (drop i r.heads)) (on-drop Q i r.heads g.0) (column-every Q rows g.1)
     where
@@ -60,17 +62,23 @@ module _ {T : Type 0} (i : ℕ) where
       add (Some k) a h = (a, h)
 
   -- a head's constructor is one of the column's
-  pub column-among : (rows : List (MRow T)) (r : MRow T) (k : MCtor) (t : T) (uid at : ℕ) (subs : MDePats T) (binds : List MBound) → Among r rows → slice_get r.heads i ≡ Some (Some (de_pat k t uid at subs binds)) → is_wild_ctor k ≡ false → Among k (ctors_at i rows)
+  pub column-among : (rows : List (MRow T)) (r : MRow T) (k : MCtor) (t : T) (uid at : ℕ) (subs : MDePats T)
+      (binds : List MBound) → Among r rows → slice_get r.heads i ≡ Some (Some (de_pat k t uid at subs binds)) →
+      is_wild_ctor k ≡ false → Among k (ctors_at i rows)
   column-among [] r k t uid at subs binds a e w = elim a [ ]
   column-among (x ∷ rows) r k t uid at subs binds (inl q) e w =
-      let here : first_ctor (drop i x.heads) ≡ Some k = first i x.heads (subst (λ (y : MRow T). slice_get y.heads i ≡ Some (Some (de_pat k t uid at subs binds))) q e) in
+      let here : first_ctor (drop i x.heads) ≡ Some k = first i x.heads
+      (subst (λ (y : MRow T). slice_get y.heads i ≡ Some (Some (de_pat k t uid at subs binds))) q e) in
       subst (λ o. Among k (cons_option o (ctors_at i rows))) (sym here) (inl refl)
     where
-      first : (j : ℕ) (hs : List (Head T)) → slice_get hs j ≡ Some (Some (de_pat k t uid at subs binds)) → first_ctor (drop j hs) ≡ Some k
+      first : (j : ℕ) (hs : List (Head T)) → slice_get hs j ≡ Some (Some (de_pat k t uid at subs binds)) →
+          first_ctor (drop j hs) ≡ Some k
       first j [] h = cc
-      first zero (y ∷ hs) h = let same : y ≡ Some (de_pat k t uid at subs binds) = cc in ap (λ z. first_ctor (z ∷ hs)) same ∙ unless-is k w
+      first zero (y ∷ hs) h =
+          let same : y ≡ Some (de_pat k t uid at subs binds) = cc in ap (λ z. first_ctor (z ∷ hs)) same ∙ unless-is k w
       first (suc j) (y ∷ hs) h = first j hs h
-  column-among (x ∷ rows) r k t uid at subs binds (inr b) e w = add (first_ctor (drop i x.heads)) (column-among rows r k t uid at subs binds b e w)
+  column-among (x ∷ rows) r k t uid at subs binds (inr b) e w =
+      add (first_ctor (drop i x.heads)) (column-among rows r k t uid at subs binds b e w)
     where
       add : (o : Option MCtor) → Among k (ctors_at i rows) → Among k (cons_option o (ctors_at i rows))
       add None h = h
@@ -81,7 +89,9 @@ module _ {T : Type 0} (i : ℕ) where
   column-some [] h = untrue (sym h)
   column-some (r ∷ rows) h = go (drop i r.heads) h (λ k. column-some rows k)
     where
-      go : (hs : List (Head T)) → (starts_wild hs && all_wild_at i rows) ≡ false → (all_wild_at i rows ≡ false → (k : MCtor) × Among k (ctors_at i rows)) → (k : MCtor) × Among k (cons_option (first_ctor hs) (ctors_at i rows))
+      go : (hs : List (Head T)) → (starts_wild hs && all_wild_at i rows) ≡ false →
+          (all_wild_at i rows ≡ false → (k : MCtor) × Among k (ctors_at i rows)) → (k : MCtor)
+          × Among k (cons_option (first_ctor hs) (ctors_at i rows))
       go [] h f = f h
       go (None ∷ hs) h f = f h
       go (Some (de_pat k t uid at subs binds) ∷ hs) h f = inner (is_wild_ctor k) refl
@@ -90,15 +100,20 @@ module _ {T : Type 0} (i : ℕ) where
           none WildCtor w = refl
           none _ w = untrue w
 
-          inner : (b : Bool) → is_wild_ctor k ≡ b → (d : MCtor) × Among d (cons_option (ctor_unless_wild k) (ctors_at i rows))
-          inner true w = let s = f (ap (λ b. b && all_wild_at i rows) (sym w) ∙ h) in (s.0, subst (λ o. Among s.0 (cons_option o (ctors_at i rows))) (sym (none k w)) s.1)
+          inner : (b : Bool) → is_wild_ctor k ≡ b → (d : MCtor) × Among d (cons_option (ctor_unless_wild k)
+              (ctors_at i rows))
+          inner true w =
+              let s = f (ap (λ b. b && all_wild_at i rows) (sym w) ∙ h) in
+              (s.0, subst (λ o. Among s.0 (cons_option o (ctors_at i rows))) (sym (none k w)) s.1)
           inner false w = (k, subst (λ o. Among k (cons_option o (ctors_at i rows))) (sym (unless-is k w)) (inl refl))
 
 -- a head of the column that has the piece
-pub present-some : (heads : List MCtor) (p : MCtor) → is_present heads p ≡ true → (k : MCtor) × Among k heads × (has_piece k p ≡ true)
+pub present-some : (heads : List MCtor) (p : MCtor) → is_present heads p ≡ true → (k : MCtor) × Among k heads
+    × (has_piece k p ≡ true)
 present-some [] p h = untrue h
 present-some (x ∷ heads) p h = go (has_piece x p) refl (present-some heads p)
   where
-    go : (b : Bool) → has_piece x p ≡ b → (is_present heads p ≡ true → (k : MCtor) × Among k heads × (has_piece k p ≡ true)) → (k : MCtor) × Among k (x ∷ heads) × (has_piece k p ≡ true)
+    go : (b : Bool) → has_piece x p ≡ b → (is_present heads p ≡ true → (k : MCtor) × Among k heads ×
+        (has_piece k p ≡ true)) → (k : MCtor) × Among k (x ∷ heads) × (has_piece k p ≡ true)
     go true e f = (x, inl refl, e)
     go false e f = let s = f (ap (λ b. b || is_present heads p) (sym e) ∙ h) in (s.0, inr s.1, s.2)

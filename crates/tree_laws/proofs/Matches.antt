@@ -36,14 +36,18 @@ pub record IsGoodArm {T : Type 0} (cx : Context T) (t : T) (a : MDeArm T) : Type
   pub names : names_differ a.pat ≡ true
   pub made : IsMadePat a.pat
 
-module _ {T : Type 0} (IsType : T → Type 0) (cx : Context T) (V : T → Bool → MValue → Type 0) (law : PartsLaw IsType V cx) (values : ValuesLaw IsType V cx) (decides : ℕ → Decision) where
-  first-good : (t : T) (sure : Bool) (j : ℕ) (arms : List (MDeArm T)) → Every (IsGoodArm cx t) arms → AreArmsNumbered decides arms →
+module _ {T : Type 0} (IsType : T → Type 0) (cx : Context T) (V : T → Bool → MValue → Type 0)
+    (law : PartsLaw IsType V cx) (values : ValuesLaw IsType V cx) (decides : ℕ → Decision) where
+  first-good : (t : T) (sure : Bool) (j : ℕ) (arms : List (MDeArm T)) → Every (IsGoodArm cx t) arms →
+      AreArmsNumbered decides arms →
       Every (IsGoodRow cx decides (record { place = []; type = t; sure = sure } ∷ [])) (first_rows j arms)
   first-good t sure j [] g n = tt
   first-good t sure j (a ∷ arms) g n = (
     record {
       typed = (g.0.typed, tt);
-      names = fine-from [] (Some a.pat ∷ []) (record { distinct = refl; each = (g.0.names, tt); beside = λ x p q. p; apart = (λ x p q. q, tt) });
+      names =
+          fine-from [] (Some a.pat ∷ [])
+          (record { distinct = refl; each = (g.0.names, tt); beside = λ x p q. p; apart = (λ x p q. q, tt) });
       free = (n.0.0, omega arith, n.0.1, (λ o p q. refl), tt);
       made = (g.0.made, tt);
     },
@@ -51,39 +55,56 @@ module _ {T : Type 0} (IsType : T → Type 0) (cx : Context T) (V : T → Bool �
   )
 
   -- the tree theorem without an engine
-  pub typed-match : (Chooses : List (MColumn T) → List (MRow T) → ℕ → Type 0) (BareOnly : Type 0) (m : MDeMatch T) (tree : MTree) (nodes : List MNode) (v : MValue) → IsType m.type → Every (IsGoodArm cx m.type) m.arms → AreArmsNumbered decides m.arms → InMatchDomain V m v →
-      Lowers cx V decides Chooses BareOnly (first_matrix m).columns (first_matrix m).rows tree → IsShared tree nodes → AreGoodNodes (InMatchDomain V m) (λ u answers. select (match_arms m) u answers) nodes
+  pub typed-match : (Chooses : List (MColumn T) → List (MRow T) → ℕ → Type 0) (BareOnly : Type 0) (m : MDeMatch T)
+      (tree : MTree) (nodes : List MNode) (v : MValue) → IsType m.type → Every (IsGoodArm cx m.type) m.arms →
+      AreArmsNumbered decides m.arms → InMatchDomain V m v →
+      Lowers cx V decides Chooses BareOnly (first_matrix m).columns (first_matrix m).rows tree → IsShared tree nodes →
+      AreGoodNodes (InMatchDomain V m) (λ u answers. select (match_arms m) u answers) nodes
   typed-match Chooses BareOnly m tree nodes v type arms numbered inside lowers shared =
-      good-match cx V decides (IsGood IsType cx decides) (IsReady IsType cx decides) (context-engine IsType cx V law values decides) Chooses BareOnly m tree nodes v inside numbered
-      (record { columns_are = (record { type = type; straight = tt }, tt); rows_are = first-good m.type m.sure 0 m.arms arms numbered }) lowers shared
+      good-match cx V decides (IsGood IsType cx decides) (IsReady IsType cx decides)
+      (context-engine IsType cx V law values decides) Chooses BareOnly m tree nodes v inside numbered
+      (record {
+        columns_are = (record { type = type; straight = tt }, tt);
+        rows_are = first-good m.type m.sure 0 m.arms
+            arms numbered;
+      }) lowers shared
 
   -- the arms of a well-typed match are good
   arms-good : (m : MDeMatch T) → IsWellTyped IsType cx m → AreArmsMade m.arms → Every (IsGoodArm cx m.type) m.arms
   arms-good m w made = go m.arms (λ a i. i) made
     where
-      go : (arms : List (MDeArm T)) → ((a : MDeArm T) → Among a arms → Among a m.arms) → AreArmsMade arms → Every (IsGoodArm cx m.type) arms
+      go : (arms : List (MDeArm T)) → ((a : MDeArm T) → Among a arms → Among a m.arms) → AreArmsMade arms →
+          Every (IsGoodArm cx m.type) arms
       go [] inside h = tt
       go (a ∷ arms) inside h =
           let c : Contains m.arms a = among-contains m.arms a (inside a (inl refl)) in
           (record { typed = w.typed a c; names = w.names a c; made = h.0 }, go arms (λ b i. inside b (inr i)) h.1)
 
 -- the lone node of an empty domain is good
-void-good : (Domain : MValue → Type 0) (select : MValue → List Bool → Selected) → ((v : MValue) → ¬ Domain v) → AreGoodNodes Domain select (VoidNode ∷ [])
+void-good : (Domain : MValue → Type 0) (select : MValue → List Bool → Selected) → ((v : MValue) → ¬ Domain v) →
+    AreGoodNodes Domain select (VoidNode ∷ [])
 void-good Domain select none = record {
   means = λ v d answers. absurd (none v d);
   defined = λ v d. absurd (none v d);
   once = λ v d answers a b c p x y z e f. none v d;
-  live = record { reached = λ n less. inr (refl, none); taken = λ n i place branches e less. absurd (no-switch n place branches e) };
+  live =
+      record {
+        reached = λ n less. inr (refl, none);
+        taken = λ n i place branches e less. absurd
+            (no-switch n place branches e);
+      };
   forward = λ n k x e c. absurd (no-successor n k x e c);
   apart = λ i j x e f. lone i x e ∙ sym (lone j x f);
 }
   where
-    no-switch : (n : ℕ) (place : List MStep) (branches : List MBranch) → slice_get (VoidNode ∷ []) n ≡ Some (SwitchNode place branches) → ⊥
+    no-switch : (n : ℕ) (place : List MStep) (branches : List MBranch) →
+        slice_get (VoidNode ∷ []) n ≡ Some (SwitchNode place branches) → ⊥
     no-switch zero place branches e = cc
     no-switch (suc n) place branches e = cc
 
     no-successor : (n k : ℕ) (x : MNode) → slice_get (VoidNode ∷ []) n ≡ Some x → Contains (successors x) k → ⊥
-    no-successor zero k x e c = (let same : VoidNode ≡ x = cc in contains-among [] k (subst (λ y. Contains (successors y) k) (sym same) c))
+    no-successor zero k x e c =
+        (let same : VoidNode ≡ x = cc in contains-among [] k (subst (λ y. Contains (successors y) k) (sym same) c))
     no-successor (suc n) k x e c = cc
 
     lone : (n : ℕ) (x : MNode) → slice_get (VoidNode ∷ []) n ≡ Some x → n ≡ 0
@@ -92,11 +113,15 @@ void-good Domain select none = record {
 
 module _ {T : Type 0} (IsType : T → Type 0) (cx : Context T) (V : T → Bool → MValue → Type 0) where
   -- the nodes of a tree of a well-typed match are good, whatever places are looked at next
-  pub good-tree : PartsLaw IsType V cx → ValuesLaw IsType V cx → (Chooses : List (MColumn T) → List (MRow T) → ℕ → Type 0) (m : MDeMatch T) (nodes : List MNode) →
-      IsWellTyped IsType cx m → AreArmsMade m.arms → AreNodesOf cx V Chooses m nodes → AreGoodNodes (InMatchDomain V m) (λ u answers. select (match_arms m) u answers) nodes
-  good-tree law values Chooses m _ w made (nothing_to_lower none) = void-good (InMatchDomain V m) (λ u answers. select (match_arms m) u answers) none
+  pub good-tree : PartsLaw IsType V cx → ValuesLaw IsType V cx →
+      (Chooses : List (MColumn T) → List (MRow T) → ℕ → Type 0) (m : MDeMatch T) (nodes : List MNode) →
+      IsWellTyped IsType cx m → AreArmsMade m.arms → AreNodesOf cx V Chooses m nodes →
+      AreGoodNodes (InMatchDomain V m) (λ u answers. select (match_arms m) u answers) nodes
+  good-tree law values Chooses m _ w made (nothing_to_lower none) =
+      void-good (InMatchDomain V m) (λ u answers. select (match_arms m) u answers) none
   good-tree law values Chooses m _ w made (lowered v tree nodes inside lowers shared) =
-      typed-match IsType cx V law values (match_decisions m) Chooses ((u : MValue) → InMatchDomain V m u → u ≡ Unseen) m tree nodes v w.type
+      typed-match IsType cx V law values (match_decisions m) Chooses
+      ((u : MValue) → InMatchDomain V m u → u ≡ Unseen) m tree nodes v w.type
       (arms-good IsType cx V law values (match_decisions m) m w made) (arms-numbered m w.uids) inside lowers shared
 
   -- a match has one tree in which a place with the fewest branches is looked at next
@@ -105,19 +130,28 @@ module _ {T : Type 0} (IsType : T → Type 0) (cx : Context T) (V : T → Bool �
   one-match-tree m _ _ (nothing_to_lower none) (lowered v t ms h l s) = absurd (none v h)
   one-match-tree m _ _ (lowered v t ns h l s) (nothing_to_lower none) = absurd (none v h)
   one-match-tree m _ _ (lowered v t ns h l s) (lowered u r ms k b q) =
-      let same : r ≡ t = one-fewest-tree cx V (match_decisions m) ((u : MValue) → InMatchDomain V m u → u ≡ Unseen) (first_matrix m).columns (first_matrix m).rows r t b l in
+      let same : r ≡ t = one-fewest-tree cx V (match_decisions m) ((u : MValue) → InMatchDomain V m u → u ≡ Unseen)
+      (first_matrix m).columns (first_matrix m).rows r t b l in
       one-shared t ns ms s (subst (λ x. IsShared x ms) same q)
 
   -- its places and cases are of the match's type
-  pub tree-of-type : PartsLaw IsType V cx → ValuesLaw IsType V cx → (Chooses : List (MColumn T) → List (MRow T) → ℕ → Type 0) (m : MDeMatch T) (nodes : List MNode) →
+  pub tree-of-type : PartsLaw IsType V cx → ValuesLaw IsType V cx →
+      (Chooses : List (MColumn T) → List (MRow T) → ℕ → Type 0) (m : MDeMatch T) (nodes : List MNode) →
       IsWellTyped IsType cx m → AreArmsMade m.arms → AreNodesOf cx V Chooses m nodes → tree_is_of cx m.type nodes ≡ true
   tree-of-type law values Chooses m _ w made (nothing_to_lower none) = refl
   tree-of-type law values Chooses m _ w made (lowered v tree nodes inside lowers shared) =
       let arms : Every (IsGoodArm cx m.type) m.arms = arms-good IsType cx V law values (match_decisions m) m w made in
-      let good : IsGood IsType cx (match_decisions m) (first_matrix m).columns (first_matrix m).rows = record { columns_are = (record { type = w.type; straight = tt }, tt); rows_are = first-good IsType cx V law values (match_decisions m) m.type m.sure 0 m.arms arms (arms-numbered m w.uids) } in
+      let good : IsGood IsType cx (match_decisions m) (first_matrix m).columns (first_matrix m).rows = record {
+        columns_are = (record { type = w.type; straight = tt }, tt);
+        rows_are = first-good IsType cx V law values
+            (match_decisions m) m.type m.sure 0 m.arms arms (arms-numbered m w.uids);
+      } in
       shared-of cx m.type tree nodes
-      (lowered-of IsType cx V law values (match_decisions m) m.type Chooses ((u : MValue) → InMatchDomain V m u → u ≡ Unseen) (first_matrix m).columns (first_matrix m).rows tree lowers good (refl, tt) (nothing-caught 0 m.arms)) shared
+      (lowered-of IsType cx V law values (match_decisions m) m.type Chooses
+      ((u : MValue) → InMatchDomain V m u → u ≡ Unseen) (first_matrix m).columns (first_matrix m).rows tree lowers good
+      (refl, tt) (nothing-caught 0 m.arms)) shared
     where
-      nothing-caught : (j : ℕ) (arms : List (MDeArm T)) → Every (λ (r : MRow T). list_all (λ b. place_is_of cx m.type b.place) r.caught ≡ true) (first_rows j arms)
+      nothing-caught : (j : ℕ) (arms : List (MDeArm T)) → Every (λ (r : MRow T). list_all
+          (λ b. place_is_of cx m.type b.place) r.caught ≡ true) (first_rows j arms)
       nothing-caught j [] = tt
       nothing-caught j (a ∷ arms) = (refl, nothing-caught (suc j) arms)

@@ -23,7 +23,8 @@ asked-open (suc i) (h ∷ hs) e = go (is_wild h) (list_all is_wild hs) (asked-op
     go false b h = refl
 
 module _ {T : Type 0} (cx : Context T) (V : T → Bool → MValue → Type 0) where
-  pub fewest-open : (cs : List (MColumn T)) (r : MRow T) (rows : List (MRow T)) (i : ℕ) → IsFewest cx V cs (r ∷ rows) i → all_wild r ≡ false
+  pub fewest-open : (cs : List (MColumn T)) (r : MRow T) (rows : List (MRow T)) (i : ℕ) →
+      IsFewest cx V cs (r ∷ rows) i → all_wild r ≡ false
   fewest-open cs r rows i f = asked-open i r.heads (go (starts_wild (drop i r.heads)) f.asked)
     where
       go : (b : Bool) → IsTrue (elim b [ true ↦ false | false ↦ true ]) → b ≡ false
@@ -36,7 +37,8 @@ module _ {T : Type 0} (cx : Context T) (V : T → Bool → MValue → Type 0) wh
       no : IsTrue false → ⊥
       no h = cc
 
-  pub fewest-one : (cs : List (MColumn T)) (rows : List (MRow T)) (i j : ℕ) → IsFewest cx V cs rows i → IsFewest cx V cs rows j → i ≡ j
+  pub fewest-one : (cs : List (MColumn T)) (rows : List (MRow T)) (i j : ℕ) → IsFewest cx V cs rows i →
+      IsFewest cx V cs rows j → i ≡ j
   fewest-one cs rows i j f g =
       let a = f.fewest j g.column g.count g.there g.asked g.branches in
       let b = g.fewest i f.column f.count f.there f.asked f.branches in
@@ -51,6 +53,8 @@ module _ {T : Type 0} (cx : Context T) (V : T → Bool → MValue → Type 0) wh
       ]
 
   -- rows have one tree, the place with the fewest branches being looked at first
-  pub one-fewest-tree : (decides : ℕ → Decision) (BareOnly : Type 0) (cs : List (MColumn T)) (rows : List (MRow T)) (s t : MTree) →
-      Lowers cx V decides (IsFewest cx V) BareOnly cs rows s → Lowers cx V decides (IsFewest cx V) BareOnly cs rows t → s ≡ t
+  pub one-fewest-tree : (decides : ℕ → Decision) (BareOnly : Type 0) (cs : List (MColumn T)) (rows : List (MRow T))
+      (s t : MTree) →
+      Lowers cx V decides (IsFewest cx V) BareOnly cs rows s → Lowers cx V decides (IsFewest cx V) BareOnly cs rows t →
+      s ≡ t
   one-fewest-tree decides BareOnly = one-tree cx V decides (IsFewest cx V) BareOnly fewest-one fewest-open fewest-some

@@ -12,7 +12,8 @@ use Rattle.constructor_sets.specs.Columns.{one, hits}
 use Rattle.tree_laws.proofs.PiecesFit.{IsColumnCtor}
 
 -- who builds a value has a hit
-pub hit-some : (named : List (List ℕ)) (pieces : List MCtor) (v : MValue) (q : MCtor) → Among q pieces → builds named q v ≡ true → hits named pieces v ≡ 0 → ⊥
+pub hit-some : (named : List (List ℕ)) (pieces : List MCtor) (v : MValue) (q : MCtor) → Among q pieces →
+    builds named q v ≡ true → hits named pieces v ≡ 0 → ⊥
 hit-some named [] v q a b h = a
 hit-some named (p ∷ pieces) v q (inl e) b h =
     let k : one (builds named p v) ≡ 1 = ap one (subst (λ x. builds named x v ≡ true) e b) in
@@ -26,19 +27,33 @@ pub record IsHit (named : List (List ℕ)) (pieces : List MCtor) (v : MValue) : 
   pub built : builds named by v ≡ true
   pub only : (q : MCtor) → Among q pieces → builds named q v ≡ true → q ≡ by
 
-pub hit-one : (named : List (List ℕ)) (pieces : List MCtor) (v : MValue) → hits named pieces v ≡ 1 → IsHit named pieces v
+pub hit-one : (named : List (List ℕ)) (pieces : List MCtor) (v : MValue) → hits named pieces v ≡ 1 →
+    IsHit named pieces v
 hit-one named [] v h = absurd (omega (arith, h))
 hit-one named (p ∷ pieces) v h = go (builds named p v) refl (λ k. hit-one named pieces v k)
   where
-    go : (b : Bool) → builds named p v ≡ b → (hits named pieces v ≡ 1 → IsHit named pieces v) → IsHit named (p ∷ pieces) v
+    go : (b : Bool) → builds named p v ≡ b → (hits named pieces v ≡ 1 → IsHit named pieces v) →
+        IsHit named (p ∷ pieces) v
     go true e f =
         let k : one (builds named p v) ≡ 1 = ap one e in
         let none : hits named pieces v ≡ 0 = omega (arith, h, k) in
-        record { by = p; among = inl refl; built = e; only = λ q a b. elim a [ inl s ↦ s | inr c ↦ absurd (hit-some named pieces v q c b none) ] }
+        record {
+          by = p;
+          among = inl refl;
+          built = e;
+          only = λ q a b. elim a
+              [ inl s ↦ s | inr c ↦ absurd (hit-some named pieces v q c b none) ];
+        }
     go false e f =
         let k : one (builds named p v) ≡ 0 = ap one e in
         let r : IsHit named pieces v = f (omega (arith, h, k)) in
-        record { by = r.by; among = inr r.among; built = r.built; only = λ q a b. elim a [ inl s ↦ untrue (sym e ∙ subst (λ x. builds named x v ≡ true) s b) | inr c ↦ r.only q c b ] }
+        record {
+          by = r.by;
+          among = inr r.among;
+          built = r.built;
+          only = λ q a b. elim a
+              [ inl s ↦ untrue (sym e ∙ subst (λ x. builds named x v ≡ true) s b) | inr c ↦ r.only q c b ];
+        }
 
 -- a value of a type with a constructor is seen
 pub seen : (e : Elementary) (v : MValue) → builds_one e v ≡ true → (v ≡ Unseen) ⊎ (v ≡ Thing) → ⊥
@@ -65,7 +80,8 @@ seen e v b (inr q) = none e (subst (λ x. builds_one e x ≡ true) q b)
     none (OneText k) b = cc
     none (OneLength k) b = cc
 
-pub value-seen : (set : MSet) (sure : Bool) (k : MCtor) (v : MValue) → belongs set k ≡ true → ValueIs set sure v → (v ≡ Unseen) ⊎ (v ≡ Thing) → ⊥
+pub value-seen : (set : MSet) (sure : Bool) (k : MCtor) (v : MValue) → belongs set k ≡ true → ValueIs set sure v →
+    (v ≡ Unseen) ⊎ (v ≡ Thing) → ⊥
 value-seen OpaqueSet sure k v b w = untrue b
 value-seen NothingSet sure k v b w = untrue b
 value-seen SingleSet sure k v b w = seen w.by v w.build
@@ -99,7 +115,8 @@ named-same named (RowCtor j) (Row k) n = refl
 named-same named (RowCtor j) _ n = refl
 
 -- a piece that a pattern's constructor has is one that patterns write
-unwritten : (set : MSet) (k p : MCtor) → IsColumnCtor set k → has_piece k p ≡ true → (p ≡ LaterCtor) ⊎ (p ≡ OtherTextCtor) → ⊥
+unwritten : (set : MSet) (k p : MCtor) → IsColumnCtor set k → has_piece k p ≡ true → (p ≡ LaterCtor)
+    ⊎ (p ≡ OtherTextCtor) → ⊥
 unwritten set k p g h (inl e) = go k g.belong g.written (subst (λ x. has_piece k x ≡ true) e h)
   where
     wild : (set : MSet) → belongs set WildCtor ≡ true → ⊥
@@ -173,7 +190,9 @@ switch-none set p b (inr e) = no set (subst (λ x. belongs set x ≡ true) e b)
     no (RowSet l) b = cc
 
 -- the case of a present piece
-pub case-is : (set : MSet) (named : List (List ℕ)) (p k : MCtor) (u : MValue) → belongs set p ≡ true → IsColumnCtor set k → has_piece k p ≡ true → is_switchless set ≡ false → (case_has (case_of p) u ≡ builds named p u) × (is_else (case_of p) ≡ false)
+pub case-is : (set : MSet) (named : List (List ℕ)) (p k : MCtor) (u : MValue) → belongs set p ≡ true →
+    IsColumnCtor set k → has_piece k p ≡ true → is_switchless set ≡ false →
+    (case_has (case_of p) u ≡ builds named p u) × (is_else (case_of p) ≡ false)
 case-is set named SingleCtor k u b g h s = untrue (sym s ∙ switch-single set b)
 case-is set named PointCtor k u b g h s = untrue (sym s ∙ switch-point set b)
 case-is set named LaterCtor k u b g h s = absurd (unwritten set k LaterCtor g h (inl refl))
@@ -185,4 +204,5 @@ case-is set named (FlagCtor j) k u b g h s = (named-same named (FlagCtor j) u (�
 case-is set named (NumbersCtor j) k u b g h s = (named-same named (NumbersCtor j) u (λ e. cc), refl)
 case-is set named (TextCtor j) k u b g h s = (named-same named (TextCtor j) u (λ e. cc), refl)
 case-is set named (RowCtor (FixedShape n)) k u b g h s = (named-same named (RowCtor (FixedShape n)) u (λ e. cc), refl)
-case-is set named (RowCtor (LongerShape f r)) k u b g h s = (named-same named (RowCtor (LongerShape f r)) u (λ e. cc), refl)
+case-is set named (RowCtor (LongerShape f r)) k u b g h s =
+    (named-same named (RowCtor (LongerShape f r)) u (λ e. cc), refl)

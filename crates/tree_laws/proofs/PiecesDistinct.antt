@@ -66,7 +66,8 @@ clash : {A : Type 0} (set : MSet) (k : ℕ) → is_of_set set OneSingle ≡ true
 clash SingleSet k a b = untrue b
 clash _ k a b = untrue a
 
-by-only : (set : MSet) (e f : Elementary) → is_of_set set e ≡ true → is_of_set set f ≡ true → builds_one f (value_by e) ≡ true → f ≡ e
+by-only : (set : MSet) (e f : Elementary) → is_of_set set e ≡ true → is_of_set set f ≡ true →
+    builds_one f (value_by e) ≡ true → f ≡ e
 unfolding value_by
 by-only set OneSingle OneSingle a b h = refl
 by-only set OneSingle (OneVariant k) a b h = clash set k a b
@@ -84,7 +85,8 @@ by-only set (OneNumber x) (OneNumber y) a b h = ap OneNumber (between y x h)
 by-only set (OneNumber x) _ a b h = untrue h
 by-only set (OneText x) (OneText y) a b h = ap OneText (text_equal y x h)
 by-only set (OneText x) _ a b h = untrue h
-by-only set (OneLength x) (OneLength y) a b h = ap OneLength (nat_equal y (length (values_list (things x))) h ∙ things-length x)
+by-only set (OneLength x) (OneLength y) a b h =
+    ap OneLength (nat_equal y (length (values_list (things x))) h ∙ things-length x)
 by-only set (OneLength x) _ a b h = untrue h
 
 by-once : (set : MSet) (e : Elementary) → is_of_set set e ≡ true → BuiltOnce set (value_by e)
@@ -107,7 +109,8 @@ record IsOwn (named : List (List ℕ)) (pieces : List MCtor) (p : MCtor) : Type 
   pub built : builds named p value ≡ true
   pub once : hits named pieces value ≡ 1
 
-distinct-by : (named : List (List ℕ)) (pieces : List MCtor) → ((p : MCtor) → Among p pieces → IsOwn named pieces p) → Ordered (λ (p q : MCtor). p ≢ q) pieces
+distinct-by : (named : List (List ℕ)) (pieces : List MCtor) → ((p : MCtor) → Among p pieces → IsOwn named pieces p) →
+    Ordered (λ (p q : MCtor). p ≢ q) pieces
 distinct-by named [] own = tt
 distinct-by named (p ∷ pieces) own = (
   every-among (λ q. p ≢ q) pieces (λ q a e. first q a e (own p (inl refl))),
@@ -123,13 +126,17 @@ distinct-by named (p ∷ pieces) own = (
     later : (q : MCtor) → Among q pieces → IsOwn named (p ∷ pieces) q → IsOwn named pieces q
     later q a o = record { value = o.value; built = o.built; once = go (hits named pieces o.value) refl o.once }
       where
-        go : (n : ℕ) → hits named pieces o.value ≡ n → one (builds named p o.value) + hits named pieces o.value ≡ 1 → hits named pieces o.value ≡ 1
+        go : (n : ℕ) → hits named pieces o.value ≡ n → one (builds named p o.value) + hits named pieces o.value ≡ 1 →
+            hits named pieces o.value ≡ 1
         go zero e h = absurd (hit-some named pieces o.value q a o.built e)
         go (suc n) e h = omega (arith, e, h)
 
 -- the pieces of a column are distinct
-pub pieces-distinct : (set : MSet) (heads pieces : List MCtor) → RangesAscend set → All (λ h. IsTrue (is_head set h)) heads → ArePieces set heads pieces → Ordered (λ (p q : MCtor). p ≢ q) pieces
-pieces-distinct set heads pieces asc all are = distinct-by (named_in pieces) pieces (λ p a. own p (all-among (Serves set (named_in pieces)) pieces p (serves_of set heads pieces (named_in pieces) all are) a))
+pub pieces-distinct : (set : MSet) (heads pieces : List MCtor) → RangesAscend set →
+    All (λ h. IsTrue (is_head set h)) heads → ArePieces set heads pieces → Ordered (λ (p q : MCtor). p ≢ q) pieces
+pieces-distinct set heads pieces asc all are =
+    distinct-by (named_in pieces) pieces (λ p a. own p
+    (all-among (Serves set (named_in pieces)) pieces p (serves_of set heads pieces (named_in pieces) all are) a))
   where
     own : (p : MCtor) → Serves set (named_in pieces) p → IsOwn (named_in pieces) pieces p
     own p s =
@@ -137,5 +144,7 @@ pieces-distinct set heads pieces asc all are = distinct-by (named_in pieces) pie
         record {
           value = value_by e;
           built = s.1.builds_it (value_by e) (by-built e);
-          once = once_of set true heads pieces asc are (value_by e) (value-is set true e s.1.of_set) (λ q. seen e (value_by e) (by-built e) (inl q)) (λ q. seen e (value_by e) (by-built e) (inr q));
+          once =
+              once_of set true heads pieces asc are (value_by e) (value-is set true e s.1.of_set)
+              (λ q. seen e (value_by e) (by-built e) (inl q)) (λ q. seen e (value_by e) (by-built e) (inr q));
         }

@@ -57,8 +57,10 @@ wild-fits named p = record { plain = tt; sided = λ u b. refl; room = λ e. room
     room (RowCtor (LongerShape f g)) = tt
     room _ = tt
 
-module _ {T : Type 0} (IsType : T → Type 0) (cx : Context T) (V : T → Bool → MValue → Type 0) (values : ValuesLaw IsType V cx) (decides : ℕ → Decision) where
-  typed-ctor : (t : T) (h : Head T) → IsHeadTyped cx t h → IsPlainHead h → IsMadeHead h → OnCtor (IsColumnCtor (cx.set_of t)) (first_ctor (h ∷ []))
+module _ {T : Type 0} (IsType : T → Type 0) (cx : Context T) (V : T → Bool → MValue → Type 0)
+    (values : ValuesLaw IsType V cx) (decides : ℕ → Decision) where
+  typed-ctor : (t : T) (h : Head T) → IsHeadTyped cx t h → IsPlainHead h → IsMadeHead h →
+      OnCtor (IsColumnCtor (cx.set_of t)) (first_ctor (h ∷ []))
   typed-ctor t None ty p m = tt
   typed-ctor t (Some (de_pat k u uid at subs binds)) ty p m = go k ty p m.0
     where
@@ -67,9 +69,11 @@ module _ {T : Type 0} (IsType : T → Type 0) (cx : Context T) (V : T → Bool �
       halves false b h = untrue h
 
       by : (k : MCtor) → (belongs (cx.set_of t) k && is_written k) ≡ true → IsMade k → IsColumnCtor (cx.set_of t) k
-      by k h m = let s = halves (belongs (cx.set_of t) k) (is_written k) h in record { belong = s.0; written = s.1; made = m }
+      by k h m =
+          let s = halves (belongs (cx.set_of t) k) (is_written k) h in record { belong = s.0; written = s.1; made = m }
 
-      go : (k : MCtor) → IsTyped cx t (de_pat k u uid at subs binds) → IsPlain k → IsMade k → OnCtor (IsColumnCtor (cx.set_of t)) (first_ctor (Some (de_pat k u uid at subs binds) ∷ []))
+      go : (k : MCtor) → IsTyped cx t (de_pat k u uid at subs binds) → IsPlain k → IsMade k →
+          OnCtor (IsColumnCtor (cx.set_of t)) (first_ctor (Some (de_pat k u uid at subs binds) ∷ []))
       go WildCtor ty p m = tt
       go OrCtor ty p m = elim p [ ]
       go SingleCtor ty p m = by SingleCtor ty.2.0 m
@@ -82,38 +86,55 @@ module _ {T : Type 0} (IsType : T → Type 0) (cx : Context T) (V : T → Bool �
       go (TextCtor x) ty p m = by (TextCtor x) ty.2.0 m
       go (RowCtor x) ty p m = by (RowCtor x) ty.2.0 m
 
-  every-at : (P : Head T → Type 0) (j : ℕ) (hs : List (Head T)) (h : Head T) → Every P hs → slice_get hs j ≡ Some h → P h
+  every-at : (P : Head T → Type 0) (j : ℕ) (hs : List (Head T)) (h : Head T) → Every P hs → slice_get hs j ≡ Some h →
+      P h
   every-at P j [] h p e = cc
   every-at P zero (x ∷ hs) h p e = let same : x ≡ h = cc in subst P same p.0
   every-at P (suc j) (x ∷ hs) h p e = every-at P j hs h p.1 e
 
-  module _ (i : ℕ) (c : MColumn T) (columns : List (MColumn T)) (rows : List (MRow T)) (ready : IsReady IsType cx decides i columns rows) (there : slice_get columns i ≡ Some c) where
+  module _ (i : ℕ) (c : MColumn T) (columns : List (MColumn T)) (rows : List (MRow T))
+      (ready : IsReady IsType cx decides i columns rows) (there : slice_get columns i ≡ Some c) where
     one-head : (x y : Head T) → Some x ≡ Some y → x ≡ y
     one-head x y e = cc
 
     pub column-ctors : Every (IsColumnCtor (cx.set_of c.type)) (ctors_at i rows)
     column-ctors =
-        column-every i (IsColumnCtor (cx.set_of c.type)) rows (every-among (λ r. GoodAt (λ h. OnCtor (IsColumnCtor (cx.set_of c.type)) (first_ctor (h ∷ []))) i r.heads) rows (λ r a.
+        column-every i (IsColumnCtor (cx.set_of c.type)) rows (every-among
+        (λ r. GoodAt (λ h. OnCtor (IsColumnCtor (cx.set_of c.type)) (first_ctor (h ∷ []))) i r.heads) rows (λ r a.
         good-from (λ h. OnCtor (IsColumnCtor (cx.set_of c.type)) (first_ctor (h ∷ []))) i r.heads (λ h e.
-        (let g : IsGoodRow cx decides columns r = among-every (IsGoodRow cx decides columns) rows r ready.good.rows_are a in
+        (let g : IsGoodRow cx decides columns r = among-every
+        (IsGoodRow cx decides columns) rows r ready.good.rows_are a in
         let k = head-at cx columns r.heads i c g.typed there in
-        typed-ctor c.type h (subst (IsHeadTyped cx c.type) (one-head k.0 h (sym k.1 ∙ e)) k.2) (good-at IsPlainHead i r.heads h (among-every (λ x. GoodAt IsPlainHead i x.heads) rows r ready.plain a) e) (every-at (IsMadeHead) i r.heads h g.made e)))))
+        typed-ctor c.type h (subst (IsHeadTyped cx c.type) (one-head k.0 h (sym k.1 ∙ e)) k.2)
+        (good-at IsPlainHead i r.heads h (among-every (λ x. GoodAt IsPlainHead i x.heads) rows r ready.plain a) e)
+        (every-at (IsMadeHead) i r.heads h g.made e)))))
 
     pub column-heads : All (λ h. IsTrue (is_head (cx.set_of c.type) h)) (ctors_at i rows)
-    column-heads = all-from (λ h. IsTrue (is_head (cx.set_of c.type) h)) (ctors_at i rows) (every-to (IsColumnCtor (cx.set_of c.type)) (λ h. IsTrue (is_head (cx.set_of c.type) h)) (ctors_at i rows) (is-head-by (cx.set_of c.type)) column-ctors)
+    column-heads =
+        all-from (λ h. IsTrue (is_head (cx.set_of c.type) h)) (ctors_at i rows)
+        (every-to (IsColumnCtor (cx.set_of c.type)) (λ h. IsTrue (is_head (cx.set_of c.type) h)) (ctors_at i rows)
+        (is-head-by (cx.set_of c.type)) column-ctors)
 
     pub type-of : IsType c.type
-    type-of = let column : IsGoodColumn IsType c = column-at (IsGoodColumn IsType) columns i c ready.good.columns_are there in column.type
+    type-of =
+        let column : IsGoodColumn IsType c = column-at
+        (IsGoodColumn IsType) columns i c ready.good.columns_are there in column.type
 
-    column-are : (pieces : List MCtor) → ArePieces (cx.set_of c.type) (ctors_at i rows) pieces → AreColumnPieces (cx.set_of c.type) (ctors_at i rows) pieces
+    column-are : (pieces : List MCtor) → ArePieces (cx.set_of c.type) (ctors_at i rows) pieces →
+        AreColumnPieces (cx.set_of c.type) (ctors_at i rows) pieces
     column-are pieces are =
-        made_pieces (cx.set_of c.type) (ctors_at i rows) pieces (values.made c.type type-of) (values.ascend c.type type-of) column-heads
-        (all-from IsMade (ctors_at i rows) (every-to (IsColumnCtor (cx.set_of c.type)) IsMade (ctors_at i rows) (λ k h. h.made) column-ctors)) are
+        made_pieces (cx.set_of c.type) (ctors_at i rows) pieces (values.made c.type type-of)
+        (values.ascend c.type type-of) column-heads
+        (all-from IsMade (ctors_at i rows) (every-to (IsColumnCtor (cx.set_of c.type)) IsMade (ctors_at i rows)
+        (λ k h. h.made) column-ctors)) are
 
-    pub fit-here : (pieces : List MCtor) (p : MCtor) → ArePieces (cx.set_of c.type) (ctors_at i rows) pieces → Among p pieces → IsFit cx i c rows pieces p
+    pub fit-here : (pieces : List MCtor) (p : MCtor) → ArePieces (cx.set_of c.type) (ctors_at i rows) pieces →
+        Among p pieces → IsFit cx i c rows pieces p
     fit-here pieces p are a = record {
       belong = all-among (λ q. IsTrue (belongs (cx.set_of c.type) q)) pieces p k.belong a;
-      fits = every-among (λ r. GoodAt (HeadFits (named_in pieces) p) i r.heads) rows (λ r j. good-from (HeadFits (named_in pieces) p) i r.heads (λ h e. one r h j e));
+      fits =
+          every-among (λ r. GoodAt (HeadFits (named_in pieces) p) i r.heads) rows
+          (λ r j. good-from (HeadFits (named_in pieces) p) i r.heads (λ h e. one r h j e));
     }
       where
         k : AreColumnPieces (cx.set_of c.type) (ctors_at i rows) pieces
@@ -132,9 +153,17 @@ module _ {T : Type 0} (IsType : T → Type 0) (cx : Context T) (V : T → Bool �
             go false w =
                 let m : Among d (ctors_at i rows) = column-among i rows r d t uid at subs binds j e w in
                 record {
-                  plain = good-at IsPlainHead i r.heads (Some (de_pat d t uid at subs binds)) (among-every (λ x. GoodAt IsPlainHead i x.heads) rows r ready.plain j) e;
-                  sided = all-among (IsOneSided (named_in pieces) p) (ctors_at i rows) d (all-among (λ q. All (IsOneSided (named_in pieces) q) (ctors_at i rows)) pieces p k.one_sided a) m;
-                  room = λ has. room-same p d (all-among (λ x. IsTrue (has_piece x p) → HasRoomFor p x) (ctors_at i rows) d (all-among (λ q. All (λ x. IsTrue (has_piece x q) → HasRoomFor q x) (ctors_at i rows)) pieces p k.room a) m has);
+                  plain =
+                      good-at IsPlainHead i r.heads (Some (de_pat d t uid at subs binds))
+                      (among-every (λ x. GoodAt IsPlainHead i x.heads) rows r ready.plain j) e;
+                  sided =
+                      all-among (IsOneSided (named_in pieces) p) (ctors_at i rows) d
+                      (all-among (λ q. All (IsOneSided (named_in pieces) q) (ctors_at i rows)) pieces p k.one_sided a)
+                      m;
+                  room =
+                      λ has. room-same p d (all-among (λ x. IsTrue (has_piece x p) → HasRoomFor p x)
+                      (ctors_at i rows) d (all-among (λ q. All (λ x. IsTrue (has_piece x q) → HasRoomFor q x)
+                      (ctors_at i rows)) pieces p k.room a) m has);
                 }
 
   pub pieces-fit : PiecesFit IsType cx decides
