@@ -7,8 +7,8 @@ ghost use Rattle.pattern_arena.specs.Examples.{flag_arm};
 ghost use Rattle.pattern_arena.specs.Meaning.{IsWellTyped, IsExhaustive, IsArmReachable};
 
 use crate::laws::{
-    exhaustive_where_nothing_is_left, overlap_lists_are_one, placed_patterns_stand,
-    reading_lists_are_one,
+    exhaustive_where_nothing_is_left, matches_are_made, overlap_lists_are_one,
+    placed_patterns_stand, reading_lists_are_one,
 };
 use crate::{Bound, CheckedArm, CheckedMatch, DePat, Part, Placer};
 use bumpalo::Bump;
@@ -120,4 +120,9 @@ fn laws_hold_at_the_toy_context(_rt: HostRuntime) {
     reading_lists_are_one(&Toy);
     overlap_lists_are_one(&Toy);
     exhaustive_where_nothing_is_left(&Toy);
+    matches_are_made(&CheckedMatch {
+        ty: ToyTy::Flag,
+        validity: Validity::Sure,
+        arms: &[],
+    });
 }
