@@ -1,8 +1,10 @@
 -- Heads that are no wildcards, and what follows of what they have.
-use Rattle.std.proofs.Common.{◌≡◌, inl, inr, ℕ, zero, suc, ◌<◌, Bool, true, false, ◌&&◌, ◌||◌, nat_eq, nat_lt, List, [], ◌∷◌, map, length, get_or, refl, sym, ap, subst, ◌∙◌, arith, IsTrue}
+use Rattle.std.proofs.Common.{◌≡◌, inl, inr, ℕ, zero, suc, ◌<◌, Bool, true, false, ◌&&◌, ◌||◌, nat_eq, nat_lt, List, [], ◌∷◌, map, length, get_or, refl, sym, ap, subst, ◌∙◌, arith, IsTrue, ◌+◌, ◌++◌, take}
 use Rattle.std.specs.List.{All, AllPairs, list_any}
 use Rattle.std.proofs.lemmas.Bool.Decides.{nat_tests}
-use Rattle.std.proofs.lemmas.List.Elements.{All-head, All-tail}
+use Rattle.std.proofs.lemmas.List.Elements.{All-head, All-tail, All-push}
+use Rattle.std.proofs.lemmas.List.{map-append}
+use Rattle.std.proofs.lemmas.Grind.{common_steps}
 use Rattle.match_model.specs.Values.{MValue}
 use Rattle.match_model.specs.Constructors.{MCtor, LaterCtor, WildCtor, VariantCtor, MSet, SingleSet, PointSet, FlagSet, TextSet, OpaqueSet, NothingSet, VariantSet, NumberSet, RowSet, belongs, has_piece}
 use Rattle.match_model.specs.Contexts.{Context, Open}
@@ -99,3 +101,11 @@ later_unwritten count later (h ∷ hs) all =
         neither true = refl
         neither false = refl
     one _ e = refl
+
+-- head by head
+pub sharp_more : (set : MSet) (heads : List Ctor) (i : ℕ) (x : Ctor) → i < length heads → x ≡ get_or heads i x → AreSharp set (plain_ctors (take i heads)) → is_sharp_head set (plain_ctor x) ≡ true →
+    AreSharp set (plain_ctors (take (i + 1) heads))
+sharp_more set heads i x l e all s =
+    let grown : take (i + 1) heads ≡ take i heads ++ x ∷ [] = grind (arith, common_steps) in
+    subst (AreSharp set) (sym (ap plain_ctors grown ∙ map-append plain_ctor (take i heads) (x ∷ [])))
+    (All-push (λ h. IsTrue (is_sharp_head set h)) (plain_ctors (take i heads)) (plain_ctor x) all s)
