@@ -1,14 +1,10 @@
 -- A run that is read is spelled so, and one that is spelled so is read.
-use Rattle.std.proofs.Common.{◌≡◌, ◌<◌, Bool, true, false, ◌&&◌, ◌||◌, cond, List, [], ◌∷◌, ◌++◌, length, Option, Some, None, Result, Ok, Err, refl, sym, ap, ◌∙◌, arith}
-use Rattle.std.specs.Prelude.{IfOk, IfErr}
+use Rattle.std.proofs.Common.{◌≡◌, ◌<◌, Bool, true, false, ◌&&◌, ◌||◌, cond, List, [], ◌∷◌, ◌++◌, length, Option, Some, None, refl, sym, ap, ◌∙◌, arith}
 use Rattle.std.proofs.lemmas.List.{length-append}
 use Rattle.decl_lexer.specs.declared.marks.Mark.{Mark}
 use Rattle.decl_lexer.specs.Lexing.{Placed}
-use Rattle.decl_syntax.specs.declared.stop.Stop.{Stop}
-use Rattle.decl_syntax.specs.declared.stop.Stop.TheVariants as stops_at
 use Rattle.decl_syntax.specs.Units.{first_passes}
 use Rattle.decl_syntax.specs.Runs.{Part, Opens, Closes, Inside, part_of, behind_part, pairs_behind, pairs_up}
-use Rattle.decl_syntax.specs.Reading.{Gives}
 use Rattle.decl_syntax.proofs.Joined.{some_is}
 use Rattle.decl_parser.specs.declared.runs.Until.{Until}
 use Rattle.decl_parser.specs.RunGrammar.{stops, closes, ends_run, NoneOutside, SpellsRun, spelled}

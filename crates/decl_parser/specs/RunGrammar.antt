@@ -5,8 +5,6 @@ use Rattle.decl_lexer.specs.declared.marks.Mark.{Mark}
 use Rattle.decl_lexer.specs.declared.marks.Mark.TheVariants as marks
 use Rattle.decl_lexer.specs.Begins.{Lexeme}
 use Rattle.decl_lexer.specs.Lexing.{Placed}
-use Rattle.decl_syntax.specs.declared.stop.Stop.{Stop}
-use Rattle.decl_syntax.specs.declared.stop.Stop.TheVariants as stops_at
 use Rattle.decl_syntax.specs.Units.{first_passes, is_mark}
 use Rattle.decl_syntax.specs.Runs.{Part, Closes, part_of, pairs_up}
 use Rattle.decl_parser.specs.declared.runs.Until.{Until}
