@@ -154,17 +154,17 @@ module _ {T : Type 0} (decides : ℕ → Decision) where
       go false h = record { each = tt; parted = tt }
 
   -- an alternative in place of its or-pattern
-  abbrev as_yield : Choice T → Replacement T
-  as_yield c = record { heads = Some c.pat ∷ []; chosen = c.chosen; binds = c.binds }
+  abbrev as_replacement : Choice T → Replacement T
+  as_replacement c = record { heads = Some c.pat ∷ []; chosen = c.chosen; binds = c.binds }
 
   abbrev CK : Choice T → Key
   CK c = key_of (map decides c.chosen)
 
   abbrev IsChoice : (low high : ℕ) → Choice T → Type 0
-  IsChoice low high c = IsReplacement decides low high 1 (as_yield c)
+  IsChoice low high c = IsReplacement decides low high 1 (as_replacement c)
 
   abbrev AreChoices : Choice T → Choice T → Type 0
-  AreChoices c d = AreReplacements decides (as_yield c) (as_yield d)
+  AreChoices c d = AreReplacements decides (as_replacement c) (as_replacement d)
 
   -- the choices of a pattern
   record Choices (low high : ℕ) (cs : List (Choice T)) : Type 0 where
@@ -436,7 +436,7 @@ module _ {T : Type 0} (decides : ℕ → Decision) where
       let c : Choices n (or_count p + n) (choices_of p) = pat-choices p n i in
       record {
         each =
-            every-map (IsChoice n (or_count p + n)) (IsReplacement decides n (or_count p + n) 1) as_yield
+            every-map (IsChoice n (or_count p + n)) (IsReplacement decides n (or_count p + n) 1) as_replacement
             (choices_of p) (λ x j. j) c.each;
-        parted = ordered-map AreChoices (AreReplacements decides) as_yield (choices_of p) (λ x y j. j) c.parted;
+        parted = ordered-map AreChoices (AreReplacements decides) as_replacement (choices_of p) (λ x y j. j) c.parted;
       }

@@ -17,7 +17,7 @@ use Rattle.match_model.specs.Lists.{Among}
 use Rattle.match_model.specs.Steps.{Replacement, own_binds, expand_head, default_head}
 use Rattle.keyed_rows.proofs.Parting.{among-map}
 use Rattle.keyed_rows.proofs.RowOrder.{among-flat}
-use Rattle.keyed_rows.proofs.PullOut.{times, done_of, yield_done, HeadKeeps, map-among, flat-among}
+use Rattle.keyed_rows.proofs.PullOut.{times, done_of, replacement_done, HeadKeeps, map-among, flat-among}
 use Rattle.keyed_rows.proofs.Leaf.{whole-bound, under-bare, bounds-trace}
 use Rattle.keyed_rows.proofs.Expanding.{choice_done, choice_ways, choices-ways}
 
@@ -27,8 +27,8 @@ module _ (decides : ℕ → Decision) where
   under-done is w = λ i. record { key = key_of (map decides ((under-bare is w).0 i)); bindings = (under-bare is w).1 i }
 
   module _ {T : Type 0} where
-    abbrev as_yield_of : Choice T → Replacement T
-    as_yield_of c = record { heads = Some c.pat ∷ []; chosen = c.chosen; binds = c.binds }
+    abbrev as_replacement_of : Choice T → Replacement T
+    as_replacement_of c = record { heads = Some c.pat ∷ []; chosen = c.chosen; binds = c.binds }
 
     -- the names around alternatives are bound to whole values
     abbrev pub BindWhole : Head T → Type 0
@@ -46,7 +46,7 @@ module _ (decides : ℕ → Decision) where
       one-column h = combine_bare_right (ways_at (position_at e.place v) (part_at e.place v) h) ∙ ways-here h
 
       same-done : (c : Choice T) → IsTrue (list_all (λ b. part_is_of WildCtor b.part) c.binds) →
-          choice_done decides u c ≡ yield_done decides e.place v (as_yield_of c)
+          choice_done decides u c ≡ replacement_done decides e.place v (as_replacement_of c)
       same-done c h =
           λ i. record { key = key_of (map decides c.chosen); bindings = whole-bound v e.place u c.binds part h i }
 
@@ -90,7 +90,8 @@ module _ (decides : ℕ → Decision) where
             subst (Among w) (sym (ways-here None)) (subst (Among w) (one-column None)
                 (subst (λ x. Among w (heads_ways (e ∷ []) x.heads v)) k i)),
             subst
-                (λ x. done_of decides w ≡ times (yield_done decides e.place v x) (done_of decides w)) (sym k) refl,
+                (λ x. done_of decides w ≡ times (replacement_done decides e.place v x) (done_of decides w))
+                (sym k) refl,
           )
           | inr k ↦ absurd k
         ];
@@ -98,34 +99,35 @@ module _ (decides : ℕ → Decision) where
       expand-keeps (Some p) b = record { wide = wide; forth = forth; back = back }
         where
           wide : (y : Replacement T) → Among y (expand_head (Some p)) → length y.heads ≡ 1
-          wide y a = let m = among-map as_yield_of (choices_of p) y a in ap (λ x. length x.heads) m.2
+          wide y a = let m = among-map as_replacement_of (choices_of p) y a in ap (λ x. length x.heads) m.2
 
           forth : (a : Way) → Among a (ways_at (position_at e.place v) (part_at e.place v) (Some p)) →
               (y : Replacement T) × Among y (expand_head (Some p)) × ((w : Way) × Among w
-              (heads_ways (e ∷ []) y.heads v) × (done_of decides a ≡ times (yield_done decides e.place v y)
+              (heads_ways (e ∷ []) y.heads v) × (done_of decides a ≡ times (replacement_done decides e.place v y)
               (done_of decides w)))
           forth a i =
               let m = among-map (under_all is) (arena_ways p u) a (subst (Among a) (ways-here (Some p)) i) in
               let k = choice-forth p m.0 m.1 in
               let x : Way = under_all is k.2.0 in (
-                as_yield_of k.0,
-                map-among as_yield_of (choices_of p) k.0 k.1,
+                as_replacement_of k.0,
+                map-among as_replacement_of (choices_of p) k.0 k.1,
                 (
                   x,
                   subst (Among x) (sym (one-column (Some k.0.pat))) (map-among (under_all is)
                       (arena_ways k.0.pat u) k.2.0 k.2.1),
                   ap (done_of decides) m.2 ∙ (under-done is m.0 ∙ (k.2.2 ∙
                       (ap (λ d. times d (done_of decides k.2.0)) (same-done k.0 (b k.0 k.1))
-                      ∙ ap (times (yield_done decides e.place v (as_yield_of k.0))) (sym (under-done is k.2.0))))),
+                      ∙ ap (times (replacement_done decides e.place v (as_replacement_of k.0)))
+                      (sym (under-done is k.2.0))))),
                 ),
               )
 
           back : (y : Replacement T) → Among y (expand_head (Some p)) → (w : Way) →
               Among w (heads_ways (e ∷ []) y.heads v) →
               (a : Way) × Among a (ways_at (position_at e.place v) (part_at e.place v) (Some p))
-              × (done_of decides a ≡ times (yield_done decides e.place v y) (done_of decides w))
+              × (done_of decides a ≡ times (replacement_done decides e.place v y) (done_of decides w))
           back y a w i =
-              let m = among-map as_yield_of (choices_of p) y a in
+              let m = among-map as_replacement_of (choices_of p) y a in
               let n = among-map (under_all is) (arena_ways m.0.pat u) w (subst (Among w) (one-column (Some m.0.pat))
               (subst (λ x. Among w (heads_ways (e ∷ []) x.heads v)) m.2 i)) in
               let k = choice-back p m.0 n.0 m.1 n.1 in
@@ -133,9 +135,9 @@ module _ (decides : ℕ → Decision) where
                 x,
                 subst (Among x) (sym (ways-here (Some p))) (map-among (under_all is) (arena_ways p u) k.0 k.1),
                 under-done is k.0 ∙ (k.2 ∙ (ap (λ d. times d (done_of decides n.0)) (same-done m.0 (b m.0 m.1))
-                    ∙ (ap (times (yield_done decides e.place v (as_yield_of m.0)))
+                    ∙ (ap (times (replacement_done decides e.place v (as_replacement_of m.0)))
                     (sym (under-done is n.0) ∙ sym (ap (done_of decides) n.2)) ∙ ap (λ z. times
-                    (yield_done decides e.place v z) (done_of decides w)) (sym m.2)))),
+                    (replacement_done decides e.place v z) (done_of decides w)) (sym m.2)))),
               )
 
       -- a dropped column: wildcards and names have one way, the other heads none
@@ -159,17 +161,17 @@ module _ (decides : ℕ → Decision) where
       dropped-done : (h : Head T) → is_wild h ≡ true → BindsWhole h → (y : Replacement T) →
           y ≡ record { heads = []; chosen = []; binds = own_binds h } →
           done_of decides (under_all is (with_bounds (own_binds h) u bare_way)) ≡ times
-          (yield_done decides e.place v y) (done_of decides bare_way)
+          (replacement_done decides e.place v y) (done_of decides bare_way)
       dropped-done h w b y k =
           under-done is (with_bounds (own_binds h) u bare_way)
-          ∙ (whole ∙ ap (λ x. times (yield_done decides e.place v x) (done_of decides bare_way)) (sym k))
+          ∙ (whole ∙ ap (λ x. times (replacement_done decides e.place v x) (done_of decides bare_way)) (sym k))
         where
           nil : (l : List Binding) → l ≡ bindings_of_both l []
           nil [] = refl
           nil (x ∷ l) = refl
 
           whole : done_of decides (with_bounds (own_binds h) u bare_way) ≡ times
-              (yield_done {T = T} decides e.place v (record { heads = []; chosen = []; binds = own_binds h }))
+              (replacement_done {T = T} decides e.place v (record { heads = []; chosen = []; binds = own_binds h }))
               (done_of decides bare_way)
           whole = λ i. record {
             key = key_of (map decides (bounds-trace (own_binds h) u bare_way i));
@@ -185,8 +187,8 @@ module _ (decides : ℕ → Decision) where
           Y : Replacement T
           Y = record { heads = []; chosen = []; binds = own_binds h }
 
-          yields-are : (t : Bool) → is_wild h ≡ t → default_head h ≡ cond t (Y ∷ []) []
-          yields-are t q = ap (λ x. cond x (Y ∷ []) []) q
+          replacements-are : (t : Bool) → is_wild h ≡ t → default_head h ≡ cond t (Y ∷ []) []
+          replacements-are t q = ap (λ x. cond x (Y ∷ []) []) q
 
           only : (x y : Way) → Among x (y ∷ []) → x ≡ y
           only x y (inl q) = q
@@ -198,33 +200,34 @@ module _ (decides : ℕ → Decision) where
 
           go : (t : Bool) → is_wild h ≡ t → HeadKeeps decides default_head e [] v h
           go true q = record {
-            wide = λ y a. ap (λ x. length x.heads) (lone y Y (subst (Among y) (yields-are true q) a));
+            wide = λ y a. ap (λ x. length x.heads) (lone y Y (subst (Among y) (replacements-are true q) a));
             forth = λ a i. (
               Y,
-              subst (Among Y) (sym (yields-are true q)) (inl refl),
+              subst (Among Y) (sym (replacements-are true q)) (inl refl),
               (
                 bare_way,
                 inl refl,
                 ap (done_of decides) (only a (under_all is (with_bounds (own_binds h) u bare_way))
-                    (subst (Among a) (ways-here h ∙ ap (map (under_all is)) (wild-ways h q)) i)) ∙ dropped-done h q b Y refl,
+                    (subst (Among a) (ways-here h ∙ ap (map (under_all is)) (wild-ways h q)) i))
+                    ∙ dropped-done h q b Y refl,
               ),
             );
             back = λ y a w i. (
               under_all is (with_bounds (own_binds h) u bare_way),
               subst (Among (under_all is (with_bounds (own_binds h) u bare_way)))
                   (sym (ways-here h ∙ ap (map (under_all is)) (wild-ways h q))) (inl refl),
-              bare-only y w (lone y Y (subst (Among y) (yields-are true q) a)) i q,
+              bare-only y w (lone y Y (subst (Among y) (replacements-are true q) a)) i q,
             );
           }
             where
               bare-only : (y : Replacement T) (w : Way) → y ≡ Y → Among w (heads_ways [] y.heads v) →
                   is_wild h ≡ true → done_of decides (under_all is (with_bounds (own_binds h) u bare_way)) ≡ times
-                  (yield_done decides e.place v y) (done_of decides w)
+                  (replacement_done decides e.place v y) (done_of decides w)
               bare-only y w k i q =
-                  dropped-done h q b y k ∙ ap (λ x. times (yield_done decides e.place v y) (done_of decides x))
+                  dropped-done h q b y k ∙ ap (λ x. times (replacement_done decides e.place v y) (done_of decides x))
                   (sym (only w bare_way (subst (λ x. Among w (heads_ways [] x.heads v)) k i)))
           go false q = record {
-            wide = λ y a. absurd (subst (Among y) (yields-are false q) a);
+            wide = λ y a. absurd (subst (Among y) (replacements-are false q) a);
             forth = λ a i. absurd (subst (Among a) (ways-here h ∙ ap (map (under_all is)) (none q)) i);
-            back = λ y a w i. absurd (subst (Among y) (yields-are false q) a);
+            back = λ y a w i. absurd (subst (Among y) (replacements-are false q) a);
           }

@@ -177,11 +177,11 @@ module _ {T : Type 0} (decides : ℕ → Decision) where
   abbrev pub StillEither : (limit : ℕ) (k : Key) (hs : List (Head T)) (l : Key) (gs : List (Head T)) → Type 0
   StillEither limit k hs l gs = Still limit k hs l gs ⊎ Still limit l gs k hs
 
-  -- what is to be shown of a yield of each
+  -- what is to be shown of a replacement of each
   abbrev Both : (k l : Key) (limit : ℕ) → Replacement T → Replacement T → Type 0
   Both k l limit y z = StillEither limit (both_keys k (YK y)) y.heads (both_keys l (YK z)) z.heads
 
-  -- an or-pattern that a yield decided is one of its head's
+  -- an or-pattern that a replacement decided is one of its head's
   open-there : (low high width : ℕ) (m : Key) (u w : Replacement T) (e : AreReplacements decides u w) →
       IsReplacement decides low high width u → IsOpen m low high → m e.before.at ≡ None
   open-there low high width m u w e g o = o e.before.at from upto
@@ -203,7 +203,7 @@ module _ {T : Type 0} (decides : ℕ → Decision) where
   lower-all : (d e : ℕ) (hs : List (Head T)) → e ≤ d → Every (IsAbove decides d) hs → Every (IsAbove decides e) hs
   lower-all d e hs l a = every-to (IsAbove decides d) (IsAbove decides e) hs (λ h b. above-lower d e h l b) a
 
-  -- the yields of one head: their own difference is the first one from now on
+  -- the replacements of one head: their own difference is the first one from now on
   newer : (m w : Key) (limit : ℕ) (fs gs : List (Head T)) (u x : Replacement T) (e : AreReplacements decides u x) →
       e.before.at ≤ limit → length u.heads ≡ length x.heads →
       m e.before.at ≡ None → ((o : ℕ) → o < e.before.at + 1 → m o ≡ w o) → AreAlike decides e.before.at fs gs →
@@ -353,7 +353,7 @@ module _ {T : Type 0} (decides : ℕ → Decision) where
               early = s.early;
             })
 
-    -- a row's yields are parted, in their order
+    -- a row's replacements are parted, in their order
     pub row-divided : (k : Key) (low i : ℕ) (hs : List (Head T)) → GoodAt Good i hs → AreFree decides k low hs →
         Ordered (λ y z. IsParted decides (both_keys k (YK y)) y.heads (both_keys k (YK z)) z.heads)
         (replacements_at f i hs)

@@ -15,7 +15,7 @@ use Rattle.match_model.specs.Keys.{Decision, key_of}
 use Rattle.match_model.specs.Lists.{Among}
 use Rattle.match_model.specs.Steps.{Replacement, specialise_head}
 use Rattle.keyed_rows.proofs.Parting.{among-map}
-use Rattle.keyed_rows.proofs.PullOut.{Done, times, done_of, done-join, yield_done, HeadKeeps, map-among}
+use Rattle.keyed_rows.proofs.PullOut.{Done, times, done_of, done-join, replacement_done, HeadKeeps, map-among}
 use Rattle.keyed_rows.proofs.Expanding.{bound_of, act, done-map-bounds}
 use Rattle.keyed_rows.proofs.ExpandKeeps.{under-done}
 
@@ -125,7 +125,7 @@ module _ (decides : ℕ → Decision) where
 
       -- from equal lists of what is done
       keeps-by : (h : Head T) (y : Replacement T) → specialise_head piece n h ≡ y ∷ [] → length y.heads ≡ length cols →
-          all_done (head_ways h u) ≡ map (times (yield_done decides e.place v y)) (heads_done y.heads xs) →
+          all_done (head_ways h u) ≡ map (times (replacement_done decides e.place v y)) (heads_done y.heads xs) →
           HeadKeeps decides (specialise_head piece n) e cols v h
       keeps-by h y only wide same = record {
         wide = λ z a. ap (λ x. length x.heads) (lone z (subst (Among z) only a)) ∙ wide;
@@ -138,19 +138,19 @@ module _ (decides : ℕ → Decision) where
           lone z (inr q) = absurd q
 
           all : all_done (ways_at (position_at e.place v) (part_at e.place v) h) ≡ map
-              (times (yield_done decides e.place v y)) (all_done (heads_ways cols y.heads v))
+              (times (replacement_done decides e.place v y)) (all_done (heads_ways cols y.heads v))
           all =
-              here h ∙ (same ∙ ap (map (times (yield_done decides e.place v y)))
+              here h ∙ (same ∙ ap (map (times (replacement_done decides e.place v y)))
               (sym (columns-done v cols y.heads xs columns wide)))
 
           forth : (a : Way) → Among a (ways_at (position_at e.place v) (part_at e.place v) h) →
               (z : Replacement T) × Among z (specialise_head piece n h) × ((w : Way) × Among w
-              (heads_ways cols z.heads v) × (done_of decides a ≡ times (yield_done decides e.place v z)
+              (heads_ways cols z.heads v) × (done_of decides a ≡ times (replacement_done decides e.place v z)
               (done_of decides w)))
           forth a i =
               let d = subst (Among (done_of decides a)) all (map-among (done_of decides)
               (ways_at (position_at e.place v) (part_at e.place v) h) a i) in
-              let m = among-map (times (yield_done decides e.place v y)) (all_done (heads_ways cols y.heads v))
+              let m = among-map (times (replacement_done decides e.place v y)) (all_done (heads_ways cols y.heads v))
               (done_of decides a) d in
               let w = among-map (done_of decides) (heads_ways cols y.heads v) m.0 m.1 in (
                 y,
@@ -159,21 +159,21 @@ module _ (decides : ℕ → Decision) where
                   w.0,
                   w.1,
                   m.2 ∙ ap
-                      (times (yield_done decides e.place v y)) w.2,
+                      (times (replacement_done decides e.place v y)) w.2,
                 ),
               )
 
           back : (z : Replacement T) → z ≡ y → (w : Way) → Among w (heads_ways cols z.heads v) → (a : Way)
               × Among a (ways_at (position_at e.place v) (part_at e.place v) h)
-              × (done_of decides a ≡ times (yield_done decides e.place v z) (done_of decides w))
+              × (done_of decides a ≡ times (replacement_done decides e.place v z) (done_of decides w))
           back z q w i =
               let j = subst (λ x. Among w (heads_ways cols x.heads v)) q i in
-              let d = map-among (times (yield_done decides e.place v y)) (all_done (heads_ways cols y.heads v))
+              let d = map-among (times (replacement_done decides e.place v y)) (all_done (heads_ways cols y.heads v))
               (done_of decides w) (map-among (done_of decides) (heads_ways cols y.heads v) w j) in
               let m = among-map (done_of decides) (ways_at (position_at e.place v) (part_at e.place v) h)
-              (times (yield_done decides e.place v y) (done_of decides w))
-              (subst (Among (times (yield_done decides e.place v y) (done_of decides w))) (sym all) d) in
-              (m.0, m.1, sym m.2 ∙ ap (λ x. times (yield_done decides e.place v x) (done_of decides w)) (sym q))
+              (times (replacement_done decides e.place v y) (done_of decides w))
+              (subst (Among (times (replacement_done decides e.place v y) (done_of decides w))) (sym all) d) in
+              (m.0, m.1, sym m.2 ∙ ap (λ x. times (replacement_done decides e.place v x) (done_of decides w)) (sym q))
 
       -- a pattern whose constructor has the piece: its patterns do on the parts what its ways do
       pub piece-keeps : (c : MCtor) (t : T) (uid at : ℕ) (subs : MDePats T) (binds : List MBound) →

@@ -129,9 +129,9 @@ module _ {T : Type 0} where
       (heads_ways cs hs v))
 
 module _ {T : Type 0} (decides : ℕ → Decision) where
-  -- what a yield decides and catches at a place
-  abbrev pub yield_done : List MStep → MValue → Replacement T → Done
-  yield_done place v y =
+  -- what a replacement decides and catches at a place
+  abbrev pub replacement_done : List MStep → MValue → Replacement T → Done
+  replacement_done place v y =
       record { key = replacement_key decides y; bindings = bindings_in v (map (bind_at place) y.binds) }
 
   -- a step at one column keeps the ways of its head
@@ -140,10 +140,10 @@ module _ {T : Type 0} (decides : ℕ → Decision) where
     pub wide : (y : Replacement T) → Among y (f h) → length y.heads ≡ length new
     pub forth : (a : Way) → Among a (ways_at (position_at c.place v) (part_at c.place v) h) →
         (y : Replacement T) × Among y (f h) × ((w : Way) × Among w (heads_ways new y.heads v) ×
-        (done_of decides a ≡ times (yield_done c.place v y) (done_of decides w)))
+        (done_of decides a ≡ times (replacement_done c.place v y) (done_of decides w)))
     pub back : (y : Replacement T) → Among y (f h) → (w : Way) → Among w (heads_ways new y.heads v) →
         (a : Way) × Among a (ways_at (position_at c.place v) (part_at c.place v) h)
-        × (done_of decides a ≡ times (yield_done c.place v y) (done_of decides w))
+        × (done_of decides a ≡ times (replacement_done c.place v y) (done_of decides w))
 
   -- the step at column `i`, whose place this is, keeps the ways of its head; what the columns before decide and catch may
   -- change places with what it decides and catches
@@ -154,8 +154,8 @@ module _ {T : Type 0} (decides : ℕ → Decision) where
   StepsAt f e new v zero (c ∷ cs) (h ∷ hs) = (c ≡ e) × HeadKeeps f e new v h
   StepsAt f e new v (suc i) (c ∷ cs) (h ∷ hs) =
       ((a : Way) → Among a (ways_at (position_at c.place v) (part_at c.place v) h) → (y : Replacement T) →
-      Among y (replacements_at f i hs) → times (done_of decides a) (yield_done e.place v y) ≡ times
-      (yield_done e.place v y) (done_of decides a))
+      Among y (replacements_at f i hs) → times (done_of decides a) (replacement_done e.place v y) ≡ times
+      (replacement_done e.place v y) (done_of decides a))
       × StepsAt f e new v i cs hs
 
   module _ (f : Head T → List (Replacement T)) (e : MColumn T) (new : List (MColumn T)) (v : MValue)
@@ -168,15 +168,15 @@ module _ {T : Type 0} (decides : ℕ → Decision) where
     D a = done_of decides a
 
     abbrev Y : Replacement T → Done
-    Y y = yield_done e.place v y
+    Y y = replacement_done e.place v y
 
     -- a way after the step
     pub record Pulled (i : ℕ) (cs : List (MColumn T)) (hs : List (Head T)) (z : Done) : Type 0 where
-      pub yield : Replacement T
-      pub by : Among yield (replacements_at f i hs)
+      pub replacement : Replacement T
+      pub by : Among replacement (replacements_at f i hs)
       pub way : Way
-      pub of : Among way (heads_ways (replaced_at i cs new) yield.heads v)
-      pub is : z ≡ times (Y yield) (D way)
+      pub of : Among way (heads_ways (replaced_at i cs new) replacement.heads v)
+      pub is : z ≡ times (Y replacement) (D way)
 
     pub pull : (i : ℕ) (cs : List (MColumn T)) (hs : List (Head T)) → StepsAt f e new v i cs hs → (z : Way) →
         Among z (heads_ways cs hs v) → Pulled i cs hs (D z)
@@ -188,7 +188,7 @@ module _ {T : Type 0} (decides : ℕ → Decision) where
         (ways_at (position_at x.place v) (part_at x.place v) h)) s.0 p.in_first) in
         let whole : heads_ways (new ++ cs) (k.0.heads ++ hs) v ≡ combine (heads_ways new k.0.heads v) (heads_ways cs hs v) = heads-append new cs k.0.heads hs v (s.1.wide k.0 k.1) in
         record {
-          yield = with_others hs k.0;
+          replacement = with_others hs k.0;
           by = map-among (with_others hs) (f h) k.0 k.1;
           way = join k.2.0 p.second;
           of =
@@ -203,19 +203,19 @@ module _ {T : Type 0} (decides : ℕ → Decision) where
         let p = combine-elim decides (ways_at (position_at c.place v) (part_at c.place v) h) (heads_ways cs hs v) z a in
         let k = pull i cs hs s.1 p.second p.in_second in
         record {
-          yield = with_head h k.yield;
-          by = map-among (with_head h) (replacements_at f i hs) k.yield k.by;
+          replacement = with_head h k.replacement;
+          by = map-among (with_head h) (replacements_at f i hs) k.replacement k.by;
           way = join p.first k.way;
           of =
               combine-intro decides (ways_at (position_at c.place v) (part_at c.place v) h)
-              (heads_ways (replaced_at i cs new) k.yield.heads v) p.first k.way p.in_first k.of;
+              (heads_ways (replaced_at i cs new) k.replacement.heads v) p.first k.way p.in_first k.of;
           is = ap D p.is ∙ (done-join decides p.first p.second ∙ (ap (times (D p.first)) k.is
-              ∙ (sym (times-assoc (D p.first) (Y k.yield) (D k.way) (canonical h (position_at c.place v)
-              (part_at c.place v) p.first p.in_first) (canonical_binds k.yield))
-              ∙ (ap (λ x. times x (D k.way)) (s.0 p.first p.in_first k.yield k.by)
-              ∙ (times-assoc (Y k.yield) (D p.first) (D k.way) (canonical_binds k.yield)
+              ∙ (sym (times-assoc (D p.first) (Y k.replacement) (D k.way) (canonical h (position_at c.place v)
+              (part_at c.place v) p.first p.in_first) (canonical_binds k.replacement))
+              ∙ (ap (λ x. times x (D k.way)) (s.0 p.first p.in_first k.replacement k.by)
+              ∙ (times-assoc (Y k.replacement) (D p.first) (D k.way) (canonical_binds k.replacement)
               (canonical h (position_at c.place v) (part_at c.place v) p.first p.in_first)
-              ∙ ap (times (Y k.yield)) (sym (done-join decides p.first k.way)))))));
+              ∙ ap (times (Y k.replacement)) (sym (done-join decides p.first k.way)))))));
         }
 
     -- and the other way round

@@ -59,15 +59,15 @@ module _ {T : Type 0} (decides : ℕ → Decision) where
     record Made (rows : List (MRow T)) (r : MRow T) : Type 0 where
       pub from : MRow T
       pub of : Among from rows
-      pub yield : Replacement T
-      pub by : Among yield (replacements_at f i from.heads)
-      pub is : r ≡ row_replaced place from yield
+      pub replacement : Replacement T
+      pub by : Among replacement (replacements_at f i from.heads)
+      pub is : r ≡ row_replaced place from replacement
 
     made : (rows : List (MRow T)) (r : MRow T) → Among r (rows_at f place i rows) → Made rows r
     made rows r j =
         let a = among-flat (λ x. map (row_replaced place x) (replacements_at f i x.heads)) rows r j in
         let b = among-map (row_replaced place a.0) (replacements_at f i a.0.heads) r a.2 in
-        record { from = a.0; of = a.1; yield = b.0; by = b.1; is = b.2 }
+        record { from = a.0; of = a.1; replacement = b.0; by = b.1; is = b.2 }
 
     abbrev IsFree : MRow T → Type 0
     IsFree r = AreFree decides (row_key decides r) 0 r.heads
@@ -77,31 +77,32 @@ module _ {T : Type 0} (decides : ℕ → Decision) where
         (r : MRow T) → Among r (rows_at f place i rows) → IsFree r
     rows-free rows free good r j =
         let m = made rows r j in
-        let l = among-every (Left decides (row_key decides m.from) 0) (replacements_at f i m.from.heads) m.yield
+        let l = among-every (Left decides (row_key decides m.from) 0) (replacements_at f i m.from.heads) m.replacement
         (free-step decides Good width f divides (row_key decides m.from) 0 i m.from.heads
         (among-every (λ x. GoodAt Good i x.heads) rows m.from good m.of) (among-every IsFree rows m.from free m.of))
         m.by in
-        subst IsFree (sym m.is) (subst (λ k. AreFree decides k 0 m.yield.heads)
-        (sym (key-of-row place m.from m.yield)) l.free)
+        subst IsFree (sym m.is) (subst (λ k. AreFree decides k 0 m.replacement.heads)
+        (sym (key-of-row place m.from m.replacement)) l.free)
 
     abbrev MK : (rows : List (MRow T)) (r : MRow T) → Made rows r → Key
-    MK rows r m = both_keys (row_key decides m.from) (replacement_key decides m.yield)
+    MK rows r m = both_keys (row_key decides m.from) (replacement_key decides m.replacement)
 
     made-key : (rows : List (MRow T)) (r : MRow T) (m : Made rows r) → row_key decides r ≡ MK rows r m
-    made-key rows r m = ap (row_key decides) m.is ∙ key-of-row place m.from m.yield
+    made-key rows r m = ap (row_key decides) m.is ∙ key-of-row place m.from m.replacement
 
     abbrev Target : (rows : List (MRow T)) (r s : MRow T) → Made rows r → Made rows s → Type 0
-    Target rows r s m n = IsParted decides (MK rows r m) m.yield.heads (MK rows s n) n.yield.heads
+    Target rows r s m n = IsParted decides (MK rows r m) m.replacement.heads (MK rows s n) n.replacement.heads
 
     moved : (rows : List (MRow T)) (r s : MRow T) (m : Made rows r) (n : Made rows s) → Target rows r s m n →
         IsParted decides (row_key decides r) r.heads (row_key decides s) s.heads
     moved rows r s m n p =
-        let one : IsParted decides (row_key decides r) m.yield.heads (MK rows s n) n.yield.heads = subst
-        (λ k. IsParted decides k m.yield.heads (MK rows s n) n.yield.heads) (sym (made-key rows r m)) p in
-        let two : IsParted decides (row_key decides r) m.yield.heads (row_key decides s) n.yield.heads = subst
-        (λ k. IsParted decides (row_key decides r) m.yield.heads k n.yield.heads) (sym (made-key rows s n)) one in
-        let three : IsParted decides (row_key decides r) r.heads (row_key decides s) n.yield.heads = subst
-        (λ hs. IsParted decides (row_key decides r) hs (row_key decides s) n.yield.heads)
+        let one : IsParted decides (row_key decides r) m.replacement.heads (MK rows s n) n.replacement.heads = subst
+        (λ k. IsParted decides k m.replacement.heads (MK rows s n) n.replacement.heads) (sym (made-key rows r m)) p in
+        let two : IsParted decides (row_key decides r) m.replacement.heads (row_key decides s) n.replacement.heads = subst
+        (λ k. IsParted decides (row_key decides r) m.replacement.heads k n.replacement.heads)
+        (sym (made-key rows s n)) one in
+        let three : IsParted decides (row_key decides r) r.heads (row_key decides s) n.replacement.heads = subst
+        (λ hs. IsParted decides (row_key decides r) hs (row_key decides s) n.replacement.heads)
         (sym (ap (λ x. x.heads) m.is)) two in
         subst (λ hs. IsParted decides (row_key decides r) r.heads (row_key decides s) hs)
         (sym (ap (λ x. x.heads) n.is)) three
@@ -124,13 +125,13 @@ module _ {T : Type 0} (decides : ℕ → Decision) where
       same-row : (r s : MRow T) (m : Made rows r) (n : Made rows s) → m.from ≡ n.from →
           IsBefore (MK rows r m) (MK rows s n) → Target rows r s m n
       same-row r s m n e b =
-          let mine : Among n.yield (replacements_at f i m.from.heads) = subst
-          (λ x. Among n.yield (replacements_at f i x.heads)) (sym e) n.by in
-          let keys : both_keys (row_key decides m.from) (replacement_key decides n.yield) ≡ MK rows s n = ap
-          (λ x. both_keys (row_key decides x) (replacement_key decides n.yield)) e in
+          let mine : Among n.replacement (replacements_at f i m.from.heads) = subst
+          (λ x. Among n.replacement (replacements_at f i x.heads)) (sym e) n.by in
+          let keys : both_keys (row_key decides m.from) (replacement_key decides n.replacement) ≡ MK rows s n = ap
+          (λ x. both_keys (row_key decides x) (replacement_key decides n.replacement)) e in
           go keys (two-of (λ y z. IsParted decides (both_keys (row_key decides m.from)
           (replacement_key decides y)) y.heads (both_keys (row_key decides m.from) (replacement_key decides z)) z.heads)
-          (replacements_at f i m.from.heads) m.yield n.yield (row-divided decides Good width f divides
+          (replacements_at f i m.from.heads) m.replacement n.replacement (row-divided decides Good width f divides
           (row_key decides m.from) 0 i m.from.heads (good-of m.from m.of) (free-of m.from m.of)) m.by mine)
         where
           P : Replacement T → Replacement T → Type 0
@@ -138,14 +139,16 @@ module _ {T : Type 0} (decides : ℕ → Decision) where
               IsParted decides (both_keys (row_key decides m.from) (replacement_key decides y)) y.heads
               (both_keys (row_key decides m.from) (replacement_key decides z)) z.heads
 
-          go : both_keys (row_key decides m.from) (replacement_key decides n.yield) ≡ MK rows s n → (m.yield ≡ n.yield)
-              ⊎ (P m.yield n.yield ⊎ P n.yield m.yield) → Target rows r s m n
+          go : both_keys (row_key decides m.from) (replacement_key decides n.replacement) ≡ MK rows s n →
+              (m.replacement ≡ n.replacement)
+              ⊎ (P m.replacement n.replacement ⊎ P n.replacement m.replacement) → Target rows r s m n
           go keys (inl h) =
               let one : MK rows r m ≡ MK rows s n = ap (λ y. both_keys (row_key decides m.from)
               (replacement_key decides y)) h ∙ keys in
               let c : IsBefore (MK rows s n) (MK rows s n) = subst (λ k. IsBefore k (MK rows s n)) one b in
               absurd (before-asym (MK rows s n) (MK rows s n) c c)
-          go keys (inr (inl p)) = subst (λ k. IsParted decides (MK rows r m) m.yield.heads k n.yield.heads) keys p
+          go keys (inr (inl p)) =
+              subst (λ k. IsParted decides (MK rows r m) m.replacement.heads k n.replacement.heads) keys p
           go keys (inr (inr p)) =
               let c : IsBefore (MK rows s n) (MK rows r m) = subst (λ k. IsBefore k (MK rows r m)) keys p.before in
               absurd (before-asym (MK rows r m) (MK rows s n) b c)
@@ -170,10 +173,12 @@ module _ {T : Type 0} (decides : ℕ → Decision) where
               let e : m.from.arm ≡ n.from.arm = sym (arm-of r m) ∙ (b.0 ∙ arm-of s n) in absurd (omega (arith, l, e))
           go m n c (inr (inl (inr p))) =
               pickone (rows-parted decides Good width f divides (row_key decides m.from)
-              (row_key decides n.from) p.1.before 0 i m.from.heads n.from.heads m.yield n.yield (good-of m.from m.of)
+              (row_key decides n.from) p.1.before 0 i m.from.heads n.from.heads m.replacement n.replacement
+              (good-of m.from m.of)
               (good-of n.from n.of) (free-of m.from m.of) p.1.alike m.by n.by)
             where
-              pickone : StillEither decides p.1.before.at (MK rows r m) m.yield.heads (MK rows s n) n.yield.heads →
+              pickone : StillEither decides p.1.before.at (MK rows r m) m.replacement.heads
+                  (MK rows s n) n.replacement.heads →
                   Target rows r s m n
               pickone (inl q) = q.parted
               pickone (inr q) = absurd (before-asym (MK rows r m) (MK rows s n) c q.parted.before)
@@ -181,10 +186,12 @@ module _ {T : Type 0} (decides : ℕ → Decision) where
               let e : m.from.arm ≡ n.from.arm = sym (arm-of r m) ∙ (b.0 ∙ arm-of s n) in absurd (omega (arith, l, e))
           go m n c (inr (inr (inr p))) =
               pickone (rows-parted decides Good width f divides (row_key decides n.from)
-              (row_key decides m.from) p.1.before 0 i n.from.heads m.from.heads n.yield m.yield (good-of n.from n.of)
+              (row_key decides m.from) p.1.before 0 i n.from.heads m.from.heads n.replacement m.replacement
+              (good-of n.from n.of)
               (good-of m.from m.of) (free-of n.from n.of) p.1.alike n.by m.by)
             where
-              pickone : StillEither decides p.1.before.at (MK rows s n) n.yield.heads (MK rows r m) m.yield.heads →
+              pickone : StillEither decides p.1.before.at (MK rows s n) n.replacement.heads
+                  (MK rows r m) m.replacement.heads →
                   Target rows r s m n
               pickone (inl q) = absurd (before-asym (MK rows r m) (MK rows s n) c q.parted.before)
               pickone (inr q) = q.parted

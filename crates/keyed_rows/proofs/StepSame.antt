@@ -14,7 +14,7 @@ use Rattle.match_model.specs.KeyedWays.{KeyedTry, keyed_try, row_keyed_tries, ke
 use Rattle.keyed_rows.proofs.Parting.{among-map}
 use Rattle.keyed_rows.proofs.RowOrder.{among-flat, key-of-row}
 use Rattle.keyed_rows.proofs.Bindings.{Canonical, canonical-into, both-put, put_all, put-into}
-use Rattle.keyed_rows.proofs.PullOut.{Done, times, times-assoc, map-among, flat-among, done_of, yield_done, StepsAt, pull, push, Pulled}
+use Rattle.keyed_rows.proofs.PullOut.{Done, times, times-assoc, map-among, flat-among, done_of, replacement_done, StepsAt, pull, push, Pulled}
 
 module _ (v : MValue) where
   -- the binding of a name, where its place is there
@@ -67,7 +67,7 @@ module _ {T : Type 0} (decides : ℕ → Decision) (f : Head T → List (Replace
   R r = record { key = row_key decides r; bindings = bindings_in v r.caught }
 
   row-done : (r : MRow T) (y : Replacement T) → R (row_replaced e.place r y) ≡ times (R r)
-      (yield_done decides e.place v y)
+      (replacement_done decides e.place v y)
   row-done r y =
       rw (
         key-of-row decides e.place r y,
@@ -81,11 +81,11 @@ module _ {T : Type 0} (decides : ℕ → Decision) (f : Head T → List (Replace
 
   -- a way of the row, and one of a row that it becomes
   same-tried : (r : MRow T) (y : Replacement T) (a w : Way) →
-      done_of decides a ≡ times (yield_done decides e.place v y) (done_of decides w) →
+      done_of decides a ≡ times (replacement_done decides e.place v y) (done_of decides w) →
       keyed_try decides v r a ≡ keyed_try decides v (row_replaced e.place r y) w
   same-tried r y a w h =
       ap (λ d. as_tried r (times (R r) d)) h
-      ∙ (ap (as_tried r) (sym (times-assoc (R r) (yield_done decides e.place v y) (done_of decides w)
+      ∙ (ap (as_tried r) (sym (times-assoc (R r) (replacement_done decides e.place v y) (done_of decides w)
       (caught-canonical v r.caught) (caught-canonical v (map (bind_at e.place) y.binds))))
       ∙ ap (λ d. as_tried r (times d (done_of decides w))) (sym (row-done r y)))
 
@@ -112,14 +112,14 @@ module _ {T : Type 0} (decides : ℕ → Decision) (f : Head T → List (Replace
             Pulled decides f e new v canonical (λ y. caught-canonical v
             (map (bind_at e.place) y.binds)) canonical_ways i cs r.heads (done_of decides a) → Among z (After rows)
         go r j a h p =
-            subst (λ x. Among x (After rows)) (sym (h ∙ same-tried r p.yield a p.way p.is))
+            subst (λ x. Among x (After rows)) (sym (h ∙ same-tried r p.replacement a p.way p.is))
             (flat-among (row_keyed_tries decides (replaced_at i cs new) v) (rows_at f e.place i rows)
-            (row_replaced e.place r p.yield) (keyed_try decides v (row_replaced e.place r p.yield) p.way)
+            (row_replaced e.place r p.replacement) (keyed_try decides v (row_replaced e.place r p.replacement) p.way)
             (flat-among (λ x. map (row_replaced e.place x) (replacements_at f i x.heads)) rows r
-            (row_replaced e.place r p.yield) j (map-among (row_replaced e.place r)
-            (replacements_at f i r.heads) p.yield p.by))
-            (map-among (keyed_try decides v (row_replaced e.place r p.yield))
-            (heads_ways (replaced_at i cs new) p.yield.heads v) p.way p.of))
+            (row_replaced e.place r p.replacement) j (map-among (row_replaced e.place r)
+            (replacements_at f i r.heads) p.replacement p.by))
+            (map-among (keyed_try decides v (row_replaced e.place r p.replacement))
+            (heads_ways (replaced_at i cs new) p.replacement.heads v) p.way p.of))
 
     back : (rows : List (MRow T)) → Every (λ r. StepsAt decides f e new v i cs r.heads) rows → (z : KeyedTry) →
         Among z (After rows) → Among z (keyed_tries decides cs v rows)

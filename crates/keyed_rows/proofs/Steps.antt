@@ -24,7 +24,7 @@ use Rattle.keyed_rows.proofs.Lists.{every-map, every-to}
 use Rattle.keyed_rows.proofs.ArmWays.{pat-fine}
 use Rattle.keyed_rows.proofs.Parting.{among-every, among-map, Left, free-step}
 use Rattle.keyed_rows.proofs.Bindings.{Canonical, Differ, Apart}
-use Rattle.keyed_rows.proofs.PullOut.{left-among, right-among, Separate, times-swap, done_of, yield_done, HeadKeeps, StepsAt}
+use Rattle.keyed_rows.proofs.PullOut.{left-among, right-among, Separate, times-swap, done_of, replacement_done, HeadKeeps, StepsAt}
 use Rattle.keyed_rows.proofs.StepSame.{caught-canonical}
 use Rattle.keyed_rows.proofs.Canonical.{Named, named-into, Neat, pat-neat}
 
@@ -147,20 +147,21 @@ module _ {T : Type 0} (decides : ℕ → Decision) where
   abbrev pub BindsOwn : (Head T → List (Replacement T)) → Type 0
   BindsOwn f = (h : Head T) (y : Replacement T) → Among y (f h) → Every (λ b. Among b.name (head_names h)) y.binds
 
-  yields-named : (f : Head T → List (Replacement T)) → BindsOwn f → (i : ℕ) (hs : List (Head T)) (y : Replacement T) →
+  replacements-named : (f : Head T → List (Replacement T)) → BindsOwn f →
+      (i : ℕ) (hs : List (Head T)) (y : Replacement T) →
       Among y (replacements_at f i hs) → Every (λ b. Among b.name (flat_map head_names hs)) y.binds
-  yields-named f own i [] y a = elim a [ ]
-  yields-named f own zero (h ∷ hs) y a =
+  replacements-named f own i [] y a = elim a [ ]
+  replacements-named f own zero (h ∷ hs) y a =
       let m = among-map (with_others hs) (f h) y a in
       subst (λ (l : List MBound). Every (λ b. Among b.name (head_names h ++ flat_map head_names hs)) l)
       (sym (ap (λ x. x.binds) m.2))
       (every-to _ _ m.0.binds (λ b k. left-among (head_names h) (flat_map head_names hs) b.name k) (own h m.0 m.1))
-  yields-named f own (suc i) (h ∷ hs) y a =
+  replacements-named f own (suc i) (h ∷ hs) y a =
       let m = among-map (with_head h) (replacements_at f i hs) y a in
       subst (λ (l : List MBound). Every (λ b. Among b.name (head_names h ++ flat_map head_names hs)) l)
       (sym (ap (λ x. x.binds) m.2))
       (every-to _ _ m.0.binds (λ b k. right-among (head_names h) (flat_map head_names hs) b.name k)
-      (yields-named f own i hs m.0 m.1))
+      (replacements-named f own i hs m.0 m.1))
 
   module _ (Good : Head T → Type 0) (width : ℕ) (f : Head T → List (Replacement T))
       (divides : Divides decides Good width f) (own : BindsOwn f) (e : MColumn T) (new : List (MColumn T))
@@ -176,7 +177,7 @@ module _ {T : Type 0} (decides : ℕ → Decision) where
         let column : c ≡ e = cc in
         (column, subst (HeadKeeps decides f e new v) (sym same) keeps)
     steps-at k low (suc i) (c ∷ cs) (g ∷ hs) caught there free good names h at keeps = (
-      (λ a j y m. times-swap (done_of decides a) (yield_done decides e.place v y)
+      (λ a j y m. times-swap (done_of decides a) (replacement_done decides e.place v y)
           (separate a y (way-at free.0 g (position_at c.place v) (part_at c.place v) a free.2 j).above (late y m))
           (way-at free.0 g (position_at c.place v) (part_at c.place v) a free.2 j).neat.canonical
           (caught-canonical v (map (bind_at e.place) y.binds))
@@ -184,7 +185,7 @@ module _ {T : Type 0} (decides : ℕ → Decision) where
           (bindings_in v (map (bind_at e.place) y.binds)) apart (way-at free.0 g (position_at c.place v)
           (part_at c.place v) a free.2 j).neat.named
           (caught-named v (flat_map head_names hs) (map (bind_at e.place) y.binds)
-          (placed-named e.place (flat_map head_names hs) y.binds (yields-named f own i hs y m))))),
+          (placed-named e.place (flat_map head_names hs) y.binds (replacements-named f own i hs y m))))),
       steps-at k (head_count g + free.0) i cs hs caught there free.4 good rest h at keeps,
     )
       where

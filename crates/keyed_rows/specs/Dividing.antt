@@ -43,11 +43,11 @@ AreFree decides k low (h ∷ hs) = (n : ℕ) × (low ≤ n) × IsHeadNumbered de
 abbrev pub IsAbove : {T : Type 0} → (decides : ℕ → Decision) → ℕ → Head T → Type 0
 IsAbove decides d h = (n : ℕ) × (d < n) × IsHeadNumbered decides n h
 
--- what a yield decided
+-- what a replacement decided
 abbrev pub replacement_key : {T : Type 0} → (decides : ℕ → Decision) → Replacement T → Key
 replacement_key decides y = key_of (map decides y.chosen)
 
--- a yield of a head whose numbers are from `low` to `high`: it decided the first of them, and its heads have the others
+-- a replacement of a head whose numbers are from `low` to `high`: it decided the first of them, and its heads have the others
 pub record IsReplacement {T : Type 0} (decides : ℕ → Decision) (low high width : ℕ) (y : Replacement T) : Type 0 where
   pub middle : ℕ
   pub from : low ≤ middle
@@ -55,7 +55,7 @@ pub record IsReplacement {T : Type 0} (decides : ℕ → Decision) (low high wid
   pub left : HeadsWithin decides middle high y.heads
   pub wide : length y.heads ≡ width
 
--- two yields of a head: the first or-pattern that they decided differently, all others that are left come later
+-- two replacements of a head: the first or-pattern that they decided differently, all others that are left come later
 pub record AreReplacements {T : Type 0} (decides : ℕ → Decision) (y z : Replacement T) : Type 0 where
   pub before : IsBefore (replacement_key decides y) (replacement_key decides z)
   pub first_above : Every (IsAbove decides before.at) y.heads

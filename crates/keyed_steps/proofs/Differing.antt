@@ -114,13 +114,13 @@ module _ {T : Type 0} where
     apart-append xs ys p.1 q (λ n a b. d n (right-among (head_names x) (names_of xs) n a) b),
   )
 
-  -- a yield in a row, of heads of which each has good yields
+  -- a replacement in a row, of heads of which each has good replacements
   module _ (f : Head T → List (Replacement T)) (each : (h : Head T) (y : Replacement T) → Among y (f h) →
       IsFineReplacement h y) where
-    pub yield-inside : (i : ℕ) (hs : List (Head T)) (y : Replacement T) → Among y (replacements_at f i hs) →
+    pub replacement-inside : (i : ℕ) (hs : List (Head T)) (y : Replacement T) → Among y (replacements_at f i hs) →
         IsInside (bound_names y.binds) (names_of hs) × IsInside (names_of y.heads) (names_of hs)
-    yield-inside i [] y a = elim a [ ]
-    yield-inside zero (h ∷ hs) y a =
+    replacement-inside i [] y a = elim a [ ]
+    replacement-inside zero (h ∷ hs) y a =
         let m = among-map (with_others hs) (f h) y a in
         let g : IsFineReplacement h m.0 = each h m.0 m.1 in
         subst (λ (z : Replacement T). IsInside (bound_names z.binds) (names_of (h ∷ hs))
@@ -132,9 +132,9 @@ module _ {T : Type 0} where
             | inr k ↦ right-among (head_names h) (names_of hs) n k
           ],
         )
-    yield-inside (suc i) (h ∷ hs) y a =
+    replacement-inside (suc i) (h ∷ hs) y a =
         let m = among-map (with_head h) (replacements_at f i hs) y a in
-        let g = yield-inside i hs m.0 m.1 in
+        let g = replacement-inside i hs m.0 m.1 in
         subst (λ (z : Replacement T). IsInside (bound_names z.binds) (names_of (h ∷ hs))
         × IsInside (names_of z.heads) (names_of (h ∷ hs))) (sym m.2) (
           λ n b. right-among (head_names h) (names_of hs) n (g.0 n b),
@@ -183,13 +183,16 @@ module _ {T : Type 0} where
               (right-among (head_names h) (names_of hs) n q);
           apart = g.apart.1;
         }) in
-        let e = yield-inside i hs m.0 m.1 in
+        let e = replacement-inside i hs m.0 m.1 in
         subst (λ (z : Replacement T). AreFine (caught ++ bound_names z.binds) z.heads) (sym m.2) (record {
           distinct = k.distinct;
           each = (g.each.0, k.each);
           beside = λ n p q. elim (among-append (head_names h) (names_of m.0.heads) n q) [
-            | inl j ↦ (elim (among-append caught (bound_names m.0.binds) n p)
-                [ inl c ↦ g.beside n c (left-among (head_names h) (names_of hs) n j) | inr c ↦ g.apart.0 n j (e.0 n c) ])
+            | inl j ↦ (elim (among-append caught (bound_names m.0.binds) n p) [
+              | inl c ↦ g.beside n c (left-among (head_names h) (names_of hs) n j)
+              | inr c ↦ g.apart.0 n j
+                  (e.0 n c)
+            ])
             | inr j ↦ k.beside n p j
           ];
           apart = (λ n p q. g.apart.0 n p (e.1 n q), k.apart);

@@ -30,7 +30,7 @@ use Rattle.keyed_steps.proofs.PieceParts.{parts_by, piece-parts}
 use Rattle.keyed_steps.proofs.OwnNames.{own-bound}
 use Rattle.keyed_steps.proofs.HeadCounts.{IsWritten, own-parts, written, head-count}
 
--- a head without yields and without ways
+-- a head without replacements and without ways
 pub none-keeps : {T : Type 0} (decides : ℕ → Decision) (f : Head T → List (Replacement T)) (e : MColumn T)
     (new : List (MColumn T)) (v u : MValue) (is : List ℕ) → part_at e.place v ≡ Some u →
     position_at e.place v ≡ Some is → (h : Head T) →

@@ -28,7 +28,7 @@ use Rattle.keyed_steps.specs.Names.{AreFine, IsFineReplacement}
 use Rattle.keyed_steps.specs.Good.{IsMadeHead, IsPlainHead, IsGoodRow, IsGoodColumn, IsGood, IsReady}
 use Rattle.keyed_steps.specs.Piecewise.{PiecesFit, IsFit}
 use Rattle.keyed_steps.proofs.Differing.{fine-to, fine-from, fine-step}
-use Rattle.keyed_steps.proofs.YieldNames.{expand-fine, piece-fine, drop-fine}
+use Rattle.keyed_steps.proofs.ReplacementNames.{expand-fine, piece-fine, drop-fine}
 use Rattle.keyed_steps.proofs.HeadsAfter.{IsOneHead, expand-after, drop-after, piece-made, piece-after}
 use Rattle.keyed_steps.proofs.PartTypes.{columns-good}
 use Rattle.keyed_steps.proofs.Standing.{column-at, good-at, good-from}

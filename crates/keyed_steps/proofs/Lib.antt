@@ -16,9 +16,9 @@ pub mod OpeningRows
 pub mod OwnNames
 pub mod PartTypes
 pub mod PieceParts
+pub mod ReplacementNames
 pub mod RowItems
 pub mod Same
 pub mod SingleParts
 pub mod Standing
 pub mod VariantParts
-pub mod YieldNames

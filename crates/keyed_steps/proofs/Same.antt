@@ -32,7 +32,7 @@ use Rattle.keyed_steps.specs.Fits.{HeadFits, FitsPiece}
 use Rattle.keyed_steps.specs.Names.{IsInside, IsFineReplacement}
 use Rattle.keyed_steps.specs.Good.{IsPlainHead, IsGoodRow, IsGoodColumn, IsGood, IsReady}
 use Rattle.keyed_steps.specs.Piecewise.{PiecesFit, IsFit}
-use Rattle.keyed_steps.proofs.YieldNames.{expand-fine, piece-fine, drop-fine}
+use Rattle.keyed_steps.proofs.ReplacementNames.{expand-fine, piece-fine, drop-fine}
 use Rattle.keyed_steps.proofs.HeadCounts.{head-count}
 use Rattle.keyed_steps.proofs.HeadEnters.{head-enters}
 use Rattle.keyed_steps.proofs.HeadExpands.{PassesBy, head-expands, head-drops}
@@ -119,7 +119,7 @@ wild-head {T} i (x ∷ rows) r h a e w = elim a [
 module _ {T : Type 0} (IsType : T → Type 0) (cx : Context T) (V : T → Bool → MValue → Type 0)
     (law : PartsLaw IsType V cx) (values : ValuesLaw IsType V cx) (decides : ℕ → Decision)
     (fit : PiecesFit IsType cx decides) where
-  -- a step whose yields keep the ways of each head there
+  -- a step whose replacements keep the ways of each head there
   module _ (f : Head T → List (Replacement T)) (fine : (h : Head T) (y : Replacement T) → Among y (f h) →
       IsFineReplacement h y) (Good : Head T → Type 0) (width : ℕ) (divides : Divides decides Good width f)
       (i : ℕ) (c : MColumn T) (columns new : List (MColumn T)) (v : MValue) (there : slice_get columns i ≡ Some c) where

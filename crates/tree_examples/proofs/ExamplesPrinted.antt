@@ -91,7 +91,7 @@ marked_tree =
 abbrev flag_column : MColumn MType
 flag_column = record { place = []; type = BoolType; sure = true }
 
-abbrev one_arm : MDePat MType → MDeMatch MType
+abbrev pub one_arm : MDePat MType → MDeMatch MType
 one_arm p = record { type = BoolType; sure = true; arms = record { pat = p; guarded = false } ∷ [] }
 
 abbrev either_wild : MDePat MType

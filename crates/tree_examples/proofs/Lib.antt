@@ -4,3 +4,4 @@ mod ExamplesShared
 mod ExamplesPrinted
 mod ExamplesPairs
 mod ExamplesFewest
+mod ExamplesGood

@@ -472,7 +472,8 @@ module _ {T : Type 0} (cx : Context T) (V : T → Bool → MValue → Type 0) (d
           absurd m.0
       branches-run _ _ _ _ _ _ _ (no_else i c columns rows all none) v seen tried answers g done l n sub d (inr m) =
           absurd (none g.q (among-contains all g.q g.of, m) (g.looks.u, g.looks.is, g.built))
-      branches-run _ _ _ _ _ _ _ (with_else i c columns rows next all piece tree m h o t) v seen tried answers g done l n sub d (inl x) =
+      branches-run _ _ _ _ _ _ _ (with_else i c columns rows next all piece tree m h o t) v seen tried answers g done l
+          n sub d (inl x) =
           absurd x.0
       branches-run _ _ _ _ _ _ _ (with_else i c columns rows next all piece tree m h o t) v seen tried answers g done l
           n sub d (inr x) =
