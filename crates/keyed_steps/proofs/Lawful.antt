@@ -1,7 +1,6 @@
 -- A lawful context is an engine, where its pieces fit the heads of each column and cut it once.
 use Rattle.std.proofs.Common.{ℕ, Bool}
 use Rattle.match_model.specs.Values.{MValue}
-use Rattle.match_model.specs.Constructors.{MCtor}
 use Rattle.match_model.specs.Contexts.{Context}
 use Rattle.match_model.specs.ContextLaws.{PartsLaw, ValuesLaw}
 use Rattle.match_model.specs.PieceStates.{named_in}

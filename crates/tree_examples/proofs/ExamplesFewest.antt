@@ -1,14 +1,13 @@
 -- A worked example: `(0, true) => .., (1, true) => .., (_, true) => .., (_, false) => ..` on a byte and a flag. The flag has
 -- two branches and the byte three, so the flag is looked at first.
-use Rattle.std.proofs.Common.{◌≡◌, ◌<◌, ◌≤◌, ◌↔◌, ◌⊎◌, inl, inr, ℕ, zero, suc, ℤ, pos, ◌-ℤ◌, Bool, true, false, ◌||◌, List, [], ◌∷◌, Some, slice_get, int_eq, refl, sym, ap, ◌∙◌, subst, arith, IsTrue}
-use Rattle.std.specs.List.{Contains}
+use Rattle.std.proofs.Common.{◌≡◌, ◌<◌, ◌≤◌, ◌↔◌, ◌⊎◌, inl, inr, ℕ, zero, suc, ℤ, pos, ◌-ℤ◌, Bool, true, false, ◌||◌, List, [], ◌∷◌, Some, slice_get, int_eq, refl, sym, ◌∙◌, subst, arith, IsTrue}
 use Rattle.match_model.specs.declared.IntKind.TheVariants.{U8}
 use Rattle.match_model.specs.Types.{MType, BoolType, IntType, TupleType, no_types, more_types}
 use Rattle.match_model.specs.Values.{MValue, Flag, Num, Unseen}
 use Rattle.match_model.specs.Numbers.{MRange, At}
 use Rattle.match_model.specs.Constructors.{MCtor, FlagCtor, NumbersCtor, SingleCtor, WildCtor}
 use Rattle.match_model.specs.ArenaPatterns.{MDePat, de_pat, no_de_pats, de_pats_of, MDeArm, MDeMatch}
-use Rattle.match_model.specs.Pieces.{one_more, last_one, IsCut, is_cut_at}
+use Rattle.match_model.specs.Pieces.{one_more, last_one, IsCut}
 use Rattle.match_model.specs.Places.{MStep, FieldStep}
 use Rattle.match_model.specs.Trees.{FlagCase, SpanCase, ElseCase, MNode, SwitchNode, TakeNode}
 use Rattle.match_model.specs.PieceStates.{is_present}
@@ -16,11 +15,10 @@ use Rattle.match_model.specs.Matrices.{MColumn, MRow, first_matrix}
 use Rattle.match_model.specs.RustTypes.{rust_context, RustValue}
 use Rattle.match_model.specs.DecisionTrees.{IsMissing, MTree, SwitchTree, TakeTree, no_branch, more_branches}
 use Rattle.match_model.specs.Lists.{Among}
-use Rattle.match_model.specs.Keys.{Decision}
 use Rattle.match_model.specs.Numbering.{match_decisions}
 use Rattle.match_model.specs.Steps.{expand_head, specialise_head, default_head, rows_at}
-use Rattle.match_model.specs.Lowering.{ctors_at, all_wild_at, Lowers, takes, opens, switches, no_else, with_else, no_case, one_case}
-use Rattle.match_model.specs.FewestBranches.{as_cases, nothing_missing, something_missing, no_branch_of, branch_of, is_asked}
+use Rattle.match_model.specs.Lowering.{ctors_at, Lowers, takes, opens, switches, no_else, with_else, no_case, one_case}
+use Rattle.match_model.specs.FewestBranches.{as_cases, nothing_missing, something_missing, no_branch_of, branch_of}
 use Rattle.match_model.specs.SharedTrees.{to_take, to_switch, nothing, last_first, switch_of, take_of}
 use Rattle.match_model.specs.MatchTree.{IsMatchTree, lowered}
 use Rattle.tree_laws.proofs.OneTree.{clash}

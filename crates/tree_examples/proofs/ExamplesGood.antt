@@ -1,6 +1,6 @@
 -- A worked example: what the theorem on trees asks is met by a match of Rust, so its printed tree is good.
-use Rattle.std.proofs.Common.{◌≡◌, ◌<◌, ◌^◌, ℕ, zero, suc, Bool, true, false, List, [], ◌∷◌, map, length, nat_eq, Some, slice_get, refl, sym, subst, arith, IsTrue}
-use Rattle.std.specs.List.{flat_map, Contains, IsDistinct}
+use Rattle.std.proofs.Common.{◌≡◌, ◌<◌, ◌^◌, ℕ, zero, suc, true, false, [], ◌∷◌, length, nat_eq, Some, slice_get, refl, subst, arith, IsTrue}
+use Rattle.std.specs.List.{Contains, IsDistinct}
 use Rattle.match_model.specs.Types.{MType, BoolType, DeclaredItem, NamedType, MTypes, no_types, types_list}
 use Rattle.match_model.specs.Values.{MValue, Later, Unseen}
 use Rattle.match_model.specs.Declarations.{item_types}
@@ -8,7 +8,7 @@ use Rattle.match_model.specs.Typing.{is_value}
 use Rattle.match_model.specs.RustTypes.{rust_context, RustValue, IsSoundProgram, are_types, is_declared}
 use Rattle.match_model.specs.Emptiness.{IsRustType}
 use Rattle.match_model.specs.ArenaPatterns.{MDeArm}
-use Rattle.match_model.specs.WellTyped.{uids_in, names_differ, IsTyped, IsWellTyped}
+use Rattle.match_model.specs.WellTyped.{names_differ, IsTyped, IsWellTyped}
 use Rattle.match_model.specs.Trees.{FlagCase, ElseCase, SwitchNode, TakeNode, MissNode}
 use Rattle.match_model.specs.FewestBranches.{IsFewest}
 use Rattle.match_model.proofs.RustParts.{rust_parts}
