@@ -27,6 +27,7 @@ pub mod ContextLemmas
 pub mod LookupLemmas
 pub mod PathLemmas
 pub mod FoundForms
+pub mod DeclaredNames
 pub mod AllRules
 pub mod FirstFaults
 pub mod Examples

@@ -30,6 +30,20 @@ is_known_head items (heads.Named (owners.Item i)) n = declares_type (slice_get i
 is_known_head items (heads.Named owners.Option) n = true
 is_known_head items (heads.Named owners.Result) n = true
 
+-- a tuple with so many parts has fewer than 2^32
+abbrev pub has_few : Head → (parts : ℕ) → Bool
+has_few (heads.Base b) n = true
+has_few (heads.Opaque o) n = true
+has_few heads.Tuple n = nat_lt n (2 ^ 32)
+has_few (heads.Point mutable) n = true
+has_few heads.Slice n = true
+has_few (heads.Array len) n = true
+has_few (heads.Named o) n = true
+
+-- the node, if it is a tuple, has fewer than 2^32 parts
+abbrev pub HasFewParts : declared_node.Node → Type 0
+HasFewParts n = has_few n.head (length n.parts.items) ≡ true
+
 -- the node is of a type of the program
 abbrev pub IsKnown : List Entry → declared_node.Node → Type 0
 IsKnown items n = is_known_head items n.head (length n.parts.items) ≡ true

@@ -21,8 +21,8 @@ use std::alloc::Global;
 
 impl TypeTable {
     /// The table of a file for this width of `usize` and `isize`, or the first item that breaks one of the rules 10 to
-    /// 19 and 36, with the least rule that it breaks. More than 2,147,483,647 items or types are refused as want of
-    /// memory.
+    /// 19 and 36, with the least rule that it breaks. Refused as want of memory are more than 2,147,483,647 items
+    /// or types, and 4,294,967,296 parts of a tuple, variants of an enum or fields of a variant and more.
     pub fn build(alloc: Global, file: &File, width: Width) -> Result<TypeTable, DeclFault>
         ensures table { IfOk result (IsTableOf (file_view file.now) width) }
         ensures fault { IfErr result (IsFaultOf (file_view file.now) width) }

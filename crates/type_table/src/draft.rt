@@ -4,7 +4,7 @@ ghost use Rattle.decl_syntax.specs.Items.{file_view};
 ghost use Rattle.type_table.specs.Tables.{IsDraftOf};
 
 use crate::entries::{Entry, all_entries};
-use crate::known::are_known;
+use crate::known::are_few;
 use crate::nodes::Node;
 use crate::values::counted_values;
 use decl_syntax::File;
@@ -33,9 +33,8 @@ pub(crate) fn assemble(alloc: Global, file: &File, width: Width) -> Result<Draft
     let names = Names::new(alloc, file)?;
     let mut nodes = IndexSet::new(alloc);
     let items = all_entries(alloc, &names, &mut nodes, &file.items)?;
-    // A name stands for a type only where an item declares it, so all that this refuses is 2^32 parts, variants or
-    // fields and more, as want of memory. That all names are declared is seen here and nowhere else.
-    if !are_known(nodes.as_slice(), &items) {
+    // 2^32 parts, variants or fields are refused as want of memory.
+    if !are_few(nodes.as_slice(), &items) {
         return Err(NoMemory);
     }
     let values = counted_values(alloc, true, nodes.as_slice(), &items)?;

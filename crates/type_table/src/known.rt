@@ -1,31 +1,44 @@
-//! Whether the types of a table are types of the program: the names of its nodes are declared, and parts, variants,
-//! fields and lengths are fewer than 2^32.
-ghost use Rattle.std.specs.Prelude.{◌≡◌, ◌↔◌, true, IsTrue, Some, slice_get, length};
+//! Whether tuples, variants and fields are fewer than 2^32, so that their numbers are `u32`.
+ghost use Rattle.std.specs.Prelude.{◌≡◌, ◌↔◌, true, IsTrue};
 ghost use Rattle.std.specs.List.{All};
-ghost use Rattle.type_table.specs.Known.{declares_type, is_known_head, IsKnown, HasFewFields, IsFew};
+ghost use Rattle.type_table.specs.Known.{HasFewParts, HasFewFields, IsFew};
 
 use crate::entries::{Entry, VariantEntry};
 use crate::nodes::{Head, Node};
-use type_names::Owner;
 
-/// Whether all nodes and entries are of types of the program.
-pub(crate) fn are_known(nodes: &[Node], items: &[Entry]) -> bool
-    ensures nodes { result ≡ true → All (IsKnown items.now) nodes.now }
+/// Whether each tuple has fewer than 2^32 parts, each enum as few variants, and each variant as few fields.
+pub(crate) fn are_few(nodes: &[Node], items: &[Entry]) -> bool
+    ensures nodes { result ≡ true → All HasFewParts nodes.now }
     ensures items { result ≡ true → All IsFew items.now }
 {
-    nodes_are_known(nodes, items) && items_are_few(items)
+    nodes_are_few(nodes) && items_are_few(items)
 }
 
-// Whether all nodes are of types of the program.
-fn nodes_are_known(nodes: &[Node], items: &[Entry]) -> bool
-    ensures { IsTrue result ↔ All (IsKnown items.now) nodes.now }
+// Whether each tuple has fewer than 2^32 parts.
+fn nodes_are_few(nodes: &[Node]) -> bool
+    ensures { IsTrue result ↔ All HasFewParts nodes.now }
 {
     for node in nodes {
-        if !is_known(node, items) {
+        if !has_few_parts(node) {
             return false;
         }
     }
     true
+}
+
+// Whether the node, if it is a tuple, has fewer than 2^32 parts.
+fn has_few_parts(node: &Node) -> bool
+    ensures { IsTrue result ↔ HasFewParts node.now }
+{
+    match node.head {
+        Head::Base(_) => true,
+        Head::Opaque(_) => true,
+        Head::Tuple => node.parts.len() < 4_294_967_296,
+        Head::Point(_) => true,
+        Head::Slice => true,
+        Head::Array(_) => true,
+        Head::Named(_) => true,
+    }
 }
 
 // Whether all items have fewer than 2^32 variants, each with fewer than 2^32 fields.
@@ -38,45 +51,6 @@ fn items_are_few(items: &[Entry]) -> bool
         }
     }
     true
-}
-
-// Whether the node is of a type of the program.
-fn is_known(node: &Node, items: &[Entry]) -> bool
-    ensures { result ≡ is_known_head items.now node.now.head (length node.now.parts.items) }
-{
-    match node.head {
-        Head::Base(_) => true,
-        Head::Opaque(_) => true,
-        Head::Tuple => node.parts.len() < 4_294_967_296,
-        Head::Point(_) => true,
-        Head::Slice => true,
-        Head::Array(n) => n < 4_294_967_296,
-        Head::Named(Owner::Item(i)) => is_declared(items, i as usize),
-        Head::Named(Owner::Option) => true,
-        Head::Named(Owner::Result) => true,
-    }
-}
-
-// Whether the item with this number is a struct or an enum.
-fn is_declared(items: &[Entry], i: usize) -> bool
-    ensures { result ≡ declares_type (slice_get items.now i) }
-{
-    match items.get(i) {
-        Some(entry) => entry_declares(entry),
-        None => false,
-    }
-}
-
-// Whether the item is a struct or an enum.
-fn entry_declares(entry: &Entry) -> bool
-    ensures { result ≡ declares_type (Some entry.now) }
-{
-    match entry {
-        Entry::Struct { .. } => true,
-        Entry::Enum { .. } => true,
-        Entry::Function { .. } => false,
-        Entry::Import => false,
-    }
 }
 
 // Whether the item has fewer than 2^32 variants, each with fewer than 2^32 fields.
