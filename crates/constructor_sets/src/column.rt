@@ -4,7 +4,8 @@ ghost use Rattle.std.specs.List.{All, list_any, filter_map};
 ghost use Rattle.pat_context.specs.Views.{plain_ctor, plain_set, is_sure};
 ghost use Rattle.constructor_sets.specs.Columns.{plain_ctors, plain_piece};
 ghost use Rattle.constructor_sets.specs.Spans.{plain_span};
-ghost use Rattle.constructor_sets.specs.Present.{is_sharp_head, present_piece, is_missing, gap_of, AreFound, ArePresent};
+ghost use Rattle.constructor_sets.specs.Present.{is_sharp_head, present_piece, is_missing, gap_of, AreFound};
+ghost use Rattle.constructor_sets.specs.Present.{ArePresent};
 
 use crate::spans::spans_of;
 use crate::split::split_column;
@@ -29,7 +30,9 @@ pub fn present<'a, C: PatCx>(
 ) -> Result<PresentPieces<'a>, NoMemory>
     requires ty { C.is_type cx.now ty }
     requires heads { All (λ h. IsTrue (is_sharp_head ((C.context cx.now).set_of ty) h)) (plain_ctors heads.now) }
-    ensures { IfOk result (λ p. ArePresent (C.is_value cx.now) (C.context cx.now) (record { type = ty; sure = is_sure validity }) (plain_ctors heads.now) (plain_ctors p.ctors.items) p.missing (plain_ctors p.gaps.items) (map plain_span p.spans.items)) }
+    ensures { IfOk result (λ p. ArePresent (C.is_value cx.now) (C.context cx.now)
+        (record { type = ty; sure = is_sure validity }) (plain_ctors heads.now)
+        (plain_ctors p.ctors.items) p.missing (plain_ctors p.gaps.items) (map plain_span p.spans.items)) }
 {
     let found = found_by_set(alloc, cx, ty, validity, heads)?;
     let spans = spans_of(alloc, &found.ctors, heads)?;
@@ -62,7 +65,9 @@ fn found_by_set<'a, C: PatCx>(
 ) -> Result<Found<'a>, NoMemory>
     requires ty { C.is_type cx.now ty }
     requires heads { All (λ h. IsTrue (is_sharp_head ((C.context cx.now).set_of ty) h)) (plain_ctors heads.now) }
-    ensures { IfOk result (λ f. AreFound (C.is_value cx.now) (C.context cx.now) (record { type = ty; sure = is_sure validity }) (plain_ctors heads.now) (plain_ctors f.ctors.items) f.missing (plain_ctors f.gaps.items)) }
+    ensures { IfOk result (λ f. AreFound (C.is_value cx.now) (C.context cx.now)
+        (record { type = ty; sure = is_sure validity }) (plain_ctors heads.now)
+        (plain_ctors f.ctors.items) f.missing (plain_ctors f.gaps.items)) }
 {
     match cx.set(ty) {
         CtorSet::Variants { count, later } => found_variants(
@@ -82,7 +87,9 @@ fn found_pieces<'a, C: PatCx>(
 ) -> Result<Found<'a>, NoMemory>
     requires ty { C.is_type cx.now ty }
     requires heads { All (λ h. IsTrue (is_sharp_head ((C.context cx.now).set_of ty) h)) (plain_ctors heads.now) }
-    ensures { IfOk result (λ f. AreFound (C.is_value cx.now) (C.context cx.now) (record { type = ty; sure = is_sure validity }) (plain_ctors heads.now) (plain_ctors f.ctors.items) f.missing (plain_ctors f.gaps.items)) }
+    ensures { IfOk result (λ f. AreFound (C.is_value cx.now) (C.context cx.now)
+        (record { type = ty; sure = is_sure validity }) (plain_ctors heads.now)
+        (plain_ctors f.ctors.items) f.missing (plain_ctors f.gaps.items)) }
 {
     let split = split_column(alloc, cx, ty, validity, heads)?;
     by_states(alloc, &split.pieces)
@@ -90,7 +97,8 @@ fn found_pieces<'a, C: PatCx>(
 
 // The pieces that are present, whether some is missing, and the missing ranges and lengths.
 fn by_states<'a>(alloc: Global, pieces: &[Piece<'a>]) -> Result<Found<'a>, NoMemory>
-    ensures present { IfOk result (λ f. plain_ctors f.ctors.items ≡ filter_map present_piece (map plain_piece pieces.now)) }
+    ensures present { IfOk result (λ f. plain_ctors f.ctors.items ≡ filter_map present_piece
+        (map plain_piece pieces.now)) }
     ensures missing { IfOk result (λ f. f.missing ≡ list_any is_missing (map plain_piece pieces.now)) }
     ensures gaps { IfOk result (λ f. plain_ctors f.gaps.items ≡ filter_map gap_of (map plain_piece pieces.now)) }
 {
@@ -107,9 +115,11 @@ fn by_states<'a>(alloc: Global, pieces: &[Piece<'a>]) -> Result<Found<'a>, NoMem
 
 // Adds what is found of one piece more.
 fn add_piece<'a>(found: &mut Found<'a>, piece: &Piece<'a>) -> Result<(), NoMemory>
-    ensures present { OnOk result (plain_ctors found.new.ctors.items ≡ plain_ctors found.old.ctors.items ++ filter_map present_piece (plain_piece piece.now ∷ [])) }
+    ensures present { OnOk result (plain_ctors found.new.ctors.items ≡ plain_ctors found.old.ctors.items
+        ++ filter_map present_piece (plain_piece piece.now ∷ [])) }
     ensures missing { OnOk result (found.new.missing ≡ (found.old.missing || is_missing (plain_piece piece.now))) }
-    ensures gaps { OnOk result (plain_ctors found.new.gaps.items ≡ plain_ctors found.old.gaps.items ++ filter_map gap_of (plain_piece piece.now ∷ [])) }
+    ensures gaps { OnOk result (plain_ctors found.new.gaps.items ≡ plain_ctors found.old.gaps.items
+        ++ filter_map gap_of (plain_piece piece.now ∷ [])) }
 {
     match piece.state {
         PieceState::Present => found.ctors.push(piece.ctor)?,
@@ -123,7 +133,8 @@ fn add_piece<'a>(found: &mut Found<'a>, piece: &Piece<'a>) -> Result<(), NoMemor
 fn add_missing<'a>(found: &mut Found<'a>, ctor: &Ctor<'a>) -> Result<(), NoMemory>
     ensures present { OnOk result (found.new.ctors ≡ found.old.ctors) }
     ensures missing { OnOk result (found.new.missing ≡ true) }
-    ensures gaps { OnOk result (plain_ctors found.new.gaps.items ≡ plain_ctors found.old.gaps.items ++ filter_map gap_of ((plain_ctor ctor.now, PieceState.Missing) ∷ [])) }
+    ensures gaps { OnOk result (plain_ctors found.new.gaps.items ≡ plain_ctors found.old.gaps.items
+        ++ filter_map gap_of ((plain_ctor ctor.now, PieceState.Missing) ∷ [])) }
 {
     found.missing = true;
     match ctor {

@@ -1,7 +1,8 @@
 //! What the pieces of a column are, whatever code finds them: each function has an empty body, and its contract is a
 //! law.
 
-ghost use Rattle.constructor_sets.specs.Laws.{EachByOnePiece, PiecesFitColumns, PiecesStandInOrder, PieceValuesAreTold};
+ghost use Rattle.constructor_sets.specs.Laws.{EachByOnePiece, PiecesFitColumns, PiecesStandInOrder};
+ghost use Rattle.constructor_sets.specs.Laws.{PieceValuesAreTold};
 
 use pat_context::PatCx;
 
@@ -22,7 +23,8 @@ pub fn pieces_stand_in_order()
 
 /// Which pieces of a column have values at a sure or an unsure place is told by the emptiness of types and variants.
 pub fn piece_values_are_told<C: PatCx>(cx: &C)
-    ensures { PieceValuesAreTold (C.is_type cx.now) (C.is_value cx.now) (C.context cx.now) (C.empty_of cx.now) (C.variant_empty_of cx.now) }
+    ensures { PieceValuesAreTold (C.is_type cx.now) (C.is_value cx.now) (C.context cx.now) (C.empty_of cx.now)
+        (C.variant_empty_of cx.now) }
 {}
 
 #[cfg(test)]

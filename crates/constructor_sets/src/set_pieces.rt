@@ -2,14 +2,16 @@
 ghost use Rattle.std.specs.Prelude.{◌≡◌, ◌<◌, ◌^◌, IsTrue, IfOk, OnOk, map, length, true};
 ghost use Rattle.std.specs.List.{All, list_any, filter_map};
 ghost use Rattle.std.specs.Str.{IsUtf8};
-ghost use Rattle.match_model.specs.Constructors.{VariantSet, NumberSet, SingleSet, PointSet, FlagSet, TextSet, RowSet, VariantCtor, TextCtor, RowCtor};
+ghost use Rattle.match_model.specs.Constructors.{VariantSet, NumberSet, SingleSet, PointSet, FlagSet, TextSet};
+ghost use Rattle.match_model.specs.Constructors.{RowSet, VariantCtor, TextCtor, RowCtor};
 ghost use Rattle.match_model.specs.ContextLaws.{RangesAscend};
 ghost use Rattle.match_model.specs.Pieces.{range_of, text_of, AreNamed, each_below};
 ghost use Rattle.range_split.specs.Splits.{plain_ranges, HasRoomBelow, HasRoomAbove};
 ghost use Rattle.slice_split.specs.Shapes.{plain_shapes, plain_pieces};
 ghost use Rattle.range_split.specs.Ranges.{plain_range};
 ghost use Rattle.pat_context.specs.Views.{plain_ctor, plain_set, plain_second};
-ghost use Rattle.constructor_sets.specs.Columns.{is_head, writes, plain_ctors, plain_flagged, plain_texts, IsSetSplit, AreVariantMarks, shape_of, AddsRanges, IsVariantBelow};
+ghost use Rattle.constructor_sets.specs.Columns.{is_head, writes, plain_ctors, plain_flagged, plain_texts};
+ghost use Rattle.constructor_sets.specs.Columns.{IsSetSplit, AreVariantMarks, shape_of, AddsRanges, IsVariantBelow};
 
 use crate::heads::is_written;
 use no_memory::NoMemory;
@@ -81,7 +83,8 @@ fn variants<'a>(
     column: &[Ctor<'a>],
 ) -> Result<Vec<(Ctor<'a>, bool)>, NoMemory>
     requires { All (λ h. IsTrue (is_head (VariantSet count later) h)) (plain_ctors column.now) }
-    ensures { IfOk result (λ v. IsSetSplit (VariantSet count later) (plain_ctors column.now) (plain_flagged v.items)) }
+    ensures { IfOk result (λ v. IsSetSplit (VariantSet count later) (plain_ctors column.now)
+        (plain_flagged v.items)) }
 {
     let marks = variant_marks(alloc, count, column)?;
     let mut pieces = variant_pieces(alloc, &marks)?;
@@ -111,7 +114,8 @@ fn variant_marks(alloc: Global, count: u32, column: &[Ctor]) -> Result<Vec<bool>
 // A piece for each variant that there is a mark for.
 fn variant_pieces<'a>(alloc: Global, marks: &[bool]) -> Result<Vec<(Ctor<'a>, bool)>, NoMemory>
     requires { length marks.now < 2 ^ 32 }
-    ensures ctors { IfOk result (λ v. map (λ p. p.0) (plain_flagged v.items) ≡ each_below VariantCtor (length marks.now)) }
+    ensures ctors { IfOk result (λ v. map (λ p. p.0) (plain_flagged v.items) ≡ each_below VariantCtor
+        (length marks.now)) }
     ensures flags { IfOk result (λ v. map (λ p. p.1) (plain_flagged v.items) ≡ marks.now) }
 {
     let mut pieces = Vec::with_capacity(alloc, marks.len())?;
@@ -129,9 +133,11 @@ fn numbers<'a>(
     second: &Option<Range>,
     column: &[Ctor<'a>],
 ) -> Result<Vec<(Ctor<'a>, bool)>, NoMemory>
-    requires column { All (λ h. IsTrue (is_head (NumberSet (plain_range first.now) (plain_second second.now)) h)) (plain_ctors column.now) }
+    requires column { All (λ h. IsTrue (is_head (NumberSet (plain_range first.now) (plain_second second.now)) h))
+        (plain_ctors column.now) }
     requires ascend { RangesAscend (NumberSet (plain_range first.now) (plain_second second.now)) }
-    ensures { IfOk result (λ v. IsSetSplit (NumberSet (plain_range first.now) (plain_second second.now)) (plain_ctors column.now) (plain_flagged v.items)) }
+    ensures { IfOk result (λ v. IsSetSplit (NumberSet (plain_range first.now) (plain_second second.now))
+        (plain_ctors column.now) (plain_flagged v.items)) }
 {
     let ranges = ranges_of(alloc, column)?;
     let mut pieces = Vec::new(alloc);
@@ -167,7 +173,8 @@ fn add_ranges<'a>(
 ) -> Result<(), NoMemory>
     requires below { All (λ r. HasRoomBelow (plain_range whole.now) (plain_range r)) ranges.now }
     requires above { All (λ r. HasRoomAbove (plain_range whole.now) (plain_range r)) ranges.now }
-    ensures { OnOk result (AddsRanges (plain_range whole.now) (plain_ranges ranges.now) (plain_flagged pieces.old.items) (plain_flagged pieces.new.items)) }
+    ensures { OnOk result (AddsRanges (plain_range whole.now) (plain_ranges ranges.now)
+        (plain_flagged pieces.old.items) (plain_flagged pieces.new.items)) }
 {
     let cut = split(alloc, whole, ranges)?;
     for (range, present) in &cut {

@@ -30,7 +30,8 @@ pub fn split_column<'a, C: PatCx>(
 ) -> Result<Split<'a>, NoMemory>
     requires ty { C.is_type cx.now ty }
     requires column { All (λ h. IsTrue (is_head ((C.context cx.now).set_of ty) h)) (plain_ctors column.now) }
-    ensures { IfOk result (λ s. IsColumnSplit (C.is_value cx.now) (C.context cx.now) (record { type = ty; sure = is_sure validity }) (plain_ctors column.now) (map plain_piece s.pieces.items)) }
+    ensures { IfOk result (λ s. IsColumnSplit (C.is_value cx.now) (C.context cx.now)
+        (record { type = ty; sure = is_sure validity }) (plain_ctors column.now) (map plain_piece s.pieces.items)) }
 {
     let set = cx.set(ty);
     let found = set_pieces(alloc, &set, column)?;
@@ -53,7 +54,8 @@ fn with_states<'a, C: PatCx>(
     requires serving { All (λ p. IsServing (plain_set set.now) (plain_ctor p.0)) found.now }
     requires flagged { All (λ p. p.1 ≡ list_any (writes (plain_ctor p.0)) (plain_ctors column.now)) found.now }
     ensures ctors { IfOk result (λ v. map (λ p. plain_ctor p.ctor) v.items ≡ map (λ p. plain_ctor p.0) found.now) }
-    ensures states { IfOk result (λ v. AreFoundStates (C.is_value cx.now) (record { type = ty; sure = is_sure validity }) (plain_ctors column.now) v.items) }
+    ensures states { IfOk result (λ v. AreFoundStates (C.is_value cx.now)
+        (record { type = ty; sure = is_sure validity }) (plain_ctors column.now) v.items) }
 {
     let wild = has_wild(column);
     let mut pieces = Vec::with_capacity(alloc, found.len())?;
@@ -84,7 +86,8 @@ fn piece_state<C: PatCx>(
     requires ty { C.is_type cx.now ty }
     requires set { plain_set set.now ≡ (C.context cx.now).set_of ty }
     requires serving { IsServing (plain_set set.now) (plain_ctor ctor.now) }
-    ensures { IsFoundState (C.is_value cx.now) (record { type = ty; sure = is_sure validity }) (plain_ctor ctor.now) present result }
+    ensures { IsFoundState (C.is_value cx.now) (record { type = ty; sure = is_sure validity })
+        (plain_ctor ctor.now) present result }
 {
     if piece_has_value(cx, ty, validity, set, ctor) {
         if present {
@@ -108,7 +111,8 @@ fn piece_has_value<C: PatCx>(
     requires ty { C.is_type cx.now ty }
     requires set { plain_set set.now ≡ (C.context cx.now).set_of ty }
     requires serving { IsServing (plain_set set.now) (plain_ctor ctor.now) }
-    ensures { IsValueAnswer (C.is_value cx.now) (record { type = ty; sure = is_sure validity }) (plain_ctor ctor.now) result }
+    ensures { IsValueAnswer (C.is_value cx.now) (record { type = ty; sure = is_sure validity })
+        (plain_ctor ctor.now) result }
 {
     match validity {
         Validity::Unsure => true,

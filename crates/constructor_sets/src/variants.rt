@@ -26,7 +26,9 @@ pub(crate) fn found_variants<'a, C: PatCx>(
     requires ty { C.is_type cx.now ty }
     requires set { (C.context cx.now).set_of ty ≡ VariantSet count later }
     requires heads { All (λ h. IsTrue (is_sharp_head (VariantSet count later) h)) (plain_ctors heads.now) }
-    ensures { IfOk result (λ f. AreFound (C.is_value cx.now) (C.context cx.now) (record { type = ty; sure = is_sure validity }) (plain_ctors heads.now) (plain_ctors f.ctors.items) f.missing (plain_ctors f.gaps.items)) }
+    ensures { IfOk result (λ f. AreFound (C.is_value cx.now) (C.context cx.now)
+        (record { type = ty; sure = is_sure validity }) (plain_ctors heads.now)
+        (plain_ctors f.ctors.items) f.missing (plain_ctors f.gaps.items)) }
 {
     let numbers = variant_numbers(alloc, heads)?;
     let ctors = valued_variants(alloc, cx, ty, validity, count, later, &numbers)?;
@@ -75,7 +77,8 @@ fn valued_variants<'a, C: PatCx>(
     requires ty { C.is_type cx.now ty }
     requires set { (C.context cx.now).set_of ty ≡ VariantSet count later }
     requires numbers { All (λ k. k < count) numbers.now }
-    ensures { IfOk result (λ v. plain_ctors v.items ≡ map VariantCtor (filter (is_valued (C.variant_empty_of cx.now ty) (is_sure validity)) numbers.now)) }
+    ensures { IfOk result (λ v. plain_ctors v.items ≡ map VariantCtor (filter (is_valued
+        (C.variant_empty_of cx.now ty) (is_sure validity)) numbers.now)) }
 {
     let mut valued = Vec::with_capacity(alloc, numbers.len())?;
     for k in numbers {
@@ -98,7 +101,8 @@ fn is_missing<C: PatCx>(
     requires ty { C.is_type cx.now ty }
     requires set { (C.context cx.now).set_of ty ≡ VariantSet count later }
     requires ascending { AllPairs (λ j k. j < k) numbers.now }
-    ensures { result ≡ (later || list_any (is_left_out (C.variant_empty_of cx.now ty) (is_sure validity) numbers.now) (each_below (λ k. k) count)) }
+    ensures { result ≡ (later || list_any (is_left_out (C.variant_empty_of cx.now ty)
+        (is_sure validity) numbers.now) (each_below (λ k. k) count)) }
 {
     later || leaves_out(cx, ty, validity, count, later, numbers)
 }
@@ -115,7 +119,8 @@ fn leaves_out<C: PatCx>(
     requires ty { C.is_type cx.now ty }
     requires set { (C.context cx.now).set_of ty ≡ VariantSet count later }
     requires ascending { AllPairs (λ j k. j < k) numbers.now }
-    ensures { result ≡ list_any (is_left_out (C.variant_empty_of cx.now ty) (is_sure validity) numbers.now) (each_below (λ k. k) count) }
+    ensures { result ≡ list_any (is_left_out (C.variant_empty_of cx.now ty) (is_sure validity) numbers.now)
+        (each_below (λ k. k) count) }
 {
     for k in 0..count {
         if is_left_out(cx, ty, validity, count, later, numbers, k) {

@@ -1,13 +1,16 @@
 -- What follows from being the witness list of a match (Maranget 2007; exactness and order are our own choice).
-use Rattle.std.specs.Prelude.{◌≡◌, ◌↔◌, Bool, List, [], IsTrue}
+use Rattle.std.specs.Prelude.{◌≡◌, ◌↔◌, ◌≤◌, ℕ, Bool, true, false, ◌&&◌, ◌||◌, List, [], ◌∷◌, ◌++◌, length, IsTrue}
 use Rattle.std.specs.List.{Contains}
 use Rattle.match_model.specs.Values.{MValue}
 use Rattle.match_model.specs.Contexts.{Context}
 use Rattle.match_model.specs.ArenaPatterns.{MDeMatch}
 use Rattle.match_model.specs.ArenaWays.{match_arms, InMatchDomain}
 use Rattle.match_model.specs.Match.{IsExhaustive}
-use Rattle.match_model.specs.Witness.{MWitness}
-use Rattle.match_model.specs.WitnessList.{IsWitnessList}
+use Rattle.match_model.specs.Constructors.{MCtor, builds}
+use Rattle.match_model.specs.ContextLaws.{ArityIs}
+use Rattle.match_model.specs.Rows.{is_wild_ctor, is_or_ctor}
+use Rattle.match_model.specs.Witness.{MWitness, witnesses_of, all_fit, parts_under}
+use Rattle.match_model.specs.WitnessList.{IsWitnessList, wrapped}
 use Rattle.match_model.specs.ExactCover.{IsExactCover}
 use Rattle.match_model.specs.WellTyped.{IsWellTyped}
 use Rattle.match_model.specs.Made.{AreArmsMade}
@@ -36,3 +39,12 @@ abbrev pub WitnessesAreOfType : {T : Type 0} → (T → Type 0) → (T → Bool 
 WitnessesAreOfType {T} IsType IsValue cx =
     (m : MDeMatch T) (ws : List MWitness) → IsListOf IsType IsValue cx m ws →
     (w : MWitness) → Contains ws w → IsTrue (witness_is_of cx m.type w)
+
+-- wrapping the first witnesses of a stack in a constructor, which has so many parts, keeps exactly which values fit: the new
+-- stack fits values where the constructor builds the first of them and the old stack fits its parts and the others
+abbrev pub WrappingKeepsFits : Type 0
+WrappingKeepsFits =
+    (c : MCtor) (named : List (List ℕ)) (n : ℕ) (ws : List MWitness) (v : MValue) (vs : List MValue) →
+    (is_wild_ctor c || is_or_ctor c) ≡ false → ArityIs c n → n ≤ length ws →
+    (builds named c v ≡ true → length (parts_under c v) ≡ n) →
+    all_fit (witnesses_of (wrapped c named n ws)) (v ∷ vs) ≡ (builds named c v && all_fit (witnesses_of ws) (parts_under c v ++ vs))

@@ -1,7 +1,7 @@
 //! What follows from being the witness list of a match, for every lawful context: each function has an empty body, and
 //! its contract is a law.
 
-ghost use Rattle.witness_laws.specs.Laws.{ListsAreCovers, EmptyIsExhaustive, WitnessesAreOfType};
+ghost use Rattle.witness_laws.specs.Laws.{ListsAreCovers, EmptyIsExhaustive, WitnessesAreOfType, WrappingKeepsFits};
 
 use pat_context::PatCx;
 
@@ -35,3 +35,9 @@ mod tests {
         witnesses_are_of_the_type(&Toy);
     }
 }
+
+/// Wrapping the first witnesses of a stack in a constructor keeps exactly which values fit: the new stack fits values
+/// exactly where the constructor builds the first of them and the old stack fits its parts and the others.
+pub fn wrapping_keeps_fits()
+    ensures { WrappingKeepsFits }
+{}
