@@ -35,7 +35,8 @@ fn wrap_top(open: &mut Vec<Witness>, count: usize, room: Witness) -> Result<(), 
     requires some { 0 < count }
     requires there { count ≤ length open.old.items }
     requires fits { parts_of_witness (plain_witness room) ≤ count }
-    ensures wrapped { OnOk result (tops open.new.items ≡ filled (plain_witness room) (tops open.old.items) ∷ drop count (tops open.old.items)) }
+    ensures wrapped { OnOk result (tops open.new.items ≡ filled (plain_witness room)
+        (tops open.old.items) ∷ drop count (tops open.old.items)) }
     ensures kept { OnErr result (open.new.items ≡ open.old.items) }
 {
     let base = open.len() - count;
@@ -76,10 +77,11 @@ impl Stack {
 
     /// Puts one witness of the constructor in place of the top ones, which are its parts, the topmost the first part.
     /// `others` are the texts that the column names. Where the constructor has as many parts as there are taken, the
-    /// values that fit are those that the constructor builds and whose parts fit what was taken (`laws`). The only error
-    /// is want of memory, and then the stack is as before.
+    /// values that fit are those that the constructor builds and whose parts fit what was taken (a law of witness_laws,
+    /// `wrapping_keeps_fits`). The only error is want of memory, and then the stack is as before.
     pub fn wrap(&mut self, ctor: &Ctor, arity: usize, others: &[&str]) -> Result<(), NoMemory>
-        ensures wrapped { OnOk result (plain_stack self.new ≡ wrapped (plain_ctor ctor.now) (plain_names others.now) arity (plain_stack self.old)) }
+        ensures wrapped { OnOk result (plain_stack self.new ≡ wrapped (plain_ctor ctor.now)
+            (plain_names others.now) arity (plain_stack self.old)) }
         ensures kept { OnErr result (plain_stack self.new ≡ plain_stack self.old) }
     {
         let count = arity.min(self.open.len());
