@@ -16,13 +16,13 @@ use Rattle.match_examples.proofs.SmallMatches.{one, num, span, iff_of}
 use Rattle.match_model.proofs.Basics.{both}
 
 -- `0 => ..` on an endless `isize`: `..=-1` and `1..`, both with a free end
-abbrev zero_only : MRange
+abbrev pub zero_only : MRange
 zero_only = record { low = At (pos 0); high = At (pos 0) }
 
-abbrev below : MRange
+abbrev pub below : MRange
 below = record { low = Free; high = At (negsuc 0) }
 
-abbrev above : MRange
+abbrev pub above : MRange
 above = record { low = At (pos 1); high = Free }
 
 isize_tests : (n : ℤ) → (false || (int_eq n (pos 0) || (int_eq n (pos 1) || false))) ≡ ((int_eq n (pos 0) || int_eq (n -ℤ pos 1) (pos 0)) || false)
@@ -41,7 +41,7 @@ isize_tests n = go (int_eq n (pos 0)) (int_eq n (pos 1)) (int_eq (n -ℤ pos 1) 
     go false true false e f g = absurd (clash_up f g)
     go false false true e f g = absurd (clash_down f g)
 
-isize_cut : IsCut (record { low = Free; high = Free }) (zero_only ∷ []) (below ∷ zero_only ∷ above ∷ [])
+pub isize_cut : IsCut (record { low = Free; high = Free }) (zero_only ∷ []) (below ∷ zero_only ∷ above ∷ [])
 isize_cut = record {
   together = one_more Free Free (negsuc 0) (zero_only ∷ above ∷ []) refl (one_more (At (pos 0)) Free (pos 0) (above ∷ []) refl (last_one (At (pos 1)) Free (pos 1) refl));
   cut = λ n a b. iff_of _ _ (isize_tests n);
@@ -60,10 +60,10 @@ isize_list =
     seen e = cc
 
 -- `0..=18446744073709551615` on an endless `usize`: the numbers from 2^64 on are left, free above
-abbrev all_of_64 : MRange
+abbrev pub all_of_64 : MRange
 all_of_64 = span 0 18446744073709551615
 
-abbrev from_2_64 : MRange
+abbrev pub from_2_64 : MRange
 from_2_64 = record { low = At (pos 18446744073709551616); high = Free }
 
 usize_tests : (n : ℤ) → in_range (record { low = At (pos 0); high = Free }) (n -ℤ pos 1) ≡ true →
@@ -85,7 +85,7 @@ usize_tests n a = go (int_eq n (pos 0)) (int_eq n (pos 18446744073709551616)) (i
     go false true false e f g = absurd (clash_up f g)
     go false false true e f g = absurd (clash_down f g)
 
-usize_cut : IsCut (record { low = At (pos 0); high = Free }) (all_of_64 ∷ []) (all_of_64 ∷ from_2_64 ∷ [])
+pub usize_cut : IsCut (record { low = At (pos 0); high = Free }) (all_of_64 ∷ []) (all_of_64 ∷ from_2_64 ∷ [])
 usize_cut = record {
   together = one_more (At (pos 0)) Free (pos 18446744073709551615) (from_2_64 ∷ []) refl (last_one (At (pos 18446744073709551616)) Free (pos 18446744073709551616) refl);
   cut = λ n a b. iff_of _ _ (usize_tests n a);
@@ -103,7 +103,7 @@ usize_list =
     seen e = cc
 
 -- `'\u{D7FF}'..='\u{E000}' => ..` on `char`: a head over the hole has a piece in each range
-abbrev over : MRange
+abbrev pub over : MRange
 over = record { low = At (pos 0xd7ff); high = At (pos 0xe000) }
 
 low_tests : (n : ℤ) → in_range (span 0 0xd7ff) (n -ℤ pos 1) ≡ true → in_range (span 0 0xd7ff) n ≡ true →
@@ -155,13 +155,13 @@ high_tests n a b = go (int_eq n (pos 0xe000)) (int_eq n (pos 0xe001)) (int_eq n 
     go false true false false d e f g = absurd (clash_up e g)
     go false false false true d e f g = absurd (clash_down e g)
 
-low_cut : IsCut (span 0 0xd7ff) (over ∷ []) (span 0 0xd7fe ∷ span 0xd7ff 0xd7ff ∷ [])
+pub low_cut : IsCut (span 0 0xd7ff) (over ∷ []) (span 0 0xd7fe ∷ span 0xd7ff 0xd7ff ∷ [])
 low_cut = record {
   together = one_more (At (pos 0)) (At (pos 0xd7ff)) (pos 0xd7fe) (span 0xd7ff 0xd7ff ∷ []) refl (last_one (At (pos 0xd7ff)) (At (pos 0xd7ff)) (pos 0xd7ff) refl);
   cut = λ n a b. iff_of _ _ (low_tests n a b);
 }
 
-high_cut : IsCut (span 0xe000 0x10ffff) (over ∷ []) (span 0xe000 0xe000 ∷ span 0xe001 0x10ffff ∷ [])
+pub high_cut : IsCut (span 0xe000 0x10ffff) (over ∷ []) (span 0xe000 0xe000 ∷ span 0xe001 0x10ffff ∷ [])
 high_cut = record {
   together = one_more (At (pos 0xe000)) (At (pos 0x10ffff)) (pos 0xe000) (span 0xe001 0x10ffff ∷ []) refl (last_one (At (pos 0xe001)) (At (pos 0x10ffff)) (pos 0xe001) refl);
   cut = λ n a b. iff_of _ _ (high_tests n a b);

@@ -7,3 +7,4 @@ mod SmallMatches
 mod ExamplesNumbers
 mod ExamplesSlices
 mod ExamplesEmptiness
+mod ExamplesColumns
