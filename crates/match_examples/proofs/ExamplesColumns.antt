@@ -1,12 +1,12 @@
 -- The pieces of columns, set by set, and of each whether it is present, missing or empty at a sure and at an unsure place.
-use Rattle.std.proofs.Common.{◌≡◌, ℕ, ℤ, pos, negsuc, zero, suc, ◌-ℤ◌, Bool, true, false, ◌||◌, List, [], ◌∷◌, map, Some, None, int_eq, refl, ap, ◌∙◌, arith, IsTrue, subst}
+use Rattle.std.proofs.Common.{◌≡◌, ℕ, ℤ, pos, negsuc, zero, suc, ◌-ℤ◌, Bool, true, false, ◌||◌, List, [], ◌∷◌, map, length, Some, None, int_eq, refl, ap, ◌∙◌, arith, IsTrue, subst}
 use Rattle.std.specs.Prelude.{⊤}
 use Rattle.std.specs.List.Sorted.{IsStrictlySortedBy}
 use Rattle.match_model.specs.declared.Width.TheVariants.{Endless}
 use Rattle.match_model.specs.declared.IntKind.TheVariants.{U8, USize, ISize}
 use Rattle.match_model.specs.Types.{DeclaredItem, MType, BoolType, CharType, StrType, NeverType, IntType, TupleType, PointType, SliceType, ArrayType, NamedType, no_types, more_types}
 use Rattle.match_model.specs.Declarations.{UnitForm, TupleForm, EnumItem, MProgram}
-use Rattle.match_model.specs.Values.{MValue, Flag, Num, Text, Node, Point, Row, Thing, Later, Unseen, MValues, no_values, more_values, values_of}
+use Rattle.match_model.specs.Values.{MValue, Flag, Num, Text, Node, Point, Row, Thing, Later, Unseen, MValues, no_values, more_values, values_of, values_list}
 use Rattle.match_model.specs.Typing.{is_value}
 use Rattle.match_model.specs.Texts.{text_eq}
 use Rattle.match_model.specs.Numbers.{MRange, Free, At}
@@ -19,38 +19,38 @@ use Rattle.match_examples.proofs.SmallMatches.{span, iff_of}
 use Rattle.match_examples.proofs.ExamplesNumbers.{zero_only, below, above, isize_cut, all_of_64, from_2_64, usize_cut, over, low_cut, high_cut}
 
 -- `enum E { A(!), B(bool) }  #[non_exhaustive] enum M { A, B }`
-abbrev program : MProgram
+abbrev pub program : MProgram
 program = record {
   items = EnumItem (69 ∷ []) false (record { name = 65 ∷ []; form = TupleForm (NeverType ∷ []) } ∷ record { name = 66 ∷ []; form = TupleForm (BoolType ∷ []) } ∷ [])
-    ∷ EnumItem (77 ∷ []) true (record { name = 65 ∷ []; form = UnitForm } ∷ record { name = 66 ∷ []; form = UnitForm } ∷ [])
-    ∷ [];
+      ∷ EnumItem (77 ∷ []) true (record { name = 65 ∷ []; form = UnitForm } ∷ record { name = 66 ∷ []; form = UnitForm } ∷ [])
+      ∷ [];
   width = Endless;
 }
 
-abbrev declared : ℕ → MType
+abbrev pub declared : ℕ → MType
 declared i = NamedType (DeclaredItem i) no_types
 
 -- what the specification says of a piece
-data State : Type 0 where
+pub data State : Type 0 where
   present missing empty : State
 
 -- the piece is in that state
-abbrev IsIn : (t : MType) (sure : Bool) (heads pieces : List MCtor) → MCtor × State → Type 0
+abbrev pub IsIn : (t : MType) (sure : Bool) (heads pieces : List MCtor) → MCtor × State → Type 0
 IsIn t sure heads pieces (c, present) = IsPresentPiece (RustValue program) (record { type = t; sure = sure }) (named_in pieces) heads c
 IsIn t sure heads pieces (c, missing) = IsMissingPiece (RustValue program) (record { type = t; sure = sure }) (named_in pieces) heads c
 IsIn t sure heads pieces (c, empty) = IsEmptyPiece (RustValue program) (record { type = t; sure = sure }) (named_in pieces) c
 
-abbrev AreIn : (t : MType) (sure : Bool) (heads pieces : List MCtor) → List (MCtor × State) → Type 0
+abbrev pub AreIn : (t : MType) (sure : Bool) (heads pieces : List MCtor) → List (MCtor × State) → Type 0
 AreIn t sure heads pieces [] = ⊤
 AreIn t sure heads pieces (p ∷ ps) = IsIn t sure heads pieces p × AreIn t sure heads pieces ps
 
 -- the column of these heads has exactly these pieces, in this order and in these states
-abbrev Column : (t : MType) (sure : Bool) (heads : List MCtor) → List (MCtor × State) → Type 0
+abbrev pub Column : (t : MType) (sure : Bool) (heads : List MCtor) → List (MCtor × State) → Type 0
 Column t sure heads told = ArePieces (rust_set program t) heads (map (λ p. p.0) told) × AreIn t sure heads (map (λ p. p.0) told) told
 
 -- `true` on `bool`
 pub flags : Column BoolType true (FlagCtor true ∷ []) ((FlagCtor false, missing) ∷ (FlagCtor true, present) ∷ [])
-flags = (refl, (((Flag false, refl, refl), refl), ((Flag true, refl, refl), refl), tt))
+flags = (refl, (((Flag false, refl, refl), refl), (((Flag true, refl, refl), refl), tt)))
 
 -- no value of `!` stands at a sure place
 no_never : (v : MValue) → is_value program true NeverType v ≡ true → ⊥
@@ -126,40 +126,37 @@ abbrev with_unseen : MValue
 with_unseen = Node 0 (values_of (Unseen ∷ []))
 
 pub variants_sure : Column choice true (VariantCtor 1 ∷ []) ((VariantCtor 0, empty) ∷ (VariantCtor 1, present) ∷ [])
-variants_sure = (refl, ((λ e. no_a e.0 e.1 e.2), ((with_flag, refl, refl), refl), tt))
+variants_sure = (refl, ((λ e. no_a e.0 e.1 e.2), (((with_flag, refl, refl), refl), tt)))
 
 pub variants_named : Column choice true (VariantCtor 0 ∷ []) ((VariantCtor 0, empty) ∷ (VariantCtor 1, missing) ∷ [])
-variants_named = (refl, ((λ e. no_a e.0 e.1 e.2), ((with_flag, refl, refl), refl), tt))
+variants_named = (refl, ((λ e. no_a e.0 e.1 e.2), (((with_flag, refl, refl), refl), tt)))
 
 pub variants_unsure : Column choice false (VariantCtor 1 ∷ []) ((VariantCtor 0, missing) ∷ (VariantCtor 1, present) ∷ [])
-variants_unsure = (refl, (((with_unseen, refl, refl), refl), ((with_flag, refl, refl), refl), tt))
+variants_unsure = (refl, (((with_unseen, refl, refl), refl), (((with_flag, refl, refl), refl), tt)))
 
 -- `M::B` on a marked enum: its later variants are always missing
 pub marked : Column (declared 1) true (VariantCtor 1 ∷ VariantCtor 1 ∷ []) ((VariantCtor 0, missing) ∷ (VariantCtor 1, present) ∷ (LaterCtor, missing) ∷ [])
-marked = (refl, (((Node 0 no_values, refl, refl), refl), ((Node 1 no_values, refl, refl), refl), ((Later, refl, refl), refl), tt))
+marked = (refl, (((Node 0 no_values, refl, refl), refl), (((Node 1 no_values, refl, refl), refl), (((Later, refl, refl), refl), tt))))
 
 -- `0..=18446744073709551615` on `usize` without a width
 pub endless : Column (IntType USize) true (NumbersCtor all_of_64 ∷ []) ((NumbersCtor all_of_64, present) ∷ (NumbersCtor from_2_64, missing) ∷ [])
 endless = (
   (all_of_64 ∷ from_2_64 ∷ [], [], usize_cut, refl, refl),
-  (((Num (pos 0), refl, refl), refl), ((Num (pos 18446744073709551616), refl, refl), refl), tt),
+  (((Num (pos 0), refl, refl), refl), (((Num (pos 18446744073709551616), refl, refl), refl), tt)),
 )
 
 -- `0` on `isize` without a width: free on both sides
 pub free : Column (IntType ISize) true (NumbersCtor zero_only ∷ []) ((NumbersCtor below, missing) ∷ (NumbersCtor zero_only, present) ∷ (NumbersCtor above, missing) ∷ [])
 free = (
   (below ∷ zero_only ∷ above ∷ [], [], isize_cut, refl, refl),
-  (((Num (negsuc 6), refl, refl), refl), ((Num (pos 0), refl, refl), refl), ((Num (pos 7), refl, refl), refl), tt),
+  (((Num (negsuc 6), refl, refl), refl), (((Num (pos 0), refl, refl), refl), (((Num (pos 7), refl, refl), refl), tt))),
 )
 
 -- `'\u{D7FF}'..='\u{E000}'` on `char`: no piece has the hole
 pub hole : Column CharType true (NumbersCtor over ∷ []) ((NumbersCtor (span 0 0xd7fe), missing) ∷ (NumbersCtor (span 0xd7ff 0xd7ff), present) ∷ (NumbersCtor (span 0xe000 0xe000), present) ∷ (NumbersCtor (span 0xe001 0x10ffff), missing) ∷ [])
 hole = (
   (span 0 0xd7fe ∷ span 0xd7ff 0xd7ff ∷ [], span 0xe000 0xe000 ∷ span 0xe001 0x10ffff ∷ [], low_cut, high_cut, refl),
-  (
-    ((Num (pos 0), refl, refl), refl), ((Num (pos 0xd7ff), refl, refl), refl), ((Num (pos 0xe000), refl, refl), refl),
-    ((Num (pos 0xe001), refl, refl), refl), tt,
-  ),
+  (((Num (pos 0), refl, refl), refl), (((Num (pos 0xd7ff), refl, refl), refl), (((Num (pos 0xe000), refl, refl), refl), (((Num (pos 0xe001), refl, refl), refl), tt)))),
 )
 
 -- `0..=9, 20` on `u8`: cut where a head begins and behind where it ends
@@ -202,10 +199,7 @@ byte_cut = record {
 pub bytes : Column (IntType U8) false (NumbersCtor (span 0 9) ∷ NumbersCtor (span 20 20) ∷ []) ((NumbersCtor (span 0 9), present) ∷ (NumbersCtor (span 10 19), missing) ∷ (NumbersCtor (span 20 20), present) ∷ (NumbersCtor (span 21 255), missing) ∷ [])
 bytes = (
   (span 0 9 ∷ span 10 19 ∷ span 20 20 ∷ span 21 255 ∷ [], [], byte_cut, refl, refl),
-  (
-    ((Num (pos 0), refl, refl), refl), ((Num (pos 10), refl, refl), refl), ((Num (pos 20), refl, refl), refl), ((Num (pos 255), refl, refl), refl),
-    tt,
-  ),
+  (((Num (pos 0), refl, refl), refl), (((Num (pos 10), refl, refl), refl), (((Num (pos 20), refl, refl), refl), (((Num (pos 255), refl, refl), refl), tt)))),
 )
 
 -- `"b", "", "b", "ba"` on `str`: each text once, ascending, a prefix first, then all others
@@ -223,12 +217,12 @@ thrice false false r = refl
 
 named : AreNamed (b ∷ [] ∷ b ∷ ba ∷ []) ([] ∷ b ∷ ba ∷ [])
 unfolding IsStrictlySortedBy
-named = record { each = λ t. thrice (text_eq t []) (text_eq t b) (text_eq t ba); ascending = ((refl, refl, tt), ((refl, tt), (tt, tt))) }
+named = record { each = λ t. thrice (text_eq t []) (text_eq t b) (text_eq t ba); ascending = ((refl, (refl, tt)), ((refl, tt), (tt, tt))) }
 
 pub texts : Column StrType true (TextCtor b ∷ TextCtor [] ∷ TextCtor b ∷ TextCtor ba ∷ []) ((TextCtor [], present) ∷ (TextCtor b, present) ∷ (TextCtor ba, present) ∷ (OtherTextCtor, missing) ∷ [])
 texts = (
   ([] ∷ b ∷ ba ∷ [], named, refl),
-  (((Text [], refl, refl), refl), ((Text b, refl, refl), refl), ((Text ba, refl, refl), refl), ((Text (99 ∷ []), refl, refl), refl), tt),
+  (((Text [], refl, refl), refl), (((Text b, refl, refl), refl), (((Text ba, refl, refl), refl), (((Text (99 ∷ []), refl, refl), refl), tt)))),
 )
 
 -- `[a, b], [.., x], [x, ..]` on a slice: the greatest fixed length is 2, so lengths from 3 on are told apart no more
@@ -244,10 +238,7 @@ flags_of vs = Row (values_of vs)
 pub lengths : Column (SliceType BoolType) true (fixed 2 ∷ longer 0 1 ∷ longer 1 0 ∷ []) ((fixed 0, missing) ∷ (fixed 1, present) ∷ (fixed 2, present) ∷ (longer 2 1, present) ∷ [])
 lengths = (
   refl,
-  (
-    ((flags_of [], refl, refl), refl), ((flags_of (Flag true ∷ []), refl, refl), refl), ((flags_of (Flag true ∷ Flag true ∷ []), refl, refl), refl),
-    ((flags_of (Flag true ∷ Flag true ∷ Flag true ∷ []), refl, refl), refl), tt,
-  ),
+  (((flags_of [], refl, refl), refl), (((flags_of (Flag true ∷ []), refl, refl), refl), (((flags_of (Flag true ∷ Flag true ∷ []), refl, refl), refl), (((flags_of (Flag true ∷ Flag true ∷ Flag true ∷ []), refl, refl), refl), tt)))),
 )
 
 -- no head: one piece has every length
@@ -255,23 +246,23 @@ pub any_length : Column (SliceType BoolType) false [] ((longer 0 0, missing) ∷
 any_length = (refl, (((flags_of [], refl, refl), refl), tt))
 
 -- rows of `!`: at a sure place only the empty one has a value
-no_row : (f : ℕ) (k : ℕ) (v : MValue) → RustValue program (SliceType NeverType) true v → IsTrue (builds [] (longer (suc f) k) v) → ⊥
-no_row f k (Row no_values) h b = untrue b
-no_row f k (Row (more_values u us)) h b = no_never u (both _ _ h).0
-no_row f k (Node j parts) h b = untrue b
-no_row f k (Flag c) h b = untrue b
-no_row f k (Num n) h b = untrue b
-no_row f k (Text u) h b = untrue b
-no_row f k (Point m v) h b = untrue b
-no_row f k Thing h b = untrue b
-no_row f k Later h b = untrue b
-no_row f k Unseen h b = untrue b
+no_row : (v : MValue) → RustValue program (SliceType NeverType) true v → IsTrue (builds [] (longer 1 0) v) → ⊥
+no_row (Row no_values) h b = untrue b
+no_row (Row (more_values u us)) h b = no_never u (both _ _ h).0
+no_row (Node j parts) h b = untrue b
+no_row (Flag c) h b = untrue b
+no_row (Num n) h b = untrue b
+no_row (Text u) h b = untrue b
+no_row (Point m v) h b = untrue b
+no_row Thing h b = untrue b
+no_row Later h b = untrue b
+no_row Unseen h b = untrue b
 
 pub empty_rows : Column (SliceType NeverType) true (fixed 0 ∷ []) ((fixed 0, present) ∷ (longer 1 0, empty) ∷ [])
-empty_rows = (refl, (((flags_of [], refl, refl), refl), (λ e. no_row 0 0 e.0 e.1 e.2), tt))
+empty_rows = (refl, (((flags_of [], refl, refl), refl), ((λ e. no_row e.0 e.1 e.2), tt)))
 
 pub unsure_rows : Column (SliceType NeverType) false (fixed 0 ∷ []) ((fixed 0, present) ∷ (longer 1 0, missing) ∷ [])
-unsure_rows = (refl, (((flags_of [], refl, refl), refl), ((flags_of (Unseen ∷ []), refl, refl), refl), tt))
+unsure_rows = (refl, (((flags_of [], refl, refl), refl), (((flags_of (Unseen ∷ []), refl, refl), refl), tt)))
 
 -- an array has one piece: by its ends where they do not meet and no head says the length
 pub array_ends : Column (ArrayType BoolType 3) true (longer 1 1 ∷ []) ((longer 1 1, present) ∷ [])
@@ -292,7 +283,10 @@ unsure_array = (refl, (((flags_of (Unseen ∷ []), refl, refl), refl), tt))
 no_array : (v : MValue) → RustValue program (ArrayType NeverType 1) true v → IsTrue (builds [] (fixed 1) v) → ⊥
 no_array (Row no_values) h b = untrue b
 no_array (Row (more_values u no_values)) h b = no_never u (both _ _ h).0
-no_array (Row (more_values u (more_values w ws))) h b = untrue h
+no_array (Row (more_values u (more_values w ws))) h b = two (length (values_list ws)) (nat_equal 1 (suc (suc (length (values_list ws)))) b)
+  where
+    two : (n : ℕ) → 1 ≡ suc (suc n) → ⊥
+    two n e = absurd (omega (arith, e))
 no_array (Node j parts) h b = untrue b
 no_array (Flag c) h b = untrue b
 no_array (Num n) h b = untrue b
