@@ -12,3 +12,5 @@ pub mod Comparing
 pub mod Ascending
 pub mod OfTypes
 pub mod Whole
+pub mod FirstCounts
+pub mod Left

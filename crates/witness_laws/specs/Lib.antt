@@ -1,3 +1,5 @@
 pub mod Covering
 pub mod HeadRows
 pub mod Laws
+pub mod Counting
+pub mod ReachLaws

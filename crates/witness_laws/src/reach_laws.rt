@@ -1,0 +1,30 @@
+//! What values come to in the rows of a match, and what follows of what is unreachable: each function has an empty body,
+//! and its contract is a law.
+
+ghost use Rattle.witness_laws.specs.ReachLaws.{RowsTell, LeftIsUnreachable};
+
+use pat_context::PatCx;
+
+/// The rows of a match's arms, with one row of a wildcard behind them, tell of each value to which arm it comes, through
+/// which alternatives, and whether no arm covers it.
+pub fn rows_tell<T>()
+    ensures { RowsTell T }
+{}
+
+/// From marks that tell exactly what is reachable comes the list of what is unreachable.
+pub fn left_is_unreachable<C: PatCx>(cx: &C)
+    ensures { LeftIsUnreachable (C.is_value cx.now) }
+{}
+
+#[cfg(test)]
+mod tests {
+    use super::*;
+    use pat_context::toy::Toy;
+
+    // a generic law is proved from its bounds alone, so each is called once at a type
+    #[test]
+    fn generic_laws_hold_at_a_type(_rt: HostRuntime) {
+        rows_tell::<u32>();
+        left_is_unreachable(&Toy);
+    }
+}
