@@ -14,3 +14,7 @@ pub mod OfTypes
 pub mod Whole
 pub mod FirstCounts
 pub mod Left
+pub mod Traces
+pub mod PieceTraces
+pub mod Folds
+pub mod Columns

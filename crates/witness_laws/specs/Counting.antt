@@ -1,12 +1,14 @@
 -- What values come to in rows of heads: which rows, and there which alternatives (Maranget 2007, useful clauses). Only
 -- tests are made of the ways, so that it does not count in which order the columns stand.
 use Rattle.std.specs.Prelude.{ℕ, Bool, true, false, not, ◌&&◌, ◌||◌, List, [], ◌∷◌, ◌++◌, map, length, None, nat_eq}
-use Rattle.std.specs.List.{list_any}
+use Rattle.std.specs.List.{flat_map, list_any}
 use Rattle.match_model.specs.Values.{MValue}
 use Rattle.match_model.specs.ArenaPatterns.{MDeMatch}
 use Rattle.match_model.specs.Match.{counting_ways, goes_through}
 use Rattle.match_model.specs.Rows.{Head}
 use Rattle.match_model.specs.Matrices.{MRow, head_ways, first_rows}
+use Rattle.match_model.specs.Places.{MStep}
+use Rattle.match_model.specs.Steps.{Replacement, replacements_at, row_replaced}
 use Rattle.witness_laws.specs.Covering.{row_takes}
 
 -- what is asked of a match: whether some value comes to the arm as a `whole`, or else through its alternative
@@ -51,6 +53,12 @@ counts q (x ∷ rows) vs = (x.wanted && row_answers q x.row vs) || (not (row_sto
 -- rows of which all are wanted
 abbrev pub all_wanted : {T : Type 0} → List (MRow T) → List (WantedRow T)
 all_wanted rows = map (λ r. record { row = r; wanted = true }) rows
+
+-- the rows when the heads of column `i`, which has this place, are replaced; each is wanted where the row was
+abbrev pub wanted_at : {T : Type 0} → (Head T → List (Replacement T)) → List MStep → (i : ℕ) → List (WantedRow T) →
+    List (WantedRow T)
+wanted_at f place i rows =
+    flat_map (λ x. map (λ y. record { row = row_replaced place x.row y; wanted = x.wanted }) (replacements_at f i x.row.heads)) rows
 
 -- a row of one wildcard without a guard, as one more arm
 abbrev pub row_behind : {T : Type 0} → (arm : ℕ) → MRow T

@@ -1,12 +1,14 @@
 -- What follows of what is unreachable in a match from what its rows come to.
-use Rattle.std.specs.Prelude.{◌≡◌, ◌↔◌, ◌<◌, ℕ, suc, Bool, true, false, not, cond, List, [], ◌∷◌, ◌++◌, length}
+use Rattle.std.specs.Prelude.{⊤, ◌≡◌, ◌↔◌, ◌<◌, ℕ, suc, Bool, true, false, not, cond, List, [], ◌∷◌, ◌++◌, length}
 use Rattle.match_model.specs.Values.{MValue}
 use Rattle.match_model.specs.ArenaPatterns.{MDeMatch}
 use Rattle.match_model.specs.ArenaWays.{match_arms, InMatchDomain}
 use Rattle.match_model.specs.Match.{ArmWays, Alternatives, no_alternative, alternative, is_covered, comes_to, comes_through, IsArmReachable, IsAlternativeReachable}
 use Rattle.match_model.specs.Unreachable.{Entry, IsUnreachableList}
 use Rattle.match_model.specs.ArenaUnreachable.{in_reading_order, IsReadingList}
-use Rattle.witness_laws.specs.Counting.{counts, asked_rows, to_arm, through_alternative}
+use Rattle.match_model.specs.Places.{MStep}
+use Rattle.match_model.specs.Steps.{expand_head}
+use Rattle.witness_laws.specs.Counting.{Question, WantedRow, wanted_at, counts, asked_rows, to_arm, through_alternative}
 
 -- the rows of a match tell of each value to which arm it comes, and there through which alternatives, and whether no arm
 -- covers it: then it comes to the row behind them
@@ -44,3 +46,14 @@ LeftIsUnreachable {T} IsValue =
     AreMarksExact (InMatchDomain IsValue m) (match_arms m) is_arm_marked is_marked →
     IsUnreachableList (InMatchDomain IsValue m) (match_arms m) (left_from is_arm_marked is_marked 0 (match_arms m))
     × IsReadingList (InMatchDomain IsValue m) (match_arms m) (in_reading_order (left_from is_arm_marked is_marked 0 (match_arms m)))
+
+-- each row has a head for each of so many columns
+abbrev pub AreLong : {T : Type 0} → ℕ → List (WantedRow T) → Type 0
+AreLong n [] = ⊤
+AreLong n (x ∷ rows) = (length x.row.heads ≡ n) × AreLong n rows
+
+-- expanding or-patterns, at whatever column, keeps what counts
+abbrev pub ExpandingKeepsCounts : (T : Type 0) → Type 0
+ExpandingKeepsCounts T =
+    (q : Question) (place : List MStep) (i : ℕ) (rows : List (WantedRow T)) (vs : List MValue) → i < length vs → AreLong (length vs) rows →
+    counts q (wanted_at expand_head place i rows) vs ≡ counts q rows vs

@@ -1,7 +1,7 @@
 //! What values come to in the rows of a match, and what follows of what is unreachable: each function has an empty body,
 //! and its contract is a law.
 
-ghost use Rattle.witness_laws.specs.ReachLaws.{RowsTell, LeftIsUnreachable};
+ghost use Rattle.witness_laws.specs.ReachLaws.{RowsTell, ExpandingKeepsCounts, LeftIsUnreachable};
 
 use pat_context::PatCx;
 
@@ -9,6 +9,11 @@ use pat_context::PatCx;
 /// which alternatives, and whether no arm covers it.
 pub fn rows_tell<T>()
     ensures { RowsTell T }
+{}
+
+/// Expanding or-patterns, at whatever column, keeps what counts.
+pub fn expanding_keeps_counts<T>()
+    ensures { ExpandingKeepsCounts T }
 {}
 
 /// From marks that tell exactly what is reachable comes the list of what is unreachable.
@@ -25,6 +30,7 @@ mod tests {
     #[test]
     fn generic_laws_hold_at_a_type(_rt: HostRuntime) {
         rows_tell::<u32>();
+        expanding_keeps_counts::<u32>();
         left_is_unreachable(&Toy);
     }
 }
