@@ -6,8 +6,8 @@ use Rattle.match_model.specs.Places.{MStep}
 use Rattle.match_model.specs.Rows.{Head, Choice, choices_of}
 use Rattle.match_model.specs.Steps.{Replacement, expand_head, with_others, with_head, replacements_at, replaced_at, row_replaced}
 use Rattle.witness_laws.specs.Covering.{head_takes, row_takes}
-use Rattle.witness_laws.specs.Counting.{Question, WantedRow, head_passes, heads_pass, has_chosen, counts, wanted_at}
-use Rattle.witness_laws.specs.ReachLaws.{AreLong, ExpandingKeepsCounts}
+use Rattle.witness_laws.specs.Counting.{Question, WantedRow, AreLong, head_passes, heads_pass, has_chosen, counts, wanted_at}
+use Rattle.witness_laws.specs.ReachLaws.{ExpandingKeepsCounts}
 use Rattle.witness_laws.proofs.Specials.{row-append}
 use Rattle.witness_laws.proofs.Traces.{behind, joined, head_traces, choice_traces, choices_trace}
 use Rattle.witness_laws.proofs.Folds.{one_counts, fold, Each, every, fold-same, fold-map, takes_in, passes_in, traces_in, has, has-append, stands_for}
@@ -40,7 +40,7 @@ pass-append g id (h ∷ hs) gs (x ∷ xs) ys e =
     closed a b c = grind arith
 
 -- a row whose head at a column is replaced counts as before
-row_moved : {T : Type 0} (w g a b : Bool) (id : ℕ) (f : Head T → List (Replacement T)) (i : ℕ) (hs : List (Head T)) (vs us : List MValue) (v : MValue) (k : Bool) →
+pub row_moved : {T : Type 0} (w g a b : Bool) (id : ℕ) (f : Head T → List (Replacement T)) (i : ℕ) (hs : List (Head T)) (vs us : List MValue) (v : MValue) (k : Bool) →
     slice_get vs i ≡ Some v → length hs ≡ length vs → HeadAt (Replaces f us v) i hs →
     fold w g a b (takes_in (replaced_at i vs us)) (passes_in g id (replaced_at i vs us)) (replacements_at f i hs) k
     ≡ one_counts w g a b (row_takes hs vs) (heads_pass g id hs vs) k
@@ -105,7 +105,7 @@ one_row q x rows vs = closed x.wanted (nat_eq q.arm x.row.arm) x.row.guarded (ro
     closed w n g t b p k = grind arith
 
 -- replacements of a row, with other rows behind them
-these_rows : {T : Type 0} (q : Question) (place : List MStep) (x : WantedRow T) (ys : List (Replacement T)) (rest : List (WantedRow T)) (vs : List MValue) →
+pub these_rows : {T : Type 0} (q : Question) (place : List MStep) (x : WantedRow T) (ys : List (Replacement T)) (rest : List (WantedRow T)) (vs : List MValue) →
     counts q (map (λ y. record { row = row_replaced place x.row y; wanted = x.wanted }) ys ++ rest) vs
     ≡ fold (x.wanted && nat_eq q.arm x.row.arm) x.row.guarded true (has_chosen q x.row.chosen) (takes_in vs) (passes_in x.row.guarded q.id vs) ys (counts q rest vs)
 these_rows q place x [] rest vs = refl

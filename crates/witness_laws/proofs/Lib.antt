@@ -18,3 +18,7 @@ pub mod Traces
 pub mod PieceTraces
 pub mod Folds
 pub mod Columns
+pub mod Splits
+pub mod HandingOn
+pub mod Lighter
+pub mod Splitting

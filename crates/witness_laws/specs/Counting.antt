@@ -1,6 +1,6 @@
 -- What values come to in rows of heads: which rows, and there which alternatives (Maranget 2007, useful clauses). Only
 -- tests are made of the ways, so that it does not count in which order the columns stand.
-use Rattle.std.specs.Prelude.{ℕ, Bool, true, false, not, ◌&&◌, ◌||◌, List, [], ◌∷◌, ◌++◌, map, length, None, nat_eq}
+use Rattle.std.specs.Prelude.{⊤, ◌≡◌, ℕ, Bool, true, false, not, ◌&&◌, ◌||◌, List, [], ◌∷◌, ◌++◌, map, length, None, nat_eq}
 use Rattle.std.specs.List.{flat_map, list_any}
 use Rattle.match_model.specs.Values.{MValue}
 use Rattle.match_model.specs.ArenaPatterns.{MDeMatch}
@@ -59,6 +59,11 @@ abbrev pub wanted_at : {T : Type 0} → (Head T → List (Replacement T)) → Li
     List (WantedRow T)
 wanted_at f place i rows =
     flat_map (λ x. map (λ y. record { row = row_replaced place x.row y; wanted = x.wanted }) (replacements_at f i x.row.heads)) rows
+
+-- each row has so many heads
+abbrev pub AreLong : {T : Type 0} → ℕ → List (WantedRow T) → Type 0
+AreLong n [] = ⊤
+AreLong n (x ∷ rows) = (length x.row.heads ≡ n) × AreLong n rows
 
 -- a row of one wildcard without a guard, as one more arm
 abbrev pub row_behind : {T : Type 0} → (arm : ℕ) → MRow T

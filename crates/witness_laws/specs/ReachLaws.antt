@@ -1,6 +1,9 @@
 -- What follows of what is unreachable in a match from what its rows come to.
 use Rattle.std.specs.Prelude.{⊤, ◌≡◌, ◌↔◌, ◌<◌, ℕ, suc, Bool, true, false, not, cond, List, [], ◌∷◌, ◌++◌, length}
+use Rattle.std.specs.List.{list_all, Contains}
 use Rattle.match_model.specs.Values.{MValue}
+use Rattle.match_model.specs.Contexts.{Context, Open}
+use Rattle.match_model.specs.Rows.{starts_wild}
 use Rattle.match_model.specs.ArenaPatterns.{MDeMatch}
 use Rattle.match_model.specs.ArenaWays.{match_arms, InMatchDomain}
 use Rattle.match_model.specs.Match.{ArmWays, Alternatives, no_alternative, alternative, is_covered, comes_to, comes_through, IsArmReachable, IsAlternativeReachable}
@@ -8,7 +11,8 @@ use Rattle.match_model.specs.Unreachable.{Entry, IsUnreachableList}
 use Rattle.match_model.specs.ArenaUnreachable.{in_reading_order, IsReadingList}
 use Rattle.match_model.specs.Places.{MStep}
 use Rattle.match_model.specs.Steps.{expand_head}
-use Rattle.witness_laws.specs.Counting.{Question, WantedRow, wanted_at, counts, asked_rows, to_arm, through_alternative}
+use Rattle.witness_laws.specs.Searching.{Submatrix, weight_of, heads_in, IsFit, Comes, SomeComes, apart, IsSplit}
+use Rattle.witness_laws.specs.Counting.{Question, WantedRow, AreLong, wanted_at, counts, asked_rows, to_arm, through_alternative}
 
 -- the rows of a match tell of each value to which arm it comes, and there through which alternatives, and whether no arm
 -- covers it: then it comes to the row behind them
@@ -47,13 +51,25 @@ LeftIsUnreachable {T} IsValue =
     IsUnreachableList (InMatchDomain IsValue m) (match_arms m) (left_from is_arm_marked is_marked 0 (match_arms m))
     × IsReadingList (InMatchDomain IsValue m) (match_arms m) (in_reading_order (left_from is_arm_marked is_marked 0 (match_arms m)))
 
--- each row has a head for each of so many columns
-abbrev pub AreLong : {T : Type 0} → ℕ → List (WantedRow T) → Type 0
-AreLong n [] = ⊤
-AreLong n (x ∷ rows) = (length x.row.heads ≡ n) × AreLong n rows
-
 -- expanding or-patterns, at whatever column, keeps what counts
 abbrev pub ExpandingKeepsCounts : (T : Type 0) → Type 0
 ExpandingKeepsCounts T =
     (q : Question) (place : List MStep) (i : ℕ) (rows : List (WantedRow T)) (vs : List MValue) → i < length vs → AreLong (length vs) rows →
     counts q (wanted_at expand_head place i rows) vs ≡ counts q rows vs
+
+-- of a submatrix that fits, whose first place is taken apart: what values come to in it they come to in one of those that are
+-- left, and in these nothing else; they fit too, and weigh less, where some head there is no wildcard
+pub record SplitsHandOn {T : Type 0} (IsType : T → Type 0) (IsValue : T → Bool → MValue → Type 0) (cx : Context T) : Type 0 where
+  pub on : (o : Open T) (places : List (Open T)) (rows : List (WantedRow T)) (left : List (Submatrix T)) →
+      IsFit IsType IsValue cx (record { places = o ∷ places; rows = rows }) → IsSplit IsValue cx o places (apart rows) left →
+      (q : Question) → Comes IsValue q (record { places = o ∷ places; rows = rows }) → SomeComes IsValue q left
+  pub fit : (o : Open T) (places : List (Open T)) (rows : List (WantedRow T)) (left : List (Submatrix T)) →
+      IsFit IsType IsValue cx (record { places = o ∷ places; rows = rows }) → IsSplit IsValue cx o places (apart rows) left →
+      (n : Submatrix T) → Contains left n → IsFit IsType IsValue cx n
+  pub back : (o : Open T) (places : List (Open T)) (rows : List (WantedRow T)) (left : List (Submatrix T)) →
+      IsFit IsType IsValue cx (record { places = o ∷ places; rows = rows }) → IsSplit IsValue cx o places (apart rows) left →
+      (n : Submatrix T) → Contains left n → (q : Question) → Comes IsValue q n → Comes IsValue q (record { places = o ∷ places; rows = rows })
+  pub falls : (o : Open T) (places : List (Open T)) (rows : List (WantedRow T)) (left : List (Submatrix T)) →
+      IsFit IsType IsValue cx (record { places = o ∷ places; rows = rows }) → IsSplit IsValue cx o places (apart rows) left →
+      list_all starts_wild (heads_in rows) ≡ false →
+      (n : Submatrix T) → Contains left n → weight_of n < weight_of (record { places = o ∷ places; rows = rows })

@@ -1,7 +1,7 @@
 //! What values come to in the rows of a match, and what follows of what is unreachable: each function has an empty body,
 //! and its contract is a law.
 
-ghost use Rattle.witness_laws.specs.ReachLaws.{RowsTell, ExpandingKeepsCounts, LeftIsUnreachable};
+ghost use Rattle.witness_laws.specs.ReachLaws.{RowsTell, SplitsHandOn, ExpandingKeepsCounts, LeftIsUnreachable};
 
 use pat_context::PatCx;
 
@@ -14,6 +14,11 @@ pub fn rows_tell<T>()
 /// Expanding or-patterns, at whatever column, keeps what counts.
 pub fn expanding_keeps_counts<T>()
     ensures { ExpandingKeepsCounts T }
+{}
+
+/// A submatrix whose first place is taken apart hands on what values come to, to submatrices that weigh less.
+pub fn splits_hand_on<C: PatCx>(cx: &C)
+    ensures { SplitsHandOn (C.is_type cx.now) (C.is_value cx.now) (C.context cx.now) }
 {}
 
 /// From marks that tell exactly what is reachable comes the list of what is unreachable.
@@ -31,6 +36,7 @@ mod tests {
     fn generic_laws_hold_at_a_type(_rt: HostRuntime) {
         rows_tell::<u32>();
         expanding_keeps_counts::<u32>();
+        splits_hand_on(&Toy);
         left_is_unreachable(&Toy);
     }
 }
