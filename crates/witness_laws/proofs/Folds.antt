@@ -138,7 +138,7 @@ some_map : {A B : Type 0} (f : A → B) (xs : List A) → is_some_there (map f x
 some_map f [] = refl
 some_map f (x ∷ xs) = refl
 
-head_some : {T : Type 0} (h : Head T) (v : MValue) → is_some_there (head_traces h v) ≡ head_takes h v
+pub head_some : {T : Type 0} (h : Head T) (v : MValue) → is_some_there (head_traces h v) ≡ head_takes h v
 head_some h v = some_map (λ w. w.trace) (head_ways h v)
 
 ways_have : (g : Bool) (id : ℕ) (ws : List Way) → some_has g id (map (λ w. w.trace) ws) ≡ list_any (goes_through id) (counting_ways g ws)
@@ -147,7 +147,7 @@ ways_have true id (w ∷ ws) = ap (λ b. has id w.trace || b) (ways_have true id
 ways_have false id [] = refl
 ways_have false id (w ∷ ws) = refl
 
-head_has : {T : Type 0} (g : Bool) (id : ℕ) (h : Head T) (v : MValue) → some_has g id (head_traces h v) ≡ head_passes g id h v
+pub head_has : {T : Type 0} (g : Bool) (id : ℕ) (h : Head T) (v : MValue) → some_has g id (head_traces h v) ≡ head_passes g id h v
 head_has g id h v = ways_have g id (head_ways h v)
 
 some-append : {A : Type 0} (xs ys : List A) → is_some_there (xs ++ ys) ≡ (is_some_there xs || is_some_there ys)

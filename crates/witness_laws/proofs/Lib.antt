@@ -22,3 +22,8 @@ pub mod Splits
 pub mod HandingOn
 pub mod Lighter
 pub mod Splitting
+pub mod Listing
+pub mod Moving
+pub mod SearchSteps
+pub mod SearchWhole
+pub mod FirstTold

@@ -4,3 +4,4 @@ pub mod Laws
 pub mod Counting
 pub mod Searching
 pub mod ReachLaws
+pub mod SearchLaws

@@ -1,6 +1,7 @@
 //! What values come to in the rows of a match, and what follows of what is unreachable: each function has an empty body,
 //! and its contract is a law.
 
+ghost use Rattle.witness_laws.specs.SearchLaws.{RowsAreListed, PlacesMayBeMoved, SearchIsExact, FirstTells};
 ghost use Rattle.witness_laws.specs.ReachLaws.{RowsTell, SplitsHandOn, ExpandingKeepsCounts, LeftIsUnreachable};
 
 use pat_context::PatCx;
@@ -21,6 +22,27 @@ pub fn splits_hand_on<C: PatCx>(cx: &C)
     ensures { SplitsHandOn (C.is_type cx.now) (C.is_value cx.now) (C.context cx.now) }
 {}
 
+/// Rows are listed one by one, and those that bring nothing new and stop nothing are left out.
+pub fn rows_are_listed<T>()
+    ensures { RowsAreListed T }
+{}
+
+/// Any place of a submatrix may be taken first.
+pub fn places_may_be_moved<C: PatCx>(cx: &C)
+    ensures { PlacesMayBeMoved (C.is_type cx.now) (C.is_value cx.now) (C.context cx.now) }
+{}
+
+/// A search marks exactly what values come to, whatever place is taken apart in each step, whatever is left out that says
+/// the same as what was seen, and each step leaves less to do.
+pub fn search_is_exact<C: PatCx>(cx: &C)
+    ensures { SearchIsExact (C.is_type cx.now) (C.is_value cx.now) (C.context cx.now) }
+{}
+
+/// The first submatrix of a match tells which of its arms and alternatives are reachable, and whether it is exhaustive.
+pub fn first_submatrix_tells<C: PatCx>(cx: &C)
+    ensures { FirstTells (C.is_type cx.now) (C.is_value cx.now) (C.context cx.now) }
+{}
+
 /// From marks that tell exactly what is reachable comes the list of what is unreachable.
 pub fn left_is_unreachable<C: PatCx>(cx: &C)
     ensures { LeftIsUnreachable (C.is_value cx.now) }
@@ -37,6 +59,10 @@ mod tests {
         rows_tell::<u32>();
         expanding_keeps_counts::<u32>();
         splits_hand_on(&Toy);
+        rows_are_listed::<u32>();
+        places_may_be_moved(&Toy);
+        search_is_exact(&Toy);
+        first_submatrix_tells(&Toy);
         left_is_unreachable(&Toy);
     }
 }
