@@ -1,7 +1,7 @@
 -- From the first submatrix to a match.
-use Rattle.std.proofs.Common.{◌≡◌, ◌≢◌, ◌↔◌, ◌<◌, ℕ, suc, Bool, true, false, not, List, [], ◌∷◌, ◌++◌, map, length, refl, sym, ap, subst, ◌∙◌, arith, IsTrue}
+use Rattle.std.proofs.Common.{◌≡◌, ◌↔◌, ℕ, suc, Bool, true, false, not, List, [], ◌∷◌, ◌++◌, length, refl, sym, ap, ◌∙◌, arith, IsTrue}
 use Rattle.std.proofs.lemmas.List.{length-map}
-use Rattle.match_model.specs.Values.{MValue, Unseen}
+use Rattle.match_model.specs.Values.{MValue}
 use Rattle.match_model.specs.Contexts.{Context}
 use Rattle.match_model.specs.ArenaPatterns.{MDeArm, MDeMatch}
 use Rattle.match_model.specs.ArenaWays.{arena_arm, match_arms, InMatchDomain}

@@ -1,5 +1,5 @@
 -- What values come to in a submatrix they come to in one of those that are left of it, and in these nothing else.
-use Rattle.std.proofs.Common.{◌≡◌, ◌<◌, ℕ, zero, suc, ◌+◌, Bool, true, false, ◌||◌, List, [], ◌∷◌, ◌++◌, map, take, drop, length, cond, refl, sym, ap, subst, ◌∙◌, arith, IsTrue}
+use Rattle.std.proofs.Common.{◌≡◌, ℕ, zero, suc, ◌+◌, Bool, true, false, ◌||◌, List, [], ◌∷◌, ◌++◌, map, take, drop, length, cond, refl, sym, ap, subst, ◌∙◌, arith, IsTrue}
 use Rattle.std.specs.List.{list_all, flat_map, Contains}
 use Rattle.std.proofs.lemmas.List.{take-append-drop}
 use Rattle.match_model.specs.Values.{MValue}
@@ -7,21 +7,20 @@ use Rattle.match_model.specs.Constructors.{MCtor, belongs, builds}
 use Rattle.match_model.specs.Contexts.{Context, Open}
 use Rattle.match_model.specs.ContextLaws.{PartsLaw, ValuesLaw}
 use Rattle.match_model.specs.Pieces.{ArePieces}
-use Rattle.match_model.specs.PieceStates.{HasValue, IsPresentPiece, is_present, named_in}
-use Rattle.match_model.specs.Rows.{Head, is_wild, starts_wild, expand_row, all_specialised, parts_open, part_open}
+use Rattle.match_model.specs.PieceStates.{HasValue, is_present, named_in}
+use Rattle.match_model.specs.Rows.{Head, is_wild, starts_wild, expand_row, parts_open, part_open}
 use Rattle.match_model.specs.Matrices.{column_at}
 use Rattle.match_model.specs.Steps.{Replacement, expand_head, specialise_head, default_head, with_others, own_binds}
 use Rattle.match_model.specs.WellTyped.{AreHeadsTyped}
 use Rattle.match_model.specs.Witness.{parts_under}
-use Rattle.match_model.proofs.Basics.{untrue}
 use Rattle.constructor_sets.specs.Columns.{one, hits}
 use Rattle.constructor_sets.proofs.Once.{once_of}
 use Rattle.constructor_sets.proofs.Whole.{made_pieces}
 use Rattle.pat_context.specs.Parts.{AreValues}
 use Rattle.pat_context.proofs.Parting.{parts_values, refill}
 use Rattle.witness_laws.specs.HeadRows.{cols, AllTyped, AreMadeHeads, AreMadeRows}
-use Rattle.witness_laws.specs.Counting.{Question, WantedRow, AreLong, counts, wanted_at}
-use Rattle.witness_laws.specs.Searching.{Submatrix, heads_in, IsFit, Comes, SomeComes, apart, left_over, entered, settled, first_ctors, IsCut, IsSplit, all_wild, none_missing, some_missing}
+use Rattle.witness_laws.specs.Counting.{Question, WantedRow, AreLong, counts}
+use Rattle.witness_laws.specs.Searching.{Submatrix, heads_in, IsFit, Comes, SomeComes, apart, left_over, entered, settled, first_ctors, IsSplit, all_wild, none_missing, some_missing}
 use Rattle.witness_laws.proofs.Specials.{AreSidedRows}
 use Rattle.witness_laws.proofs.Made.{rows-append, expand_made, column_made, special_made}
 use Rattle.witness_laws.proofs.Places.{length-below, values-append, expanded_typed, NoneOr, expanded_none, heads_good, specials_typed, specials_types}
@@ -238,8 +237,7 @@ module _ {T : Type 0} (IsType : T → Type 0) (IsValue : T → Bool → MValue �
   leaves o places rows named p f b s (x, w, k) q (zs, a, e) =
       let n = cx.arity p o.type in
       let z = values-split IsType IsValue cx values law (parts_open cx o p) places n zs (length-below (part_open cx o p) n) a in
-      let r = refill IsType IsValue cx values law o p named x (cx.set_of o.type) f.types.0 refl b w k (take n zs) z.0 in
-      (
+      let r = refill IsType IsValue cx values law o p named x (cx.set_of o.type) f.types.0 refl b w k (take n zs) z.0 in (
         r.value ∷ drop n zs,
         (r.is, z.1),
         sym (entered_counts o places rows named p f b s q r.value (drop n zs) (r.is, z.1) r.build)
@@ -274,16 +272,15 @@ module _ {T : Type 0} (IsType : T → Type 0) (IsValue : T → Bool → MValue �
       let others = map (entered cx o places (settled rows)) present in
       tell (is_present (first_ctors rows) p)
       (λ t.
-          tell (counts q (settled rows) (v ∷ vs))
-          (λ k.
-              (
-                entered cx o places (settled rows) p,
-                there left (entered cx o places (settled rows) p) others (contains-map (entered cx o places (settled rows)) present p (c.all_present p h.1 (has, t))),
-                enters o places (settled rows) (named_in c.pieces) p (settled_fit o places rows f) (s.belong p h.1) (subst (AreSidedRows (named_in c.pieces) p (cx.arity p o.type)) (sym (settled_heads rows)) (s.sided p h.1)) q v vs a h.2 k,
-              ))
-          (λ k.
-              let wild : counts q (wild_alone rows) (v ∷ vs) ≡ true = sym (ap (λ b. b || counts q (wild_alone rows) (v ∷ vs)) k) ∙ sym (kinds_count q rows (v ∷ vs)) ∙ e in
-              (left, here left others, (vs, a.1, wild_counts q v vs rows (all_long IsValue cx (o ∷ places) rows (v ∷ vs) f.typed a) wild))))
+      tell (counts q (settled rows) (v ∷ vs))
+      (λ k. (
+        entered cx o places (settled rows) p,
+        there left (entered cx o places (settled rows) p) others (contains-map (entered cx o places (settled rows)) present p (c.all_present p h.1 (has, t))),
+        enters o places (settled rows) (named_in c.pieces) p (settled_fit o places rows f) (s.belong p h.1) (subst (AreSidedRows (named_in c.pieces) p (cx.arity p o.type)) (sym (settled_heads rows)) (s.sided p h.1)) q v vs a h.2 k,
+      ))
+      (λ k.
+      let wild : counts q (wild_alone rows) (v ∷ vs) ≡ true = sym (ap (λ b. b || counts q (wild_alone rows) (v ∷ vs)) k) ∙ sym (kinds_count q rows (v ∷ vs)) ∙ e in
+      (left, here left others, (vs, a.1, wild_counts q v vs rows (all_long IsValue cx (o ∷ places) rows (v ∷ vs) f.typed a) wild))))
       (λ t. (left, here left others, (vs, a.1, default_counts o places rows f q v vs a (missing_replace (named_in c.pieces) p (cx.arity p o.type) v rows h.2 (s.sided p h.1) t) ∙ e)))
 
   -- handing back
@@ -315,17 +312,16 @@ module _ {T : Type 0} (IsType : T → Type 0) (IsValue : T → Bool → MValue �
       let s = splitting o places rows c.pieces f n w c.listed in
       let m = c.one_missing refl in
       let g = settled_fit o places rows f in
-      in_cons (left_over places rows) x (map (entered cx o places (settled rows)) present) (λ x. IsFit IsType IsValue cx x × ((q : Question) → Comes IsValue q x → Comes IsValue q (record { places = o ∷ places; rows = rows })))
-      (
+      in_cons (left_over places rows) x (map (entered cx o places (settled rows)) present) (λ x. IsFit IsType IsValue cx x × ((q : Question) → Comes IsValue q x → Comes IsValue q (record { places = o ∷ places; rows = rows }))) (
         left_fit o places rows f,
         λ q (vs, a, e).
             let (v, b, k) = m.2.0 in
             (v ∷ vs, (b, a), sym (default_counts o places rows f q v vs (b, a) (missing_replace (named_in c.pieces) m.0 (cx.arity m.0 o.type) v rows k (s.sided m.0 m.1) m.2.1)) ∙ e),
       )
       (λ z j.
-          let r = from-map (entered cx o places (settled rows)) present z j in
-          let p = r.0 in
-          let k = c.each_present p r.1 in
-          let sides = subst (AreSidedRows (named_in c.pieces) p (cx.arity p o.type)) (sym (settled_heads rows)) (s.sided p k.0) in
-          subst (λ x. IsFit IsType IsValue cx x × ((q : Question) → Comes IsValue q x → Comes IsValue q (record { places = o ∷ places; rows = rows }))) r.2
-          (entered_fit o places (settled rows) (named_in c.pieces) p g (s.belong p k.0) k.1.0, λ q t. settled_less q (o ∷ places) rows (leaves o places (settled rows) (named_in c.pieces) p g (s.belong p k.0) sides k.1.0 q t))) i
+      let r = from-map (entered cx o places (settled rows)) present z j in
+      let p = r.0 in
+      let k = c.each_present p r.1 in
+      let sides = subst (AreSidedRows (named_in c.pieces) p (cx.arity p o.type)) (sym (settled_heads rows)) (s.sided p k.0) in
+      subst (λ x. IsFit IsType IsValue cx x × ((q : Question) → Comes IsValue q x → Comes IsValue q (record { places = o ∷ places; rows = rows }))) r.2
+      (entered_fit o places (settled rows) (named_in c.pieces) p g (s.belong p k.0) k.1.0, λ q t. settled_less q (o ∷ places) rows (leaves o places (settled rows) (named_in c.pieces) p g (s.belong p k.0) sides k.1.0 q t))) i

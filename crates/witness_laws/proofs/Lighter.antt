@@ -5,15 +5,15 @@ use Rattle.match_model.specs.Values.{MValue}
 use Rattle.match_model.specs.Constructors.{MCtor, SingleCtor, OrCtor}
 use Rattle.match_model.specs.Contexts.{Context, Open}
 use Rattle.match_model.specs.ArenaPatterns.{de_pat}
-use Rattle.match_model.specs.Rows.{Head, is_wild, is_or_ctor, starts_wild, starts_or, row_rest, expand_row, all_specialised}
+use Rattle.match_model.specs.Rows.{Head, is_wild, starts_wild, starts_or, row_rest, expand_row, all_specialised}
 use Rattle.match_model.specs.Matrices.{MRow, expand_rows, first_wild, first_or, row_with, first_binds, specialised_rows, default_rows}
 use Rattle.match_model.specs.Steps.{Replacement, expand_head, specialise_head, default_head, with_others, own_binds}
 use Rattle.match_model.specs.Weights.{heads_weight, rows_weight}
-use Rattle.match_model.proofs.Basics.{untrue, both}
-use Rattle.match_model.proofs.Falling.{rows_by, rows_by_less, steps_lower}
+use Rattle.match_model.proofs.Basics.{untrue}
+use Rattle.match_model.proofs.Falling.{rows_by_less, steps_lower}
 use Rattle.witness_laws.specs.HeadRows.{all_heads, cols, AllTyped}
 use Rattle.witness_laws.specs.Counting.{WantedRow, wanted_at}
-use Rattle.witness_laws.specs.Searching.{Submatrix, weight_of, heads_in, apart, left_over, entered, settled, first_ctors, IsSplit, all_wild, none_missing, some_missing}
+use Rattle.witness_laws.specs.Searching.{Submatrix, weight_of, heads_in, apart, left_over, entered, settled, IsSplit, all_wild, none_missing, some_missing}
 use Rattle.witness_laws.proofs.MatrixHeads.{expand_all, special_all}
 use Rattle.witness_laws.proofs.Splits.{replaced_heads, wanted_heads, special_heads, AreSome, expanded_heads}
 use Rattle.witness_laws.proofs.HandingOn.{tell, some_heads, settled_heads, from-map, in_cons}
@@ -131,8 +131,7 @@ Light rows n = (weight_of n ≤ rows_weight (plain_rows rows)) × (list_all star
 
 left_light : {T : Type 0} (places : List (Open T)) (rows : List (WantedRow T)) → AreSome (heads_in rows) → Light rows (left_over places rows)
 left_light places rows s =
-    let e = default_total rows s in
-    (
+    let e = default_total rows s in (
       let k = steps_lower.default [] (plain_rows rows) in omega (arith, e, k),
       λ w. let k = default_less (plain_rows rows) (some_other (plain_rows rows) (wild_rows rows ∙ w)) in omega (arith, e, k),
     )
@@ -140,8 +139,7 @@ left_light places rows s =
 entered_light : {T : Type 0} (cx : Context T) (o : Open T) (places : List (Open T)) (rows : List (WantedRow T)) (p : MCtor) → Light rows (entered cx o places rows p)
 entered_light cx o places rows p =
     let n = cx.arity p o.type in
-    let e = special_total p n rows in
-    (
+    let e = special_total p n rows in (
       let k = steps_lower.specialised [] p n (plain_rows rows) in omega (arith, e, k),
       λ w. let k = steps_lower.fewer_ctors [] p n (plain_rows rows) (wild_rows rows ∙ w) in omega (arith, e, k),
     )
@@ -174,6 +172,6 @@ falls IsValue cx o places rows children t u p w n i =
     tell (list_any first_or (plain_rows rows))
     (λ h. let a = l.0 in let k = steps_lower.fewer_ors [] (plain_rows rows) h in omega (arith, a, e, k))
     (λ h.
-        let same : heads_in (apart rows) ≡ heads_in rows = wanted_heads expand_head rows ∙ expanded_heads (heads_in rows) some ∙ expand_alone rows h in
-        let a = l.1 (ap (list_all starts_wild) same ∙ w) in
-        let k = steps_lower.expanded [] (plain_rows rows) in omega (arith, a, e, k))
+    let same : heads_in (apart rows) ≡ heads_in rows = wanted_heads expand_head rows ∙ expanded_heads (heads_in rows) some ∙ expand_alone rows h in
+    let a = l.1 (ap (list_all starts_wild) same ∙ w) in
+    let k = steps_lower.expanded [] (plain_rows rows) in omega (arith, a, e, k))

@@ -1,15 +1,15 @@
 -- Rows are listed one by one; those that bring nothing new and stop nothing are left out.
-use Rattle.std.proofs.Common.{◌≡◌, ◌⊎◌, inl, inr, ◌≤◌, ℕ, suc, ◌+◌, Bool, true, false, not, ◌&&◌, ◌||◌, List, [], ◌∷◌, ◌++◌, map, length, nat_eq, refl, sym, ap, subst, ◌∙◌, arith}
+use Rattle.std.proofs.Common.{◌≡◌, ◌⊎◌, inl, inr, ◌≤◌, ℕ, ◌+◌, Bool, true, false, not, ◌&&◌, ◌||◌, List, [], ◌∷◌, ◌++◌, map, length, nat_eq, refl, sym, ap, subst, ◌∙◌, arith}
 use Rattle.std.specs.List.{list_all, list_any}
 use Rattle.std.proofs.lemmas.List.{append-nil}
 use Rattle.match_model.specs.Values.{MValue}
 use Rattle.match_model.specs.Contexts.{Context, Open}
 use Rattle.match_model.specs.Rows.{Head, is_wild}
 use Rattle.match_model.specs.Weights.{heads_weight, rows_weight}
-use Rattle.match_model.proofs.Basics.{untrue, both, and_true, or_left, or_right}
+use Rattle.match_model.proofs.Basics.{untrue, both, or_right}
 use Rattle.witness_laws.specs.Covering.{is_some_there, row_takes}
 use Rattle.witness_laws.specs.HeadRows.{cols, AllTyped, AreMadeRows}
-use Rattle.witness_laws.specs.Counting.{Question, WantedRow, AreLong, has_chosen, heads_pass, row_answers, row_stops, counts}
+use Rattle.witness_laws.specs.Counting.{Question, WantedRow, has_chosen, heads_pass, row_answers, row_stops, counts}
 use Rattle.witness_laws.specs.Searching.{heads_in, counts_before, is_bare, IsDone, IsNoted, IsPart, no_more, kept, left_out, DoFor, StandFor}
 use Rattle.witness_laws.proofs.PieceTraces.{wild_trace}
 use Rattle.witness_laws.proofs.Folds.{some_has, head_some, head_has}
@@ -156,7 +156,7 @@ none_listed is_marked n = record { on = λ q vs k l e. inr e; back = λ q vs k l
 pub listed_later : {T : Type 0} (old now : Question → Bool) (n : ℕ) (through kept_rows : List (WantedRow T)) → ((q : Question) → old q ≡ true → now q ≡ true) →
     DoFor old n through kept_rows → DoFor now n through kept_rows
 listed_later old now n through kept_rows g d = record {
-  on = λ q vs k l e. elim (d.on q vs k l e) [ | inl m ↦ inl (g q m) | inr m ↦ inr m ];
+  on = λ q vs k l e. elim (d.on q vs k l e) [ inl m ↦ inl (g q m) | inr m ↦ inr m ];
   back = d.back;
   part = d.part;
 }
@@ -258,13 +258,13 @@ list_row {T} is_marked n through kept_rows x w d less f = record {
     onward q vs k l e =
         elim (d.on q vs ((x.wanted && row_answers q x.row vs) || (not (row_stops x.row vs) && k)) l e) [
           | inl m ↦ inl m
-          | inr m ↦ elim (same q vs k) [ | inl h ↦ inl h | inr h ↦ inr (before_append q kept_rows (as_wanted w x ∷ []) vs k ∙ subst (λ b. counts_before q kept_rows vs b ≡ true) h m) ]
+          | inr m ↦ elim (same q vs k) [ inl h ↦ inl h | inr h ↦ inr (before_append q kept_rows (as_wanted w x ∷ []) vs k ∙ subst (λ b. counts_before q kept_rows vs b ≡ true) h m) ]
         ]
 
 -- the end of the rows
 pub listed_all : {T : Type 0} (is_marked : Question → Bool) (n : ℕ) (rows kept_rows : List (WantedRow T)) → DoFor is_marked n rows kept_rows → StandFor is_marked n rows kept_rows
 listed_all is_marked n rows kept_rows d = record {
-  on = λ q vs l e. elim (d.on q vs false l (before_none q rows vs ∙ e)) [ | inl m ↦ inl m | inr m ↦ inr (sym (before_none q kept_rows vs) ∙ m) ];
+  on = λ q vs l e. elim (d.on q vs false l (before_none q rows vs ∙ e)) [ inl m ↦ inl m | inr m ↦ inr (sym (before_none q kept_rows vs) ∙ m) ];
   back = λ q vs l e. sym (before_none q rows vs) ∙ d.back q vs false l (before_none q kept_rows vs ∙ e);
   part = d.part;
 }
@@ -323,7 +323,7 @@ unwanted q (x ∷ rows) vs e = go x.wanted e (unwanted q rows vs)
 pub cut_behind : {T : Type 0} (is_marked : Question → Bool) (n : ℕ) (rows kept_rows behind : List (WantedRow T)) → StandFor is_marked n rows (kept_rows ++ behind) →
     list_any (λ x. x.wanted) behind ≡ false → StandFor is_marked n rows kept_rows
 cut_behind is_marked n rows kept_rows behind d w = record {
-  on = λ q vs l e. elim (d.on q vs l e) [ | inl m ↦ inl m | inr m ↦ inr (sym (same q vs) ∙ m) ];
+  on = λ q vs l e. elim (d.on q vs l e) [ inl m ↦ inl m | inr m ↦ inr (sym (same q vs) ∙ m) ];
   back = λ q vs l e. d.back q vs l (same q vs ∙ e);
   part = part_both (heads_in kept_rows) (heads_in (kept_rows ++ behind)) (heads_in rows)
       (subst (IsPart (heads_in kept_rows)) (sym (heads_append kept_rows behind))

@@ -1,15 +1,15 @@
 -- A search keeps what it says, gets less at each step, and tells at its end exactly what values come to.
-use Rattle.std.proofs.Common.{◌≡◌, ◌⊎◌, inl, inr, ◌↔◌, ◌≤◌, ◌<◌, ℕ, zero, suc, ◌+◌, ◌*◌, Bool, true, false, not, ◌&&◌, ◌||◌, List, [], ◌∷◌, ◌++◌, map, length, nat_eq, refl, sym, ap, subst, ◌∙◌, arith}
+use Rattle.std.proofs.Common.{◌≡◌, ◌⊎◌, inl, inr, ◌↔◌, ◌≤◌, ◌<◌, ℕ, zero, suc, ◌+◌, ◌*◌, Bool, true, false, not, ◌&&◌, ◌||◌, List, [], ◌∷◌, ◌++◌, length, nat_eq, refl, sym, ap, subst, ◌∙◌, arith}
 use Rattle.std.specs.List.{list_all, Contains}
 use Rattle.match_model.specs.Values.{MValue}
 use Rattle.match_model.specs.Contexts.{Context, Open}
 use Rattle.match_model.specs.ContextLaws.{PartsLaw, ValuesLaw}
-use Rattle.match_model.specs.Rows.{Head, starts_wild}
+use Rattle.match_model.specs.Rows.{starts_wild}
 use Rattle.match_model.proofs.Basics.{untrue, both}
 use Rattle.pat_context.specs.Parts.{AreValues}
 use Rattle.witness_laws.specs.Covering.{row_takes}
 use Rattle.witness_laws.specs.Counting.{Question, WantedRow, has_chosen, heads_pass, row_answers, row_stops, counts}
-use Rattle.witness_laws.specs.Searching.{Submatrix, weight_of, heads_in, IsFit, Comes, SomeComes, apart, IsSplit, StandFor, IsAccounted, IsSearch, IsLookedAt, power, work, AreListed, IsAlike, AreAlike}
+use Rattle.witness_laws.specs.Searching.{Submatrix, weight_of, heads_in, IsFit, Comes, SomeComes, apart, IsSplit, StandFor, IsAccounted, IsSearch, IsLookedAt, power, work, AreListed, AreAlike}
 use Rattle.witness_laws.proofs.HandingOn.{here, there, in_cons}
 use Rattle.witness_laws.proofs.Listing.{part_typed, part_made, part_weighs}
 use Rattle.witness_laws.proofs.Splitting.{splits_hand_on}
@@ -29,7 +29,7 @@ in_either : {A : Type 0} (xs ys : List A) (z : A) → Contains (xs ++ ys) z → 
 in_either [] ys z c = inr c
 in_either (x ∷ xs) ys z (zero, l, e) = inl (zero, omega arith, e)
 in_either (x ∷ xs) ys z (suc k, l, e) =
-    elim (in_either xs ys z (k, omega (arith, l), e)) [ | inl c ↦ inl (there x z xs c) | inr c ↦ inr c ]
+    elim (in_either xs ys z (k, omega (arith, l), e)) [ inl c ↦ inl (there x z xs c) | inr c ↦ inr c ]
 
 the_one : {A : Type 0} (x z : A) → Contains (x ∷ []) z → x ≡ z
 the_one x z (zero, l, e) = e
@@ -155,7 +155,7 @@ module _ {T : Type 0} (IsType : T → Type 0) (IsValue : T → Bool → MValue �
   pub ends : (first : Submatrix T) (is_marked : Question → Bool) (seen : List (Submatrix T)) → IsSearch IsType IsValue cx first is_marked [] seen → (q : Question) → (is_marked q ≡ true) ↔ Comes IsValue q first
   ends first is_marked seen s q = (
     s.right q,
-    λ c. elim (s.on q c) [ | inl m ↦ m | inr (n, (k, l, e), w, d) ↦ absurd (omega (arith, l)) ],
+    λ c. elim (s.on q c) [ inl m ↦ m | inr (n, (k, l, e), w, d) ↦ absurd (omega (arith, l)) ],
   )
 
   -- what was accounted for by a submatrix that is looked at is so by what comes of it
@@ -166,19 +166,19 @@ module _ {T : Type 0} (IsType : T → Type 0) (IsValue : T → Bool → MValue �
       elim (in_either todo (s ∷ []) n c) [
         | inl i ↦ inr (n, in_left todo new n i, l, d)
         | inr i ↦ (
-              let e = the_one s n i in
-              let lighter : weight_of s < w = subst (λ (x : Submatrix T). weight_of x < w) (sym e) l in
-              elim (k.on q (subst (Comes IsValue q) (sym e) d)) [
-                | inl m ↦ inl m
-                | inr (x, j, b) ↦ inr (x, in_right todo new x j, (let h = k.lighter x j in omega (arith, h, lighter)), b)
-              ])
+            let e = the_one s n i in
+            let lighter : weight_of s < w = subst (λ (x : Submatrix T). weight_of x < w) (sym e) l in
+            elim (k.on q (subst (Comes IsValue q) (sym e) d)) [
+              | inl m ↦ inl m
+              | inr (x, j, b) ↦ inr (x, in_right todo new x j, (let h = k.lighter x j in omega (arith, h, lighter)), b)
+            ])
       ]
 
   pub looks : (first : Submatrix T) (old now : Question → Bool) (todo new seen : List (Submatrix T)) (s : Submatrix T) → IsSearch IsType IsValue cx first old (todo ++ s ∷ []) seen →
       IsLookedAt IsType IsValue cx old now s new → IsSearch IsType IsValue cx first now (todo ++ new) (s ∷ seen)
   looks first old now todo new seen s h k = record {
-    right = λ q e. elim (k.right q e) [ | inl m ↦ h.right q m | inr c ↦ h.back s (in_right todo (s ∷ []) s (here s [])) q c ];
-    fit = λ n c. elim (in_either todo new n c) [ | inl i ↦ h.fit n (in_left todo (s ∷ []) n i) | inr i ↦ k.fit n i ];
+    right = λ q e. elim (k.right q e) [ inl m ↦ h.right q m | inr c ↦ h.back s (in_right todo (s ∷ []) s (here s [])) q c ];
+    fit = λ n c. elim (in_either todo new n c) [ inl i ↦ h.fit n (in_left todo (s ∷ []) n i) | inr i ↦ k.fit n i ];
     back = λ n c q d. elim (in_either todo new n c) [
       | inl i ↦ h.back n (in_left todo (s ∷ []) n i) q d
       | inr i ↦ h.back s (in_right todo (s ∷ []) s (here s [])) q (k.back n i q d)
@@ -186,7 +186,7 @@ module _ {T : Type 0} (IsType : T → Type 0) (IsValue : T → Bool → MValue �
     on = λ q c. still_accounted old now todo new s k q (suc (weight_of first)) (h.on q c);
     told = λ x i q c.
         in_cons s x seen (λ x. Comes IsValue q x → IsAccounted IsValue now (todo ++ new) q (weight_of x))
-        (λ c. elim (k.on q c) [ | inl m ↦ inl m | inr (n, j, b) ↦ inr (n, in_right todo new n j, k.lighter n j, b) ])
+        (λ c. elim (k.on q c) [ inl m ↦ inl m | inr (n, j, b) ↦ inr (n, in_right todo new n j, k.lighter n j, b) ])
         (λ x i c. still_accounted old now todo new s k q (weight_of x) (h.told x i q c)) i c;
   }
 
@@ -215,9 +215,9 @@ module _ {T : Type 0} (IsType : T → Type 0) (IsValue : T → Bool → MValue �
           elim (in_either todo (s ∷ []) n c) [
             | inl j ↦ inr (n, j, k, d)
             | inr j ↦ (
-                  let e = the_one s n j in
-                  let l : weight_of s < u = subst (λ (x : Submatrix T). weight_of x < u) (sym e) k in
-                  elim (f q (subst (Comes IsValue q) (sym e) d)) [ | inl m ↦ inl m | inr b ↦ by_seen q u l (h.told t i q b) ])
+                let e = the_one s n j in
+                let l : weight_of s < u = subst (λ (x : Submatrix T). weight_of x < u) (sym e) k in
+                elim (f q (subst (Comes IsValue q) (sym e) d)) [ inl m ↦ inl m | inr b ↦ by_seen q u l (h.told t i q b) ])
           ]
 
   -- rows that say the same over the same places
@@ -248,7 +248,7 @@ module _ {T : Type 0} (IsType : T → Type 0) (IsValue : T → Bool → MValue �
       let law : Rattle.witness_laws.specs.ReachLaws.SplitsHandOn IsType IsValue cx = splits_hand_on IsType IsValue cx values law in
       record {
         grow = g;
-        right = λ q e. elim (r q e) [ | inl m ↦ inl m | inr (n, i, c) ↦ inr (law.back o places rows left f p n i q c) ];
+        right = λ q e. elim (r q e) [ inl m ↦ inl m | inr (n, i, c) ↦ inr (law.back o places rows left f p n i q c) ];
         fit = λ m i. let (n, j, e, d) = a.of_left m i in stood_fit now n m (law.fit o places rows left f p n j) e d;
         lighter = λ m i. let (n, j, e, d) = a.of_left m i in let k = law.falls o places rows left f p w n j in let l = part_weighs m.rows n.rows d.part in omega (arith, k, l);
         back = λ m i q c. let (n, j, e, d) = a.of_left m i in law.back o places rows left f p n j q (stood_back now n m e d q c);
@@ -264,7 +264,7 @@ module _ {T : Type 0} (IsType : T → Type 0) (IsValue : T → Bool → MValue �
               elim (d.on q vs (values_long IsValue n.places vs b) c) [
                 | inl m ↦ inl m
                 | inr e ↦ elim h [
-                      | inl j ↦ inr (record { places = n.places; rows = kept }, j, (vs, b, e))
-                      | inr z ↦ untrue (sym (ap (λ (xs : List (WantedRow T)). counts q xs vs) z) ∙ e)
-                    ]
+                  | inl j ↦ inr (record { places = n.places; rows = kept }, j, (vs, b, e))
+                  | inr z ↦ untrue (sym (ap (λ (xs : List (WantedRow T)). counts q xs vs) z) ∙ e)
+                ]
               ]

@@ -1,37 +1,23 @@
 -- What stands for the heads of a place: the heads of a piece's parts, or nothing.
-use Rattle.std.proofs.Common.{◌≡◌, ◌<◌, ℕ, zero, suc, ◌+◌, Bool, true, false, not, ◌&&◌, ◌||◌, List, [], ◌∷◌, ◌++◌, map, take, drop, length, nat_eq, cond, Some, None, refl, sym, ap, subst, ◌∙◌, arith, IsTrue}
-use Rattle.std.specs.List.{list_all, list_any, flat_map, Contains}
-use Rattle.std.proofs.lemmas.List.{map-append, append-nil, take-append-drop}
+use Rattle.std.proofs.Common.{◌≡◌, ℕ, suc, Bool, true, false, not, ◌&&◌, ◌||◌, List, [], ◌∷◌, ◌++◌, map, length, nat_eq, cond, Some, None, refl, sym, ap, subst, ◌∙◌, arith}
+use Rattle.std.specs.List.{list_all, flat_map}
+use Rattle.std.proofs.lemmas.List.{append-nil}
 use Rattle.match_model.specs.Values.{MValue}
-use Rattle.match_model.specs.Constructors.{MCtor, SingleCtor, PointCtor, LaterCtor, OtherTextCtor, VariantCtor, FlagCtor, NumbersCtor, TextCtor, RowCtor, WildCtor, OrCtor, belongs, builds, has_piece}
-use Rattle.match_model.specs.Contexts.{Context, Open}
-use Rattle.match_model.specs.ContextLaws.{PartsLaw, ValuesLaw}
+use Rattle.match_model.specs.Constructors.{MCtor, SingleCtor, PointCtor, LaterCtor, OtherTextCtor, VariantCtor, FlagCtor, NumbersCtor, TextCtor, RowCtor, WildCtor, OrCtor, builds, has_piece}
 use Rattle.match_model.specs.ArenaPatterns.{MBound, de_pat, MDePats, de_pats_list}
-use Rattle.match_model.specs.Pieces.{ArePieces}
-use Rattle.match_model.specs.PieceStates.{HasValue, is_present, named_in}
-use Rattle.match_model.specs.Rows.{Head, Choice, choices_of, is_wild, is_wild_ctor, starts_wild, row_rest, column_of, wildcards, heads_of, expand_row, specialised_heads, all_specialised, parts_open, part_open}
-use Rattle.match_model.specs.Matrices.{column_at}
+use Rattle.match_model.specs.PieceStates.{is_present}
+use Rattle.match_model.specs.Rows.{Head, Choice, choices_of, is_wild, is_wild_ctor, starts_wild, column_of, wildcards, heads_of, expand_row, specialised_heads, all_specialised}
 use Rattle.match_model.specs.Steps.{Replacement, expand_head, specialise_head, default_head, own_binds, with_others, replacements_at, row_replaced}
-use Rattle.match_model.specs.WellTyped.{AreHeadsTyped}
 use Rattle.match_model.specs.Witness.{parts_under}
 use Rattle.match_model.proofs.Basics.{untrue, both}
-use Rattle.constructor_sets.specs.Columns.{one, hits}
-use Rattle.constructor_sets.proofs.Once.{once_of}
-use Rattle.constructor_sets.proofs.Whole.{made_pieces}
-use Rattle.pat_context.specs.Parts.{AreValues}
-use Rattle.pat_context.proofs.Parting.{parts_values, refill}
-use Rattle.witness_laws.specs.HeadRows.{cols, AreTypes, AllTyped, AreMadeHeads, AreMadeRows}
 use Rattle.witness_laws.specs.Covering.{row_takes}
 use Rattle.witness_laws.specs.Counting.{Question, WantedRow, AreLong, heads_pass, has_chosen, row_answers, row_stops, counts, wanted_at}
-use Rattle.witness_laws.specs.Searching.{Submatrix, heads_in, IsFit, Comes, SomeComes, apart, left_over, entered, settled, first_ctors, IsCut, IsSplit, all_wild, none_missing, some_missing}
+use Rattle.witness_laws.specs.Searching.{heads_in, settled, first_ctors}
 use Rattle.witness_laws.proofs.Specials.{wilds_length, IsSided, IsSidedRow, AreSidedRows}
-use Rattle.witness_laws.proofs.Made.{expand_made, rests_made, column_made, special_made}
-use Rattle.witness_laws.proofs.Places.{length-below, values-append, rests_typed, expanded_typed, NoneOr, expanded_none, heads_good, specials_typed, specials_types}
-use Rattle.witness_laws.proofs.Exact.{built, seen, AreAllSided, all_sided, values-split}
-use Rattle.witness_laws.proofs.Traces.{behind, head_traces, row_traces, behind_none, traced_by, other_traces, pat_traces}
+use Rattle.witness_laws.proofs.Traces.{behind, head_traces, row_traces, behind_none, other_traces, pat_traces}
 use Rattle.witness_laws.proofs.PieceTraces.{wilds_trace, heads_trace, none_trace, wild_trace}
 use Rattle.witness_laws.proofs.Folds.{one_counts, fold, Each, takes_in, passes_in, traces_in}
-use Rattle.witness_laws.proofs.Columns.{Replaces, HeadAt, HeadsAt, row_moved, these_rows, replaced_counts, expand_replaces, heads_at}
+use Rattle.witness_laws.proofs.Columns.{Replaces, HeadAt, HeadsAt, row_moved, these_rows}
 
 -- heads after a step
 

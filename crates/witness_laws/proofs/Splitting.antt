@@ -1,10 +1,9 @@
 -- Taking the first place of a submatrix apart hands on what values come to.
-use Rattle.std.proofs.Common.{◌≡◌, Bool, true, List, [], ◌∷◌, sym, ◌∙◌}
+use Rattle.std.proofs.Common.{Bool, List, [], ◌∷◌, sym, ◌∙◌}
 use Rattle.match_model.specs.Values.{MValue}
 use Rattle.match_model.specs.Contexts.{Context, Open}
 use Rattle.match_model.specs.ContextLaws.{PartsLaw, ValuesLaw}
-use Rattle.pat_context.specs.Parts.{AreValues}
-use Rattle.witness_laws.specs.Counting.{Question, WantedRow, counts}
+use Rattle.witness_laws.specs.Counting.{Question, WantedRow}
 use Rattle.witness_laws.specs.Searching.{Submatrix, Comes, SomeComes, apart, IsSplit}
 use Rattle.witness_laws.specs.ReachLaws.{SplitsHandOn}
 use Rattle.witness_laws.proofs.HandingOn.{Fit, apart_fit, apart_none, apart_counts, goes_on, comes_back}

@@ -7,7 +7,7 @@ use Rattle.match_model.specs.Constructors.{MCtor}
 use Rattle.match_model.specs.Contexts.{Context, Open}
 use Rattle.match_model.specs.ArenaPatterns.{MDeMatch}
 use Rattle.match_model.specs.Pieces.{ArePieces}
-use Rattle.match_model.specs.PieceStates.{HasValue, IsPresentPiece, IsMissingPiece, is_present, named_in}
+use Rattle.match_model.specs.PieceStates.{IsPresentPiece, IsMissingPiece, named_in}
 use Rattle.match_model.specs.Rows.{Head, is_wild, starts_wild, column_of, parts_open}
 use Rattle.match_model.specs.Steps.{expand_head, specialise_head, default_head}
 use Rattle.match_model.specs.Weights.{rows_weight}
