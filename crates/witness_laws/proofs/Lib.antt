@@ -27,3 +27,4 @@ pub mod Moving
 pub mod SearchSteps
 pub mod SearchWhole
 pub mod FirstTold
+pub mod FoundCut

@@ -1,17 +1,18 @@
 -- A search keeps what it says, gets less at each step, and tells at its end exactly what values come to.
-use Rattle.std.proofs.Common.{◌≡◌, ◌⊎◌, inl, inr, ◌↔◌, ◌≤◌, ◌<◌, ℕ, zero, suc, ◌+◌, ◌*◌, Bool, true, false, not, ◌&&◌, ◌||◌, List, [], ◌∷◌, ◌++◌, length, nat_eq, refl, sym, ap, subst, ◌∙◌, arith}
+use Rattle.std.proofs.Common.{◌≡◌, ◌⊎◌, inl, inr, ◌↔◌, ◌≤◌, ◌<◌, ℕ, zero, suc, ◌+◌, ◌*◌, Bool, true, false, not, ◌&&◌, ◌||◌, List, [], ◌∷◌, ◌++◌, length, nat_eq, refl, sym, ap, subst, ◌∙◌, arith, map}
 use Rattle.std.specs.List.{list_all, Contains}
 use Rattle.match_model.specs.Values.{MValue}
 use Rattle.match_model.specs.Contexts.{Context, Open}
 use Rattle.match_model.specs.ContextLaws.{PartsLaw, ValuesLaw}
 use Rattle.match_model.specs.Rows.{starts_wild}
 use Rattle.match_model.proofs.Basics.{untrue, both}
+use Rattle.match_model.specs.Weights.{heads_weight, rows_weight}
 use Rattle.pat_context.specs.Parts.{AreValues}
 use Rattle.witness_laws.specs.Covering.{row_takes}
 use Rattle.witness_laws.specs.Counting.{Question, WantedRow, has_chosen, heads_pass, row_answers, row_stops, counts}
-use Rattle.witness_laws.specs.Searching.{Submatrix, weight_of, heads_in, IsFit, Comes, SomeComes, apart, IsSplit, StandFor, IsAccounted, IsSearch, IsLookedAt, power, work, AreListed, AreAlike}
+use Rattle.witness_laws.specs.Searching.{Submatrix, weight_of, heads_in, IsFit, Comes, SomeComes, apart, IsSplit, StandFor, IsAccounted, IsSearch, IsLookedAt, power, work, AreListed, AreAlike, is_bare, DoFor}
 use Rattle.witness_laws.proofs.HandingOn.{here, there, in_cons}
-use Rattle.witness_laws.proofs.Listing.{part_typed, part_made, part_weighs}
+use Rattle.witness_laws.proofs.Listing.{part_typed, part_made, part_weighs, noted_counts}
 use Rattle.witness_laws.proofs.Splitting.{splits_hand_on}
 
 -- membership
@@ -136,7 +137,14 @@ alike_counts {T} is_marked q (x ∷ rows) (y ∷ others) vs m a e =
         closed : (b : Bool) → (b || true) ≡ true
         closed b = grind arith
 
-values_long : {T : Type 0} (IsValue : T → Bool → MValue → Type 0) (places : List (Open T)) (vs : List MValue) → AreValues IsValue places vs → length vs ≡ length places
+pub alike_weighs : {T : Type 0} (is_marked : Question → Bool) (rows others : List (WantedRow T)) → AreAlike is_marked rows others → rows_weight (map (λ x. x.row) rows) ≡ rows_weight (map (λ x. x.row) others)
+alike_weighs is_marked [] [] a = refl
+alike_weighs is_marked [] (y ∷ others) a = absurd a
+alike_weighs is_marked (x ∷ rows) [] a = absurd a
+alike_weighs is_marked (x ∷ rows) (y ∷ others) a =
+    ap (λ hs. heads_weight hs + rows_weight (map (λ x. x.row) rows)) a.0.heads ∙ ap (λ n. heads_weight y.row.heads + n) (alike_weighs is_marked rows others a.1)
+
+pub values_long : {T : Type 0} (IsValue : T → Bool → MValue → Type 0) (places : List (Open T)) (vs : List MValue) → AreValues IsValue places vs → length vs ≡ length places
 values_long IsValue [] [] a = refl
 values_long IsValue [] (v ∷ vs) a = absurd a
 values_long IsValue (o ∷ places) [] a = absurd a
@@ -219,6 +227,43 @@ module _ {T : Type 0} (IsType : T → Type 0) (IsValue : T → Bool → MValue �
                 let l : weight_of s < u = subst (λ (x : Submatrix T). weight_of x < u) (sym e) k in
                 elim (f q (subst (Comes IsValue q) (sym e) d)) [ inl m ↦ inl m | inr b ↦ by_seen q u l (h.told t i q b) ])
           ]
+
+  -- what was seen may be forgotten
+  pub forgets : (first : Submatrix T) (is_marked : Question → Bool) (todo seen fewer : List (Submatrix T)) → IsSearch IsType IsValue cx first is_marked todo seen →
+      ((t : Submatrix T) → Contains fewer t → Contains seen t) → IsSearch IsType IsValue cx first is_marked todo fewer
+  forgets first is_marked todo seen fewer h f = record { right = h.right; fit = h.fit; back = h.back; on = h.on; told = λ t i. h.told t (f t i) }
+
+  -- one that says the same and is no heavier may stand in place of a submatrix
+  pub restates : (first : Submatrix T) (is_marked : Question → Bool) (todo seen : List (Submatrix T)) (s t : Submatrix T) → IsSearch IsType IsValue cx first is_marked (todo ++ s ∷ []) seen →
+      IsFit IsType IsValue cx t → weight_of t ≤ weight_of s → ((q : Question) → Comes IsValue q s ↔ Comes IsValue q t) → IsSearch IsType IsValue cx first is_marked (todo ++ t ∷ []) seen
+  restates first is_marked todo seen s t h f w g = record {
+    right = h.right;
+    fit = λ n c. elim (in_either todo (t ∷ []) n c) [ | inl i ↦ h.fit n (in_left todo (s ∷ []) n i) | inr i ↦ subst (IsFit IsType IsValue cx) (the_one t n i) f ];
+    back = λ n c q d. elim (in_either todo (t ∷ []) n c) [
+      | inl i ↦ h.back n (in_left todo (s ∷ []) n i) q d
+      | inr i ↦ h.back s (in_right todo (s ∷ []) s (here s [])) q ((g q).1 (subst (Comes IsValue q) (sym (the_one t n i)) d))
+    ];
+    on = λ q c. instead q (suc (weight_of first)) (h.on q c);
+    told = λ x j q c. instead q (weight_of x) (h.told x j q c);
+  }
+    where
+      instead : (q : Question) (u : ℕ) → IsAccounted IsValue is_marked (todo ++ s ∷ []) q u → IsAccounted IsValue is_marked (todo ++ t ∷ []) q u
+      instead q u (inl m) = inl m
+      instead q u (inr (n, c, k, d)) =
+          elim (in_either todo (s ∷ []) n c) [
+            | inl j ↦ inr (n, in_left todo (t ∷ []) n j, k, d)
+            | inr j ↦ (
+                  let e = the_one s n j in
+                  let l : weight_of s < u = subst (λ (x : Submatrix T). weight_of x < u) (sym e) k in
+                  inr (t, in_right todo (t ∷ []) t (here t []), omega (arith, w, l), (g q).0 (subst (Comes IsValue q) (sym e) d)))
+          ]
+
+  -- a wanted row of wildcards before which none was listed is come to
+  pub noted : (is_marked : Question → Bool) (places : List (Open T)) (through : List (WantedRow T)) (x : WantedRow T) (rest : List (WantedRow T)) →
+      IsFit IsType IsValue cx (record { places = places; rows = through ++ x ∷ rest }) → DoFor is_marked (length places) through [] → length x.row.heads ≡ length places → is_bare x ≡ true → x.wanted ≡ true →
+      (q : Question) → (nat_eq q.arm x.row.arm && has_chosen q x.row.chosen) ≡ true → Comes IsValue q (record { places = places; rows = through ++ x ∷ rest })
+  noted is_marked places through x rest f d l b w q a =
+      (f.some.0, f.some.1, noted_counts is_marked (length places) through x rest d l b w q a f.some.0 (values_long IsValue places f.some.0 f.some.1))
 
   -- rows that say the same over the same places
   pub alike_come : (is_marked : Question → Bool) (places : List (Open T)) (rows others : List (WantedRow T)) → AreAlike is_marked rows others → (q : Question) →

@@ -6,7 +6,7 @@ use Rattle.match_model.specs.ContextLaws.{PartsLaw, ValuesLaw}
 use Rattle.witness_laws.specs.SearchLaws.{RowsAreListed, PlacesMayBeMoved, SearchIsExact}
 use Rattle.witness_laws.proofs.Listing as listing
 use Rattle.witness_laws.proofs.Moving.{fit_moved, comes_moved, comes_unmoved, weighs_moved}
-use Rattle.witness_laws.proofs.SearchSteps.{begins, looks, split_is_look, repeats, alike_come, ends, work_falls}
+use Rattle.witness_laws.proofs.SearchSteps.{begins, looks, split_is_look, noted, restates, forgets, alike_weighs, repeats, alike_come, ends, work_falls}
 
 pub rows_listed : {T : Type 0} → RowsAreListed T
 rows_listed = record {
@@ -35,8 +35,12 @@ module _ {T : Type 0} (IsType : T → Type 0) (IsValue : T → Bool → MValue �
     begins = begins IsType IsValue cx;
     looks = looks IsType IsValue cx;
     by_split = split_is_look IsType IsValue cx values law;
+    noted = noted IsType IsValue cx;
+    restates = restates IsType IsValue cx;
+    forgets = forgets IsType IsValue cx;
     repeats = repeats IsType IsValue cx;
     alike = alike_come IsType IsValue cx;
+    alike_weighs = alike_weighs;
     ends = ends IsType IsValue cx;
     falls = work_falls;
   }

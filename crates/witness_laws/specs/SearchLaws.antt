@@ -1,5 +1,5 @@
 -- What a search for what is reached may do, and what it tells at its end.
-use Rattle.std.specs.Prelude.{◌≡◌, ◌≢◌, ◌⊎◌, ◌↔◌, ◌≤◌, ◌<◌, ℕ, Bool, true, false, ◌&&◌, List, [], ◌∷◌, ◌++◌, length, nat_eq}
+use Rattle.std.specs.Prelude.{◌≡◌, ◌≢◌, ◌⊎◌, ◌↔◌, ◌≤◌, ◌<◌, ℕ, Bool, true, false, ◌&&◌, List, [], ◌∷◌, ◌++◌, length, nat_eq, map}
 use Rattle.std.specs.List.{list_all, list_any, Contains}
 use Rattle.match_model.specs.Values.{MValue, Unseen}
 use Rattle.match_model.specs.Contexts.{Context, Open}
@@ -8,14 +8,17 @@ use Rattle.match_model.specs.ArenaWays.{match_arms, InMatchDomain}
 use Rattle.match_model.specs.ArenaUnreachable.{IsReadingList}
 use Rattle.match_model.specs.Made.{AreArmsMade}
 use Rattle.match_model.specs.Match.{IsExhaustive}
+use Rattle.match_model.specs.Constructors.{MCtor}
 use Rattle.match_model.specs.Rows.{starts_wild}
+use Rattle.match_model.specs.Weights.{rows_weight}
+use Rattle.constructor_sets.specs.Present.{AreFound}
 use Rattle.match_model.specs.Unreachable.{Entry}
 use Rattle.match_model.specs.WellTyped.{IsWellTyped}
 use Rattle.match_model.specs.Witness.{MWitness}
 use Rattle.match_model.specs.WitnessList.{IsWitnessList}
 use Rattle.witness_laws.specs.Counting.{Question, WantedRow, has_chosen, counts, to_arm, through_alternative}
 use Rattle.witness_laws.specs.ReachLaws.{AreMarksExact}
-use Rattle.witness_laws.specs.Searching.{Submatrix, weight_of, heads_in, is_bare, IsFit, Comes, SomeComes, apart, IsSplit, IsDone, IsNoted, DoFor, StandFor, AreAlike, AreListed, IsSearch, IsLookedAt, work, moved_first, first_submatrix}
+use Rattle.witness_laws.specs.Searching.{Submatrix, weight_of, heads_in, is_bare, IsFit, Comes, SomeComes, apart, IsSplit, IsDone, IsNoted, DoFor, StandFor, AreAlike, AreListed, IsSearch, IsLookedAt, work, moved_first, first_submatrix, IsColumnCut}
 
 -- rows of so many heads are listed one by one
 pub record RowsAreListed (T : Type 0) : Type 0 where
@@ -73,6 +76,20 @@ pub record SearchIsExact {T : Type 0} (IsType : T → Type 0) (IsValue : T → B
       IsSplit IsValue cx o places (apart rows) left → AreListed now left new →
       ((q : Question) → old q ≡ true → now q ≡ true) → ((q : Question) → now q ≡ true → (old q ≡ true) ⊎ SomeComes IsValue q left) →
       IsLookedAt IsType IsValue cx old now (record { places = o ∷ places; rows = rows }) new
+  -- what is marked is right: a wanted row of wildcards before which none was listed is come to
+  pub noted : (is_marked : Question → Bool) (places : List (Open T)) (through : List (WantedRow T)) (x : WantedRow T) (rest : List (WantedRow T)) →
+      IsFit IsType IsValue cx (record { places = places; rows = through ++ x ∷ rest }) → DoFor is_marked (length places) through [] →
+      length x.row.heads ≡ length places → is_bare x ≡ true → x.wanted ≡ true →
+      (q : Question) → (nat_eq q.arm x.row.arm && has_chosen q x.row.chosen) ≡ true →
+      Comes IsValue q (record { places = places; rows = through ++ x ∷ rest })
+  -- one that says the same and is no heavier may stand in place of a submatrix, as with another place first
+  pub restates : (first : Submatrix T) (is_marked : Question → Bool) (todo seen : List (Submatrix T)) (s t : Submatrix T) →
+      IsSearch IsType IsValue cx first is_marked (todo ++ s ∷ []) seen → IsFit IsType IsValue cx t → weight_of t ≤ weight_of s →
+      ((q : Question) → Comes IsValue q s ↔ Comes IsValue q t) → IsSearch IsType IsValue cx first is_marked (todo ++ t ∷ []) seen
+  -- what was seen may be forgotten
+  pub forgets : (first : Submatrix T) (is_marked : Question → Bool) (todo seen fewer : List (Submatrix T)) →
+      IsSearch IsType IsValue cx first is_marked todo seen → ((t : Submatrix T) → Contains fewer t → Contains seen t) →
+      IsSearch IsType IsValue cx first is_marked todo fewer
   -- or it is left out, where one was seen that is no heavier and says the same
   pub repeats : (first : Submatrix T) (is_marked : Question → Bool) (todo seen : List (Submatrix T)) (s t : Submatrix T) →
       IsSearch IsType IsValue cx first is_marked (todo ++ s ∷ []) seen → Contains seen t → weight_of t ≤ weight_of s →
@@ -80,6 +97,8 @@ pub record SearchIsExact {T : Type 0} (IsType : T → Type 0) (IsValue : T → B
   -- as one over the same places does whose rows say the same, but for alternatives that are marked
   pub alike : (is_marked : Question → Bool) (places : List (Open T)) (rows others : List (WantedRow T)) → AreAlike is_marked rows others → (q : Question) →
       Comes IsValue q (record { places = places; rows = rows }) → (is_marked q ≡ true) ⊎ Comes IsValue q (record { places = places; rows = others })
+  pub alike_weighs : (is_marked : Question → Bool) (rows others : List (WantedRow T)) → AreAlike is_marked rows others →
+      rows_weight (map (λ x. x.row) rows) ≡ rows_weight (map (λ x. x.row) others)
   -- at the end exactly what values come to is marked
   pub ends : (first : Submatrix T) (is_marked : Question → Bool) (seen : List (Submatrix T)) → IsSearch IsType IsValue cx first is_marked [] seen →
       (q : Question) → (is_marked q ≡ true) ↔ Comes IsValue q first
@@ -108,3 +127,9 @@ pub record FirstTells {T : Type 0} (IsType : T → Type 0) (IsValue : T → Bool
       IsFit IsType IsValue cx (first_submatrix m)
   pub reached : (m : MDeMatch T) (is_marked : Question → Bool) → ((q : Question) → (is_marked q ≡ true) ↔ Comes IsValue q (first_submatrix m)) →
       IsReached IsValue m is_marked
+
+-- what is found of a column, the heads of the first place being its heads, says how it is cut
+abbrev pub FoundIsCut : {T : Type 0} → (T → Bool → MValue → Type 0) → Context T → Type 0
+FoundIsCut {T} IsValue cx =
+    (o : Open T) (heads ctors : List MCtor) (missing : Bool) (gaps : List MCtor) → AreFound IsValue cx o heads ctors missing gaps →
+    IsColumnCut IsValue cx o heads ctors missing

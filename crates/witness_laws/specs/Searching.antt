@@ -66,7 +66,7 @@ abbrev pub first_ctors : {T : Type 0} → List (WantedRow T) → List MCtor
 first_ctors rows = column_of (heads_in rows)
 
 -- the pieces of a column, of which these have values and are in heads; whether one that has values is in no head
-pub record IsCut {T : Type 0} (IsValue : T → Bool → MValue → Type 0) (cx : Context T) (o : Open T) (heads present : List MCtor) (missing : Bool) : Type 0 where
+pub record IsColumnCut {T : Type 0} (IsValue : T → Bool → MValue → Type 0) (cx : Context T) (o : Open T) (heads present : List MCtor) (missing : Bool) : Type 0 where
   pub pieces : List MCtor
   pub listed : ArePieces (cx.set_of o.type) heads pieces
   pub each_present : (p : MCtor) → Contains present p → Contains pieces p × IsPresentPiece IsValue o (named_in pieces) heads p
@@ -79,10 +79,10 @@ pub record IsCut {T : Type 0} (IsValue : T → Bool → MValue → Type 0) (cx :
 pub data IsSplit {T : Type 0} (IsValue : T → Bool → MValue → Type 0) (cx : Context T) (o : Open T) (places : List (Open T)) (rows : List (WantedRow T)) : List (Submatrix T) → Type 0 where
   all_wild : list_all starts_wild (heads_in rows) ≡ true → IsSplit IsValue cx o places rows (left_over places rows ∷ [])
   none_missing : (present : List MCtor) → list_all starts_wild (heads_in rows) ≡ false →
-      IsCut IsValue cx o (first_ctors rows) present false →
+      IsColumnCut IsValue cx o (first_ctors rows) present false →
       IsSplit IsValue cx o places rows (map (entered cx o places rows) present)
   some_missing : (present : List MCtor) → list_all starts_wild (heads_in rows) ≡ false →
-      IsCut IsValue cx o (first_ctors rows) present true →
+      IsColumnCut IsValue cx o (first_ctors rows) present true →
       IsSplit IsValue cx o places rows (left_over places rows ∷ map (entered cx o places (settled rows)) present)
 
 -- ---- rows that are listed, and rows that are left out

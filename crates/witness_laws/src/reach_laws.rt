@@ -1,7 +1,7 @@
 //! What values come to in the rows of a match, and what follows of what is unreachable: each function has an empty body,
 //! and its contract is a law.
 
-ghost use Rattle.witness_laws.specs.SearchLaws.{RowsAreListed, PlacesMayBeMoved, SearchIsExact, FirstTells};
+ghost use Rattle.witness_laws.specs.SearchLaws.{RowsAreListed, PlacesMayBeMoved, SearchIsExact, FoundIsCut, FirstTells};
 ghost use Rattle.witness_laws.specs.ReachLaws.{RowsTell, SplitsHandOn, ExpandingKeepsCounts, LeftIsUnreachable};
 
 use pat_context::PatCx;
@@ -38,6 +38,11 @@ pub fn search_is_exact<C: PatCx>(cx: &C)
     ensures { SearchIsExact (C.is_type cx.now) (C.is_value cx.now) (C.context cx.now) }
 {}
 
+/// What is found of a column says which pieces have values and are in heads, and whether one that has values is in none.
+pub fn found_is_cut<C: PatCx>(cx: &C)
+    ensures { FoundIsCut (C.is_value cx.now) (C.context cx.now) }
+{}
+
 /// The first submatrix of a match tells which of its arms and alternatives are reachable, and whether it is exhaustive.
 pub fn first_submatrix_tells<C: PatCx>(cx: &C)
     ensures { FirstTells (C.is_type cx.now) (C.is_value cx.now) (C.context cx.now) }
@@ -62,6 +67,7 @@ mod tests {
         rows_are_listed::<u32>();
         places_may_be_moved(&Toy);
         search_is_exact(&Toy);
+        found_is_cut(&Toy);
         first_submatrix_tells(&Toy);
         left_is_unreachable(&Toy);
     }
