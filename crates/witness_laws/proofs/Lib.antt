@@ -28,3 +28,4 @@ pub mod SearchSteps
 pub mod SearchWhole
 pub mod FirstTold
 pub mod FoundCut
+pub mod PiecesExist

@@ -2,7 +2,10 @@
 use Rattle.std.specs.Prelude.{◌≡◌, ◌↔◌, ◌<◌, ℕ, suc, Bool, true, false, not, cond, List, [], ◌∷◌, ◌++◌, length}
 use Rattle.std.specs.List.{list_all, Contains}
 use Rattle.match_model.specs.Values.{MValue}
+use Rattle.match_model.specs.Constructors.{MCtor, MSet}
 use Rattle.match_model.specs.Contexts.{Context, Open}
+use Rattle.match_model.specs.Made.{IsMadeSet}
+use Rattle.match_model.specs.Pieces.{ArePieces}
 use Rattle.match_model.specs.Rows.{starts_wild}
 use Rattle.match_model.specs.ArenaPatterns.{MDeMatch}
 use Rattle.match_model.specs.ArenaWays.{match_arms, InMatchDomain}
@@ -73,3 +76,7 @@ pub record SplitsHandOn {T : Type 0} (IsType : T → Type 0) (IsValue : T → Bo
       IsFit IsType IsValue cx (record { places = o ∷ places; rows = rows }) → IsSplit IsValue cx o places (apart rows) left →
       list_all starts_wild (heads_in rows) ≡ false →
       (n : Submatrix T) → Contains left n → weight_of n < weight_of (record { places = o ∷ places; rows = rows })
+
+-- every column over a set whose ranges can be held has pieces
+abbrev pub ColumnsHavePieces : Type 0
+ColumnsHavePieces = (set : MSet) (heads : List MCtor) → IsMadeSet set → (pieces : List MCtor) × ArePieces set heads pieces

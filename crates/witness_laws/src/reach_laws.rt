@@ -2,7 +2,7 @@
 //! and its contract is a law.
 
 ghost use Rattle.witness_laws.specs.SearchLaws.{RowsAreListed, PlacesMayBeMoved, SearchIsExact, FoundIsCut, FirstTells};
-ghost use Rattle.witness_laws.specs.ReachLaws.{RowsTell, SplitsHandOn, ExpandingKeepsCounts, LeftIsUnreachable};
+ghost use Rattle.witness_laws.specs.ReachLaws.{RowsTell, SplitsHandOn, ColumnsHavePieces, ExpandingKeepsCounts, LeftIsUnreachable};
 
 use pat_context::PatCx;
 
@@ -46,6 +46,11 @@ pub fn found_is_cut<C: PatCx>(cx: &C)
 /// The first submatrix of a match tells which of its arms and alternatives are reachable, and whether it is exhaustive.
 pub fn first_submatrix_tells<C: PatCx>(cx: &C)
     ensures { FirstTells (C.is_type cx.now) (C.is_value cx.now) (C.context cx.now) }
+{}
+
+/// Every column has pieces.
+pub fn columns_have_pieces()
+    ensures { ColumnsHavePieces }
 {}
 
 /// From marks that tell exactly what is reachable comes the list of what is unreachable.
