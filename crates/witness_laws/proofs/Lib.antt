@@ -29,3 +29,4 @@ pub mod SearchWhole
 pub mod FirstTold
 pub mod FoundCut
 pub mod PiecesExist
+pub mod NoneLeft

@@ -19,11 +19,11 @@ use Rattle.witness_laws.proofs.Splits.{replaced_heads, wanted_heads, special_hea
 use Rattle.witness_laws.proofs.HandingOn.{tell, some_heads, settled_heads, from-map, in_cons}
 
 -- the weight of rows of heads
-abbrev total : {T : Type 0} → List (List (Head T)) → ℕ
+abbrev pub total : {T : Type 0} → List (List (Head T)) → ℕ
 total [] = 0
 total (hs ∷ hss) = heads_weight hs + total hss
 
-rows_total : {T : Type 0} (rows : List (MRow T)) → rows_weight rows ≡ total (all_heads rows)
+pub rows_total : {T : Type 0} (rows : List (MRow T)) → rows_weight rows ≡ total (all_heads rows)
 rows_total [] = refl
 rows_total (r ∷ rows) = ap (λ n. heads_weight r.heads + n) (rows_total rows)
 

@@ -133,3 +133,9 @@ abbrev pub FoundIsCut : {T : Type 0} → (T → Bool → MValue → Type 0) → 
 FoundIsCut {T} IsValue cx =
     (o : Open T) (heads ctors : List MCtor) (missing : Bool) (gaps : List MCtor) → AreFound IsValue cx o heads ctors missing gaps →
     IsColumnCut IsValue cx o heads ctors missing
+
+-- an exhaustive match has the empty witness list
+abbrev pub ExhaustiveHasNone : {T : Type 0} → (T → Type 0) → (T → Bool → MValue → Type 0) → Context T → Type 0
+ExhaustiveHasNone {T} IsType IsValue cx =
+    (m : MDeMatch T) → IsWellTyped IsType cx m → AreArmsMade m.arms → IsExhaustive (InMatchDomain IsValue m) (match_arms m) →
+    IsWitnessList cx IsValue m []

@@ -1,7 +1,7 @@
 //! What values come to in the rows of a match, and what follows of what is unreachable: each function has an empty body,
 //! and its contract is a law.
 
-ghost use Rattle.witness_laws.specs.SearchLaws.{RowsAreListed, PlacesMayBeMoved, SearchIsExact, FoundIsCut, FirstTells};
+ghost use Rattle.witness_laws.specs.SearchLaws.{RowsAreListed, PlacesMayBeMoved, SearchIsExact, FoundIsCut, FirstTells, ExhaustiveHasNone};
 ghost use Rattle.witness_laws.specs.ReachLaws.{RowsTell, SplitsHandOn, ColumnsHavePieces, ExpandingKeepsCounts, LeftIsUnreachable};
 
 use pat_context::PatCx;
@@ -53,6 +53,11 @@ pub fn columns_have_pieces()
     ensures { ColumnsHavePieces }
 {}
 
+/// An exhaustive match has the empty witness list, so where the row behind all arms is not reached nothing is left to find.
+pub fn exhaustive_has_none<C: PatCx>(cx: &C)
+    ensures { ExhaustiveHasNone (C.is_type cx.now) (C.is_value cx.now) (C.context cx.now) }
+{}
+
 /// From marks that tell exactly what is reachable comes the list of what is unreachable.
 pub fn left_is_unreachable<C: PatCx>(cx: &C)
     ensures { LeftIsUnreachable (C.is_value cx.now) }
@@ -74,6 +79,7 @@ mod tests {
         search_is_exact(&Toy);
         found_is_cut(&Toy);
         first_submatrix_tells(&Toy);
+        exhaustive_has_none(&Toy);
         left_is_unreachable(&Toy);
     }
 }
