@@ -6,18 +6,7 @@ use Rattle.match_model.specs.Constructors.{FixedShape, LongerShape, MCtor, Singl
 use Rattle.match_model.specs.ArenaPatterns.{MDePat, de_pat, MDePats, no_de_pats, more_de_pats, de_pats_list, uid_of}
 use Rattle.match_model.specs.Rows.{Head, Choice, choices_of, all_choices_of, choice_among, with_binds, choices_by, wildcards, heads_of, specialised_heads, all_specialised, expand_row, row_rest, column_of}
 use Rattle.match_model.specs.Made.{IsMade, IsMadePat, AreMadePats}
-
-abbrev pub IsMadeHead : {T : Type 0} → Head T → Type 0
-IsMadeHead None = Unit {0}
-IsMadeHead (Some p) = IsMadePat p
-
-abbrev pub AreMadeHeads : {T : Type 0} → List (Head T) → Type 0
-AreMadeHeads [] = Unit {0}
-AreMadeHeads (h ∷ hs) = IsMadeHead h × AreMadeHeads hs
-
-abbrev pub AreMadeRows : {T : Type 0} → List (List (Head T)) → Type 0
-AreMadeRows [] = Unit {0}
-AreMadeRows (hs ∷ hss) = AreMadeHeads hs × AreMadeRows hss
+pub use Rattle.witness_laws.specs.HeadRows.{IsMadeHead, AreMadeHeads, AreMadeRows}
 
 -- lists
 

@@ -21,11 +21,9 @@ use Rattle.witness_laws.proofs.Takes.{pat_takes, taken_by}
 use Rattle.witness_laws.proofs.Typed.{expand_good, column_good}
 use Rattle.witness_laws.proofs.SpecialTyped.{AllTyped, special_good, special_types}
 use Rattle.witness_laws.proofs.MatrixHeads.{expand_all, special_all, opens_parts}
+pub use Rattle.witness_laws.specs.HeadRows.{cols}
 
 -- columns of places, and rows of heads
-
-abbrev pub cols : {T : Type 0} → List (Open T) → List (MColumn T)
-cols places = map (column_at []) places
 
 abbrev bare : {T : Type 0} → List (List (Head T)) → List (MRow T)
 bare hss = map (λ hs. record { heads = hs; arm = 0; guarded = false; chosen = []; caught = [] }) hss

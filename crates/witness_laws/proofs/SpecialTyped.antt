@@ -16,6 +16,7 @@ use Rattle.witness_laws.specs.HeadRows.{AreTypes, AreRowsTyped}
 use Rattle.witness_laws.proofs.Typed.{rows-append}
 use Rattle.pat_context.proofs.EachFrom.{each_from, below_from}
 use Rattle.pat_context.proofs.Consequences.{part_is_type}
+pub use Rattle.witness_laws.specs.HeadRows.{AllTyped}
 
 module _ {T : Type 0} (cx : Context T) where
   abbrev EachHead : (ℕ → T) → ℕ → List (Head T) → Type 0
@@ -96,10 +97,6 @@ module _ {T : Type 0} (cx : Context T) where
   all-wilds : (t : T) (n : ℕ) → AllOf t (wildcards n)
   all-wilds t zero = tt
   all-wilds t (suc n) = (tt, all-wilds t n)
-
-abbrev pub AllTyped : {T : Type 0} → Context T → List (MColumn T) → List (List (Head T)) → Type 0
-AllTyped cx columns [] = Unit {0}
-AllTyped cx columns (hs ∷ hss) = AreHeadsTyped cx columns hs × AllTyped cx columns hss
 
 module _ {T : Type 0} (IsType : T → Type 0) (IsValue : T → Bool → MValue → Type 0) (cx : Context T) (law : PartsLaw IsType IsValue cx) where
   abbrev pub Fitted : T → MCtor → List (Head T) → Type 0
