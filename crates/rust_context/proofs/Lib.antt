@@ -1,0 +1,2 @@
+pub mod KindSets
+pub mod PartsThere
