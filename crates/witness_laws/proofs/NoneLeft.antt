@@ -141,21 +141,21 @@ module _ {T : Type 0} (IsType : T → Type 0) (IsValue : T → Bool → MValue �
       let light = expand_light (row ∷ rows) in
       tell (list_all starts_wild es)
       (λ e.
-          let k = rest_light es e in
-          anything o places row rows [] e
-          (none_by w lighter places (map row_rest es) (omega (arith, k, light, l)) d.1 (rests_typed cx (column_at [] o) (cols places) es t) (rests_made es m) us a.1
-          (λ vs b. sym (wild_takes cx (column_at [] o) (cols places) es u vs t e) ∙ expand_takes (row ∷ rows) (u ∷ vs) ∙ f (u ∷ vs) (a.0, b))))
+      let k = rest_light es e in
+      anything o places row rows [] e
+      (none_by w lighter places (map row_rest es) (omega (arith, k, light, l)) d.1 (rests_typed cx (column_at [] o) (cols places) es t) (rests_made es m) us a.1
+      (λ vs b. sym (wild_takes cx (column_at [] o) (cols places) es u vs t e) ∙ expand_takes (row ∷ rows) (u ∷ vs) ∙ f (u ∷ vs) (a.0, b))))
       (λ e.
-          let ps = pieces_exist (cx.set_of o.type) (column_of es) (values.made o.type d.0) in
-          let column = heads_good cx (column_at [] o) (cols places) es t n in
-          let c = made_pieces (cx.set_of o.type) (column_of es) ps.0 (values.made o.type d.0) (values.ascend o.type d.0) column (column_made es m) ps.1 in
-          by_pieces o places row rows ps.0 [] e ps.1
-          (none_of_pieces w lighter o places es (named_in ps.0) ps.0 (omega (arith, light, l)) e d t m (all_sided IsType IsValue cx values law o places (named_in ps.0) es ps.0 d.0 t n c.belong c.one_sided c.room)
-          (λ p i.
-              told (ctor_has_value cx is_empty variant_empty o.type o.sure p)
-              (values_told IsType IsValue cx values law is_empty variant_empty empty unsure o (column_of es) ps.0 p d.0
-              (record { ascend = values.ascend o.type d.0; ranges = values.made o.type d.0; allowed = column; made = column_made es m }) ps.1 i))
-          us a.1 (λ vs b. expand_takes (row ∷ rows) vs ∙ f vs b)))
+      let ps = pieces_exist (cx.set_of o.type) (column_of es) (values.made o.type d.0) in
+      let column = heads_good cx (column_at [] o) (cols places) es t n in
+      let c = made_pieces (cx.set_of o.type) (column_of es) ps.0 (values.made o.type d.0) (values.ascend o.type d.0) column (column_made es m) ps.1 in
+      by_pieces o places row rows ps.0 [] e ps.1
+      (none_of_pieces w lighter o places es (named_in ps.0) ps.0 (omega (arith, light, l)) e d t m (all_sided IsType IsValue cx values law o places (named_in ps.0) es ps.0 d.0 t n c.belong c.one_sided c.room)
+      (λ p i.
+      told (ctor_has_value cx is_empty variant_empty o.type o.sure p)
+      (values_told IsType IsValue cx values law is_empty variant_empty empty unsure o (column_of es) ps.0 p d.0
+      (record { ascend = values.ascend o.type d.0; ranges = values.made o.type d.0; allowed = column; made = column_made es m }) ps.1 i))
+      us a.1 (λ vs b. expand_takes (row ∷ rows) vs ∙ f vs b)))
 
   none_left : (w : ℕ) (places : List (Open T)) (hss : List (List (Head T))) → total hss < w → LeaveNone places hss
   none_left zero places hss l = absurd (omega (arith, l))

@@ -238,7 +238,7 @@ module _ {T : Type 0} (IsType : T → Type 0) (IsValue : T → Bool → MValue �
       IsFit IsType IsValue cx t → weight_of t ≤ weight_of s → ((q : Question) → Comes IsValue q s ↔ Comes IsValue q t) → IsSearch IsType IsValue cx first is_marked (todo ++ t ∷ []) seen
   restates first is_marked todo seen s t h f w g = record {
     right = h.right;
-    fit = λ n c. elim (in_either todo (t ∷ []) n c) [ | inl i ↦ h.fit n (in_left todo (s ∷ []) n i) | inr i ↦ subst (IsFit IsType IsValue cx) (the_one t n i) f ];
+    fit = λ n c. elim (in_either todo (t ∷ []) n c) [ inl i ↦ h.fit n (in_left todo (s ∷ []) n i) | inr i ↦ subst (IsFit IsType IsValue cx) (the_one t n i) f ];
     back = λ n c q d. elim (in_either todo (t ∷ []) n c) [
       | inl i ↦ h.back n (in_left todo (s ∷ []) n i) q d
       | inr i ↦ h.back s (in_right todo (s ∷ []) s (here s [])) q ((g q).1 (subst (Comes IsValue q) (sym (the_one t n i)) d))
@@ -253,9 +253,9 @@ module _ {T : Type 0} (IsType : T → Type 0) (IsValue : T → Bool → MValue �
           elim (in_either todo (s ∷ []) n c) [
             | inl j ↦ inr (n, in_left todo (t ∷ []) n j, k, d)
             | inr j ↦ (
-                  let e = the_one s n j in
-                  let l : weight_of s < u = subst (λ (x : Submatrix T). weight_of x < u) (sym e) k in
-                  inr (t, in_right todo (t ∷ []) t (here t []), omega (arith, w, l), (g q).0 (subst (Comes IsValue q) (sym e) d)))
+                let e = the_one s n j in
+                let l : weight_of s < u = subst (λ (x : Submatrix T). weight_of x < u) (sym e) k in
+                inr (t, in_right todo (t ∷ []) t (here t []), omega (arith, w, l), (g q).0 (subst (Comes IsValue q) (sym e) d)))
           ]
 
   -- a wanted row of wildcards before which none was listed is come to
