@@ -1,17 +1,14 @@
 -- From the marks and the witnesses to what judging a match promises.
-use Rattle.std.proofs.Common.{◌≡◌, ◌↔◌, ℕ, Bool, true, false, List, [], ◌∷◌, length, refl, sym, ap, subst, ◌∙◌}
+use Rattle.std.proofs.Common.{◌≡◌, ◌↔◌, ℕ, Bool, true, List, [], ◌∷◌, length, refl, sym, ap, subst}
 use Rattle.match_model.specs.Values.{MValue}
 use Rattle.match_model.specs.Contexts.{Context}
 use Rattle.match_model.specs.ContextLaws.{PartsLaw, ValuesLaw, EmptyLaw, UnsureLaw}
-use Rattle.match_model.specs.ArenaPatterns.{MDeMatch}
-use Rattle.match_model.specs.Made.{AreArmsMade}
 use Rattle.match_model.specs.Match.{is_empty_list}
-use Rattle.match_model.specs.WellTyped.{IsWellTyped}
 use Rattle.match_model.specs.Witness.{MWitness}
 use Rattle.match_model.specs.WitnessList.{IsWitnessList}
 use Rattle.match_model.proofs.Basics.{untrue}
-use Rattle.witness_laws.specs.Counting.{Question, to_arm, through_alternative}
-use Rattle.witness_laws.specs.SearchLaws.{IsReached, IsJudged, JudgedByMarks}
+use Rattle.witness_laws.specs.Counting.{to_arm, through_alternative}
+use Rattle.witness_laws.specs.SearchLaws.{JudgedByMarks}
 use Rattle.witness_laws.proofs.HandingOn.{tell}
 use Rattle.witness_laws.proofs.Left.{left_is}
 use Rattle.witness_laws.proofs.NoneLeft.{exhaustive_has_none}
