@@ -30,3 +30,4 @@ pub mod FirstTold
 pub mod FoundCut
 pub mod PiecesExist
 pub mod NoneLeft
+pub mod Judged

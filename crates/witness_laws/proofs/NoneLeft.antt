@@ -1,16 +1,15 @@
 -- Rows that take all values have no witness, so an exhaustive match has the empty witness list.
-use Rattle.std.proofs.Common.{◌≡◌, ◌≢◌, ◌⊎◌, inl, inr, ◌≤◌, ◌<◌, ℕ, zero, suc, ◌+◌, Bool, true, false, ◌&&◌, List, [], ◌∷◌, ◌++◌, map, take, drop, length, cond, refl, sym, ap, subst, ◌∙◌, arith, IsTrue}
+use Rattle.std.proofs.Common.{◌≡◌, ◌≢◌, ◌⊎◌, inl, inr, ◌≤◌, ◌<◌, ℕ, zero, suc, ◌+◌, Bool, true, false, ◌&&◌, List, [], ◌∷◌, ◌++◌, map, take, drop, cond, refl, sym, ap, subst, ◌∙◌, arith}
 use Rattle.std.specs.List.{list_all, flat_map, Contains}
 use Rattle.std.proofs.lemmas.List.{take-append-drop}
 use Rattle.match_model.specs.Values.{MValue, Unseen, Thing}
-use Rattle.match_model.specs.Constructors.{MCtor, MSet, SingleSet, PointSet, FlagSet, TextSet, OpaqueSet, NothingSet, VariantSet, NumberSet, RowSet, belongs, builds}
+use Rattle.match_model.specs.Constructors.{MCtor, MSet, SingleSet, PointSet, FlagSet, TextSet, OpaqueSet, NothingSet, VariantSet, NumberSet, RowSet, builds}
 use Rattle.match_model.specs.Contexts.{Context, Open}
 use Rattle.match_model.specs.ContextLaws.{PartsLaw, ValuesLaw, EmptyLaw, UnsureLaw, ValueIs}
 use Rattle.match_model.specs.ArenaPatterns.{MDeMatch}
 use Rattle.match_model.specs.ArenaWays.{match_arms, InMatchDomain}
 use Rattle.match_model.specs.Made.{AreArmsMade}
 use Rattle.match_model.specs.Match.{IsExhaustive}
-use Rattle.match_model.specs.Pieces.{ArePieces}
 use Rattle.match_model.specs.PieceStates.{HasValue, named_in}
 use Rattle.match_model.specs.Rows.{Head, starts_wild, row_rest, column_of, expand_row, all_specialised, parts_open, part_open}
 use Rattle.match_model.specs.Matrices.{MRow, column_at, first_wild, row_with, first_binds, expand_rows, specialised_rows}

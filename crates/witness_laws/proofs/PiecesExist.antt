@@ -1,5 +1,5 @@
 -- Every column has pieces.
-use Rattle.std.proofs.Common.{◌≡◌, ◌↔◌, ℕ, ℤ, pos, ◌+ℤ◌, ◌-ℤ◌, Bool, true, false, ◌&&◌, ◌||◌, List, [], ◌∷◌, ◌++◌, map, filter_map, Option, Some, None, refl, sym, ap, subst, ◌∙◌, arith}
+use Rattle.std.proofs.Common.{◌≡◌, ℕ, ℤ, pos, ◌+ℤ◌, ◌-ℤ◌, Bool, true, false, ◌||◌, List, [], ◌∷◌, ◌++◌, map, filter_map, Option, Some, None, refl, sym, ap, ◌∙◌, arith}
 use Rattle.std.specs.Prelude.{IsTrue, int_le}
 use Rattle.std.specs.Ordering.{int_eq, is_eq, ordering_reverse}
 use Rattle.std.specs.List.{list_any, AllByRecursion}
@@ -11,13 +11,13 @@ use Rattle.std.proofs.lemmas.Bool.Decides.{Decides-int_eq}
 use Rattle.std.proofs.lemmas.Cmp.{nat_list_cmp_total}
 use Rattle.std.specs.Cmp.Lexicographic.{texts_ties}
 use Rattle.match_model.specs.Texts.{text_eq, compare_texts}
-use Rattle.match_model.specs.Numbers.{MEnd, Free, At, MRange, in_range, is_from, is_up_to, is_at, ends_ascend}
-use Rattle.match_model.specs.Made.{IsMadeRange, IsMadeSecond, IsMadeSet}
+use Rattle.match_model.specs.Numbers.{MEnd, At, MRange, in_range, is_from, is_up_to, is_at, ends_ascend}
+use Rattle.match_model.specs.Made.{IsMadeSecond, IsMadeSet}
 use Rattle.match_model.specs.Constructors.{MCtor, SingleCtor, PointCtor, FlagCtor, NumbersCtor, TextCtor, OtherTextCtor, MSet, SingleSet, PointSet, FlagSet, VariantSet, NumberSet, TextSet, RowSet, OpaqueSet, NothingSet}
 use Rattle.match_model.specs.Pieces.{Follow, last_one, one_more, is_cut_at, IsCut, IsCutToo, AreNamed, ArePieces, range_of, text_of, variant_pieces, slice_pieces, array_piece}
-use Rattle.match_model.proofs.Basics.{untrue, text_equal, text_itself}
+use Rattle.match_model.proofs.Basics.{untrue, text_equal}
 use Rattle.range_split.specs.Cuts.{cuts_of}
-use Rattle.range_split.proofs.Basics.{both_true, and_true, or_false, reflexive}
+use Rattle.range_split.proofs.Basics.{both_true, and_true, reflexive}
 use Rattle.range_split.proofs.Pairs.{some_number}
 use Rattle.range_split.proofs.Sides.{not_its_low}
 use Rattle.range_split.proofs.Counts.{cuts_at}

@@ -5,9 +5,9 @@ use Rattle.match_model.specs.Values.{MValue, Unseen}
 use Rattle.match_model.specs.Contexts.{Context, Open}
 use Rattle.match_model.specs.ArenaPatterns.{MDeMatch}
 use Rattle.match_model.specs.ArenaWays.{match_arms, InMatchDomain}
-use Rattle.match_model.specs.ArenaUnreachable.{IsReadingList}
+use Rattle.match_model.specs.ArenaUnreachable.{in_reading_order, IsReadingList}
 use Rattle.match_model.specs.Made.{AreArmsMade}
-use Rattle.match_model.specs.Match.{IsExhaustive}
+use Rattle.match_model.specs.Match.{is_empty_list, IsExhaustive}
 use Rattle.match_model.specs.Constructors.{MCtor}
 use Rattle.match_model.specs.Rows.{starts_wild}
 use Rattle.match_model.specs.Weights.{rows_weight}
@@ -17,7 +17,7 @@ use Rattle.match_model.specs.WellTyped.{IsWellTyped}
 use Rattle.match_model.specs.Witness.{MWitness}
 use Rattle.match_model.specs.WitnessList.{IsWitnessList}
 use Rattle.witness_laws.specs.Counting.{Question, WantedRow, has_chosen, counts, to_arm, through_alternative}
-use Rattle.witness_laws.specs.ReachLaws.{AreMarksExact}
+use Rattle.witness_laws.specs.ReachLaws.{left_from, AreMarksExact}
 use Rattle.witness_laws.specs.Searching.{Submatrix, weight_of, heads_in, is_bare, IsFit, Comes, SomeComes, apart, IsSplit, IsDone, IsNoted, DoFor, StandFor, AreAlike, AreListed, IsSearch, IsLookedAt, work, moved_first, first_submatrix, IsColumnCut}
 
 -- rows of so many heads are listed one by one
@@ -139,3 +139,12 @@ abbrev pub ExhaustiveHasNone : {T : Type 0} → (T → Type 0) → (T → Bool �
 ExhaustiveHasNone {T} IsType IsValue cx =
     (m : MDeMatch T) → IsWellTyped IsType cx m → AreArmsMade m.arms → IsExhaustive (InMatchDomain IsValue m) (match_arms m) →
     IsWitnessList cx IsValue m []
+
+-- from marks that are those that are promised, and the witnesses, which are to be found only where the row behind all arms is
+-- marked, comes what judging a match promises
+abbrev pub JudgedByMarks : {T : Type 0} → (T → Type 0) → (T → Bool → MValue → Type 0) → Context T → Type 0
+JudgedByMarks {T} IsType IsValue cx =
+    (m : MDeMatch T) (is_marked : Question → Bool) (ws : List MWitness) → IsWellTyped IsType cx m → AreArmsMade m.arms → IsReached IsValue m is_marked →
+    (is_marked (to_arm (length m.arms)) ≡ true → IsWitnessList cx IsValue m ws) → (is_marked (to_arm (length m.arms)) ≡ false → ws ≡ []) →
+    IsJudged IsValue cx m (is_empty_list ws)
+    (in_reading_order (left_from (λ j. is_marked (to_arm j)) (λ j id. is_marked (through_alternative j id)) 0 (match_arms m))) ws

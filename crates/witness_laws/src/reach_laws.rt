@@ -1,7 +1,7 @@
 //! What values come to in the rows of a match, and what follows of what is unreachable: each function has an empty body,
 //! and its contract is a law.
 
-ghost use Rattle.witness_laws.specs.SearchLaws.{RowsAreListed, PlacesMayBeMoved, SearchIsExact, FoundIsCut, FirstTells, ExhaustiveHasNone};
+ghost use Rattle.witness_laws.specs.SearchLaws.{RowsAreListed, PlacesMayBeMoved, SearchIsExact, FoundIsCut, FirstTells, ExhaustiveHasNone, JudgedByMarks};
 ghost use Rattle.witness_laws.specs.ReachLaws.{RowsTell, SplitsHandOn, ColumnsHavePieces, ExpandingKeepsCounts, LeftIsUnreachable};
 
 use pat_context::PatCx;
@@ -58,6 +58,12 @@ pub fn exhaustive_has_none<C: PatCx>(cx: &C)
     ensures { ExhaustiveHasNone (C.is_type cx.now) (C.is_value cx.now) (C.context cx.now) }
 {}
 
+/// From the marks of a search, and the witness list where the row behind all arms is marked, comes what judging a match
+/// promises: whether it is exhaustive, what is unreachable, and the witness list.
+pub fn judged_by_marks<C: PatCx>(cx: &C)
+    ensures { JudgedByMarks (C.is_type cx.now) (C.is_value cx.now) (C.context cx.now) }
+{}
+
 /// From marks that tell exactly what is reachable comes the list of what is unreachable.
 pub fn left_is_unreachable<C: PatCx>(cx: &C)
     ensures { LeftIsUnreachable (C.is_value cx.now) }
@@ -80,6 +86,7 @@ mod tests {
         found_is_cut(&Toy);
         first_submatrix_tells(&Toy);
         exhaustive_has_none(&Toy);
+        judged_by_marks(&Toy);
         left_is_unreachable(&Toy);
     }
 }
