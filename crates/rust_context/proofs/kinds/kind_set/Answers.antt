@@ -16,4 +16,4 @@ pub returns-in-Enum : goal.returns-in-Enum
 returns-in-Enum c = λ table t w d k.
     let e = subst (KindIs table t) c.in-Enum.is k in
     c.enum_set.ensures (variants_of (table_program table) t) e.4
-        ∙ (ap (λ later. enum_set later (variants_of (table_program table) t)) (sym e.5) ∙ sym (set_of_enum (table_program table) t e.0 e.1 e.2 d e.3))
+    ∙ (ap (λ later. enum_set later (variants_of (table_program table) t)) (sym e.5) ∙ sym (set_of_enum (table_program table) t e.0 e.1 e.2 d e.3))
