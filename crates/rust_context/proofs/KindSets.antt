@@ -1,5 +1,5 @@
 -- The sets of constructors of opaque types and of enums.
-use Rattle.std.proofs.Common.{◌≡◌, suc, false, true, List, [], ◌∷◌, length, Option, Some, None, slice_get, refl, sym, ap, subst, ◌∙◌, arith}
+use Rattle.std.proofs.Common.{◌≡◌, false, true, List, [], ◌∷◌, length, Option, Some, None, slice_get, refl, sym, ap, subst, arith}
 use Rattle.match_model.specs.Types.{MOwner, DeclaredItem, OptionOwner, ResultOwner, MType, OpaqueType, NamedType, MTypes}
 use Rattle.match_model.specs.Declarations.{MVariant, MItem, StructItem, EnumItem, OtherItem, MProgram, item_variants, item_is_marked, variants_of, is_marked}
 use Rattle.match_model.specs.Constructors.{OpaqueSet, VariantSet}
