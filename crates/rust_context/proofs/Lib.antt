@@ -1,2 +1,1 @@
-pub mod KindSets
 pub mod PartsThere
