@@ -9,6 +9,7 @@ use Rattle.match_model.specs.Pieces.{is_at}
 use Rattle.range_split.specs.declared.cut.Cut.{Cut}
 use Rattle.range_split.specs.declared.end.End.{End}
 use Rattle.range_split.specs.declared.end.End.TheVariants.{At}
+use Rattle.range_split.specs.declared.num.Num.{Num}
 use Rattle.range_split.specs.declared.range.Range.{Range}
 use Rattle.range_split.specs.Numbers.{num_value}
 use Rattle.range_split.specs.Ends.{plain_end, ends_ascend}
@@ -36,15 +37,15 @@ walks_on high all done low b e cut cuts w at =
     }
 
 -- a cut further up ends a piece
-pub walks_over : (high : End) (all : List (MRange × Bool)) (done : List (Range × Bool)) (low : End) (b e : ℕ) (cut : Cut) (cuts : List Cut) (piece : Range) →
-    Walks high all done low b e (cut ∷ cuts) → is_at (num_value cut.first) (plain_end low) ≡ false → piece.low ≡ low → piece.high ≡ At cut.last →
+pub walks_over : (high : End) (all : List (MRange × Bool)) (done : List (Range × Bool)) (low : End) (b e : ℕ) (cut : Cut) (cuts : List Cut) (last : Num) (piece : Range) →
+    Walks high all done low b e (cut ∷ cuts) → is_at (num_value cut.first) (plain_end low) ≡ false → num_value last ≡ num_value cut.first -ℤ pos 1 → piece.low ≡ low → piece.high ≡ At last →
     IsTrue (is_up_to (plain_end high) (num_value cut.first)) →
     Walks high all (done ++ (piece, not (nat_eq b e)) ∷ []) (At cut.first) (b + bit cut.begins) (e + bit (not cut.begins)) cuts
-walks_over high all done low b e cut cuts piece w off low_is high_is inside =
+walks_over high all done low b e cut cuts last piece w off before low_is high_is inside =
     let rest = pieces_from (model.At (num_value cut.first)) (plain_end high) (b + bit cut.begins) (e + bit (not cut.begins)) (plain_cuts cuts) in
     let shape : plain_range piece ≡ range_of (plain_end low) (model.At (num_value cut.first -ℤ pos 1)) =
     ap (λ (x : End). range_of (plain_end x) (plain_end piece.high)) low_is ∙ ap (λ (x : End). range_of (plain_end low) (plain_end x)) high_is
-    ∙ ap (λ x. range_of (plain_end low) (model.At x)) (before (num_value cut.first) (num_value cut.last) cut.next) in
+    ∙ ap (λ x. range_of (plain_end low) (model.At x)) before in
     record {
       goes_on =
           ap (λ ps. ps ++ rest) (map-append (λ (p : Range × Bool). (plain_range p.0, p.1)) done ((piece, not (nat_eq b e)) ∷ []))
@@ -54,9 +55,6 @@ walks_over high all done low b e cut cuts piece w off low_is high_is inside =
       rises = w.rises.1;
       ascends = ascend_to (plain_end high) (num_value cut.first) inside;
     }
-  where
-    before : (first last : ℤ) → first ≡ last +ℤ pos 1 → last ≡ first -ℤ pos 1
-    before first last e = omega (arith, ints)
 
 -- behind the last cut the last piece is left
 pub walks_out : (high : End) (all : List (MRange × Bool)) (done : List (Range × Bool)) (low : End) (b e : ℕ) (cuts : List Cut) (piece : Range) →

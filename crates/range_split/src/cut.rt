@@ -1,5 +1,6 @@
 // Cuts: where the ranges of a column begin and end.
-ghost use Rattle.std.specs.Prelude.{◌≡◌, pos, ◌+ℤ◌};
+ghost use Rattle.std.specs.Prelude.{◌≡◌, IsTrue, int_lt};
+ghost use Rattle.match_model.specs.Constructors.{least_held};
 ghost use Rattle.range_split.specs.Numbers.{num_value};
 
 use crate::Num;
@@ -8,13 +9,11 @@ use std::cmp::Reverse;
 // A place between two numbers where a range of the column begins or has ended.
 #[derive(Clone, Copy)]
 pub(crate) struct Cut {
-    // The number before the cut.
-    pub(crate) last: Num,
-    // The number behind it.
+    // The number behind the cut; the number before it can be held.
     pub(crate) first: Num,
     // Whether a range begins behind the cut; else one has ended before it.
     pub(crate) begins: bool,
-    pub ghost next: { num_value first ≡ num_value last +ℤ pos 1 },
+    pub ghost held: { IsTrue (int_lt least_held (num_value first)) },
 }
 
 impl Cut {

@@ -71,14 +71,15 @@ fn pieces_between(
     requires inside { All (λ c. IsTrue (is_up_to (plain_end whole.now.high) (num_value c.first))) cuts.now }
     ensures { IfOk result (λ v. AreBetween (plain_range whole.now) begun (plain_cuts cuts.now) (plain_pieces v.items)) }
 {
-    let mut pieces = Vec::new(alloc);
+    let mut pieces = Vec::with_capacity(alloc, cuts.len() + 1)?;
     let mut low = whole.low;
     // The counts have 128 bits, so that none can overflow.
     let mut begun = begun as u128;
     let mut ended = 0u128;
     for cut in cuts {
         if !is_at(&low, &cut.first) {
-            let high = End::At(cut.last);
+            let last = cut.first.previous();
+            let high = End::At(last);
             pieces.push((Range { low, high }, begun != ended))?;
             low = End::At(cut.first);
         }
@@ -132,13 +133,8 @@ fn cut_before(whole: &Range, column: &Range) -> Option<Cut>
         End::Free => None,
         End::At(first) => {
             if whole.contains(&first) && !is_at(&whole.low, &first) {
-                let last = first.previous();
                 let begins = true;
-                Some(Cut {
-                    last,
-                    first,
-                    begins,
-                })
+                Some(Cut { first, begins })
             } else {
                 None
             }
@@ -158,11 +154,7 @@ fn cut_behind(whole: &Range, column: &Range) -> Option<Cut>
             if whole.contains(&last) && !is_at(&whole.high, &last) {
                 let first = last.next();
                 let begins = false;
-                Some(Cut {
-                    last,
-                    first,
-                    begins,
-                })
+                Some(Cut { first, begins })
             } else {
                 None
             }
@@ -176,7 +168,7 @@ fn cuts_inside(alloc: Global, whole: &Range, columns: &[Range]) -> Result<Vec<Cu
     requires above { All (λ r. HasRoomAbove (plain_range whole.now) (plain_range r)) columns.now }
     ensures { IfOk result (λ v. plain_cuts v.items ≡ cuts_of (plain_range whole.now) (plain_ranges columns.now)) }
 {
-    let mut cuts = Vec::new(alloc);
+    let mut cuts = Vec::with_capacity(alloc, 2 * columns.len())?;
     for column in columns {
         if let Some(cut) = cut_before(whole, column) {
             cuts.push(cut)?;

@@ -45,8 +45,8 @@ loop-cut-preserved c =
           subst (λ (x : End). Walks high all c.if-not-is_at.pieces.items x (c.loop-cut.begun + bit cut.begins) (c.loop-cut.ended + bit (not cut.begins)) (drop (i + 1) cuts)) (sym w.low-is)
           (subst (λ (xs : List (Range × Bool)). Walks high all xs (At cut.first) (c.loop-cut.begun + bit cut.begins) (c.loop-cut.ended + bit (not cut.begins)) (drop (i + 1) cuts))
           (sym (ap (λ (v : Vec (Range × Bool) Global). v.items) w.pieces-is ∙ w.in_ok-push.ensures.items))
-          (walks_over high all c.loop-cut.pieces.items c.loop-cut.low c.loop-cut.begun c.loop-cut.ended cut (drop (i + 1) cuts) _ walk
-          (sym c.is_at.ensures ∙ w.if-not-is_at.true) refl refl inside))
+          (walks_over high all c.loop-cut.pieces.items c.loop-cut.low c.loop-cut.begun c.loop-cut.ended cut (drop (i + 1) cuts) w.previous-last.result _ walk
+          (sym c.is_at.ensures ∙ w.if-not-is_at.true) w.previous-last.ensures refl refl inside))
       | else-not-is_at w ↦
           subst (λ (x : End). Walks high all c.if-not-is_at.pieces.items x (c.loop-cut.begun + bit cut.begins) (c.loop-cut.ended + bit (not cut.begins)) (drop (i + 1) cuts)) (sym w.low-is)
           (subst (λ (xs : List (Range × Bool)). Walks high all xs c.loop-cut.low (c.loop-cut.begun + bit cut.begins) (c.loop-cut.ended + bit (not cut.begins)) (drop (i + 1) cuts))
