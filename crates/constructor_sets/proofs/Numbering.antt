@@ -1,5 +1,5 @@
 -- Ascending numbers: which are listed, and that a list is told by them.
-use Rattle.std.proofs.Common.{◌≡◌, ◌≢◌, ◌⊎◌, inl, inr, ℕ, zero, suc, ◌<◌, ◌≤◌, Bool, true, false, ◌&&◌, ◌||◌, nat_eq, nat_lt, List, [], ◌∷◌, cond, length, get_or, Result, Ok, Err, filter_map, refl, sym, ap, subst, ◌∙◌, arith, IsPermutation, IsSorted}
+use Rattle.std.proofs.Common.{◌≡◌, ◌≢◌, ◌⊎◌, inl, inr, ℕ, zero, suc, ◌+◌, add-one, not, ◌<◌, ◌≤◌, Bool, true, false, ◌&&◌, ◌||◌, nat_eq, nat_lt, List, [], ◌∷◌, cond, length, get_or, Result, Ok, Err, filter_map, refl, sym, ap, subst, ◌∙◌, arith, IsPermutation, IsSorted}
 use Rattle.std.specs.List.{All, AllPairs, list_any, filter, dedup}
 use Rattle.std.specs.Result.{MatchResult, is_ok}
 use Rattle.std.specs.Ordering.{nat_cmp}
@@ -169,3 +169,69 @@ below_listed (suc m) n =
   where
     next : (m n : ℕ) → (nat_lt n m || (nat_eq m n || false)) ≡ nat_lt n (suc m)
     next m n = grind (arith, nat_tests)
+
+-- a walk over all numbers from 0 on beside an ascending list
+
+-- the numbers below k of the list are those before the place
+pub record IsWalked (xs : List ℕ) (place k : ℕ) : Type 0 where
+  pub within : place ≤ length xs
+  pub below : (i : ℕ) → i < place → get_or xs i 0 < k
+  pub next : place < length xs → k ≤ get_or xs place 0
+
+pub walked_none : (xs : List ℕ) → IsWalked xs 0 0
+walked_none xs = record { within = omega arith; below = λ i l. absurd (omega (arith, l)); next = λ l. omega arith }
+
+-- the next number of the list is reached
+pub walked_on : (xs : List ℕ) (place k : ℕ) → AllPairs (λ i j. i < j) xs → IsWalked xs place k → (nat_lt place (length xs) && nat_eq (get_or xs place 0) k) ≡ true → IsWalked xs (place + 1) (k + 1)
+walked_on xs place k asc w e =
+    let l : place < length xs = grind (arith, nat_tests) in
+    let same : get_or xs place 0 ≡ k = grind (arith, nat_tests) in
+    record {
+      within = omega arith;
+      below = λ i m. lower i (split i m);
+      next = λ m. let h = asc place (place + 1) 0 (omega arith) m in omega (arith, h);
+    }
+  where
+    split : (i : ℕ) → i < place + 1 → (i < place) ⊎ (i ≡ place)
+    split i m = grind arith
+
+    lower : (i : ℕ) → (i < place) ⊎ (i ≡ place) → get_or xs i 0 < k + 1
+    lower i (inl m) = let h = w.below i m in omega (arith, h)
+    lower i (inr m) = let same : get_or xs place 0 ≡ k = grind (arith, nat_tests) in subst (λ j. get_or xs j 0 < k + 1) (sym m) (omega arith)
+
+pub listed_there : (xs : List ℕ) (place k : ℕ) → (nat_lt place (length xs) && nat_eq (get_or xs place 0) k) ≡ true → is_listed xs k ≡ true
+listed_there xs place k e = at_place xs k place (grind (arith, nat_tests)) (grind (arith, nat_tests))
+
+-- it is further up, so this number is not of the list
+above_next : (xs : List ℕ) (place k : ℕ) → IsWalked xs place k → (nat_lt place (length xs) && nat_eq (get_or xs place 0) k) ≡ false → place < length xs → k < get_or xs place 0
+above_next xs place k w e l = let h = w.next l in grind (arith, nat_tests)
+
+pub walked_past : (xs : List ℕ) (place k : ℕ) → IsWalked xs place k → (nat_lt place (length xs) && nat_eq (get_or xs place 0) k) ≡ false → IsWalked xs place (k + 1)
+walked_past xs place k w e = record {
+  within = w.within;
+  below = λ i m. let h = w.below i m in omega (arith, h);
+  next = λ l. let h = above_next xs place k w e l in omega (arith, h);
+}
+
+pub unlisted_there : (xs : List ℕ) (place k : ℕ) → AllPairs (λ i j. i < j) xs → IsWalked xs place k → (nat_lt place (length xs) && nat_eq (get_or xs place 0) k) ≡ false → is_listed xs k ≡ false
+unlisted_there xs place k asc w e =
+    sym (search_found xs k (Err place) (w.within, w.below, λ i l m. up i l m))
+  where
+    up : (i : ℕ) → place ≤ i → i < length xs → k < get_or xs i 0
+    up i l m =
+        let h = above_next xs place k w e (omega arith) in
+        let r = not_falling xs asc place i l m in omega (arith, h, r)
+
+pub left_is : (a b : Bool) → a ≡ true → b ≡ false → (a && not b) ≡ true
+left_is true false p q = refl
+left_is true true p q = untrue (sym q)
+left_is false b p q = untrue p
+
+pub left_not : (a b : Bool) → (a ≡ false) ⊎ (b ≡ true) → (a && not b) ≡ false
+left_not false b h = refl
+left_not true true h = refl
+left_not true false (inl e) = untrue (sym e)
+left_not true false (inr e) = untrue e
+
+pub none_more : (p : ℕ → Bool) (k : ℕ) → list_any p (each_below (λ k. k) k) ≡ false → p k ≡ false → list_any p (each_below (λ k. k) (k + 1)) ≡ false
+none_more p k h e = rw add-one (list_any-append p (each_below (λ k. k) k) (k ∷ []) ∙ ap (λ b. b || (p k || false)) h ∙ ap (λ b. b || false) e)

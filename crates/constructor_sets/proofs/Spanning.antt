@@ -1,5 +1,5 @@
 -- Of pieces in order a head has those between the ones that lie before and the ones behind.
-use Rattle.std.proofs.Common.{◌≡◌, ◌⊎◌, inl, inr, ℕ, ◌+◌, ◌<◌, ◌≤◌, Bool, true, false, not, ◌&&◌, ◌||◌, nat_eq, nat_lt, nat_le, List, [], ◌∷◌, ◌++◌, map, take, length, get_or, refl, sym, ap, subst, ◌∙◌, arith}
+use Rattle.std.proofs.Common.{◌≡◌, ◌⊎◌, inl, inr, ℕ, ◌+◌, ◌-◌, ◌<◌, ◌≤◌, Bool, true, false, not, ◌&&◌, ◌||◌, nat_eq, nat_lt, nat_le, List, [], ◌∷◌, ◌++◌, map, take, length, get_or, refl, sym, ap, subst, ◌∙◌, arith}
 use Rattle.std.specs.List.{AllPairs}
 use Rattle.std.specs.List.Sorted.{IsPartitionedBy, IsPartitionPoint}
 use Rattle.std.specs.Ordering.{is_lt, ordering_reverse}
@@ -19,7 +19,7 @@ use Rattle.pat_context.specs.Views.{plain_ctor}
 use Rattle.pat_context.specs.declared.ctor.Ctor.{Ctor}
 use Rattle.pat_context.specs.declared.ctor.Ctor.TheVariants as c
 use Rattle.constructor_sets.specs.Columns.{plain_ctors}
-use Rattle.constructor_sets.specs.Spans.{starts_before, shape_starts_before, is_up_to_head, Precedes, plain_span, IsSpan, AreSpans}
+use Rattle.constructor_sets.specs.Spans.{starts_before, shape_starts_before, is_up_to_head, Precedes, plain_span, IsSpan, AreSpans, HoldsBelow, FailsAt, IsFirst, IsEnd}
 use Rattle.constructor_sets.specs.declared.piece.Span.{Span}
 
 -- texts
@@ -240,10 +240,27 @@ starts_parted h pieces rising = partitioned (λ p. starts_before p h) (λ x y l 
 pub up_parted : (h : MCtor) (pieces : List Ctor) → is_written h ≡ true → AllPairs Precedes (plain_ctors pieces) → IsPartitionedBy (λ x. is_up_to_head h (plain_ctor x)) pieces
 up_parted h pieces w rising = partitioned (is_up_to_head h) (λ x y l e. up_earlier x y h w l e) pieces rising
 
+-- where a test holds just below a place and not at it, it holds of all below and of none from there on
+beside : (p : Ctor → Bool) (pieces : List Ctor) (count : ℕ) → IsPartitionedBy p pieces → count ≤ length pieces → HoldsBelow p pieces count → FailsAt p pieces count →
+    IsPartitionPoint (λ x. p x ≡ true) (λ x. p x ≡ false) pieces count
+beside p pieces count parted l below at = (λ i d z m. parted i (count - 1) d (omega arith) (omega arith) (below (omega arith) d), λ i d m n. go i d m n (p (get_or pieces i d)) refl)
+  where
+    go : (i : ℕ) (d : Ctor) → count ≤ i → i < length pieces → (b : Bool) → p (get_or pieces i d) ≡ b → p (get_or pieces i d) ≡ false
+    go i d m n false e = e
+    go i d m n true e = untrue (sym (at (omega arith) d) ∙ parted count i d m n e)
+
+pub first_beside : (h : MCtor) (pieces : List Ctor) (count : ℕ) → AllPairs Precedes (plain_ctors pieces) → count ≤ length pieces →
+    HoldsBelow (λ x. starts_before (plain_ctor x) h) pieces count → FailsAt (λ x. starts_before (plain_ctor x) h) pieces count → IsFirst h pieces count
+first_beside h pieces count rising l below at = record { bound = l; point = beside (λ x. starts_before (plain_ctor x) h) pieces count (starts_parted h pieces rising) l below at }
+
+pub end_beside : (h : MCtor) (pieces : List Ctor) (count : ℕ) → is_written h ≡ true → AllPairs Precedes (plain_ctors pieces) → count ≤ length pieces →
+    HoldsBelow (λ x. is_up_to_head h (plain_ctor x)) pieces count → FailsAt (λ x. is_up_to_head h (plain_ctor x)) pieces count → IsEnd h pieces count
+end_beside h pieces count w rising l below at = record { bound = l; point = beside (λ x. is_up_to_head h (plain_ctor x)) pieces count (up_parted h pieces w rising) l below at }
+
 had : (b : Bool) (p h : MCtor) → starts_before p h ≡ false → is_up_to_head h p ≡ b → has_piece h p ≡ b
 had b p h e f = ap (λ x. x || has_piece h p) (sym e) ∙ f
 
-pub spanned : (h : MCtor) (pieces : List Ctor) (first end : ℕ) → first ≤ length pieces → end ≤ length pieces →
+spanned : (h : MCtor) (pieces : List Ctor) (first end : ℕ) → first ≤ length pieces → end ≤ length pieces →
     IsPartitionPoint (λ (x : Ctor). starts_before (plain_ctor x) h ≡ true) (λ x. starts_before (plain_ctor x) h ≡ false) pieces first →
     IsPartitionPoint (λ (x : Ctor). is_up_to_head h (plain_ctor x) ≡ true) (λ x. is_up_to_head h (plain_ctor x) ≡ false) pieces end →
     IsSpan (plain_ctors pieces) h (first, end)
@@ -274,6 +291,9 @@ spanned h pieces first end fl el s u = record {
         let e : nat_le first i ≡ true = grind (arith, nat_tests) in
         let f : nat_lt i end ≡ false = grind (arith, nat_tests) in
         had false (plain_ctor (get_or pieces i c.Single)) h (s.1 i c.Single l m) (u.1 i c.Single k m) ∙ sym (ap (λ b. b && nat_lt i end) e ∙ f)
+
+pub spanned_by : (h : MCtor) (pieces : List Ctor) (first end : ℕ) → IsFirst h pieces first → IsEnd h pieces end → IsSpan (plain_ctors pieces) h (first, end)
+spanned_by h pieces first end f e = spanned h pieces first end f.bound e.bound f.point e.point
 
 -- head by head
 

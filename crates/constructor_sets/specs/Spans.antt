@@ -1,8 +1,11 @@
 -- Which pieces a head has: those between the pieces that lie before them and the pieces behind.
-use Rattle.std.specs.Prelude.{◌≡◌, ℕ, ◌≤◌, ◌<◌, Bool, false, not, ◌&&◌, ◌||◌, List, [], ◌∷◌, length, slice_index_or, nat_lt, nat_le, ⊤, IsTrue}
+use Rattle.std.specs.Prelude.{◌≡◌, ℕ, ◌-◌, ◌≤◌, ◌<◌, Bool, true, false, not, ◌&&◌, ◌||◌, List, [], ◌∷◌, length, slice_index_or, nat_lt, nat_le, ⊤, IsTrue}
 use Rattle.std.specs.Ordering.{is_lt}
+use Rattle.std.specs.List.Sorted.{IsPartitionPoint}
 use Rattle.match_model.specs.Texts.{compare_texts}
 use Rattle.match_model.specs.Constructors.{MShape, MCtor, LaterCtor, OtherTextCtor, VariantCtor, FlagCtor, NumbersCtor, TextCtor, RowCtor, least_length, low_within, high_within, has_piece}
+use Rattle.pat_context.specs.Views.{plain_ctor}
+use Rattle.pat_context.specs.declared.ctor.Ctor.{Ctor}
 use Rattle.constructor_sets.specs.declared.piece.Span.{Span}
 
 -- one shape has a shorter row than the other
@@ -48,3 +51,21 @@ abbrev pub AreSpans : (pieces heads : List MCtor) → List (ℕ × ℕ) → Type
 AreSpans pieces [] [] = ⊤
 AreSpans pieces (h ∷ heads) (s ∷ spans) = IsSpan pieces h s × AreSpans pieces heads spans
 AreSpans pieces _ _ = ⊥
+
+-- the test holds of the piece just below the place, if there is one
+abbrev pub HoldsBelow : (p : Ctor → Bool) → (pieces : List Ctor) → (place : ℕ) → Type 0
+HoldsBelow p pieces place = 0 < place → (d : Ctor) → p (slice_index_or pieces (place - 1) d) ≡ true
+
+-- the test fails of the piece at the place, if there is one
+abbrev pub FailsAt : (p : Ctor → Bool) → (pieces : List Ctor) → (place : ℕ) → Type 0
+FailsAt p pieces place = place < length pieces → (d : Ctor) → p (slice_index_or pieces place d) ≡ false
+
+-- so many of the pieces begin before all that the head has
+pub record IsFirst (head : MCtor) (pieces : List Ctor) (count : ℕ) : Type 0 where
+  pub bound : count ≤ length pieces
+  pub point : IsPartitionPoint (λ (x : Ctor). starts_before (plain_ctor x) head ≡ true) (λ x. starts_before (plain_ctor x) head ≡ false) pieces count
+
+-- so many of the pieces begin before all that the head has, or the head has them
+pub record IsEnd (head : MCtor) (pieces : List Ctor) (count : ℕ) : Type 0 where
+  pub bound : count ≤ length pieces
+  pub point : IsPartitionPoint (λ (x : Ctor). is_up_to_head head (plain_ctor x) ≡ true) (λ x. is_up_to_head head (plain_ctor x) ≡ false) pieces count

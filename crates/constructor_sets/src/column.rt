@@ -1,16 +1,19 @@
 // What the heads of a column have, and what they leave out.
 ghost use Rattle.std.specs.Prelude.{◌≡◌, ◌++◌, ◌||◌, ◌∷◌, [], true, IsTrue, IfOk, OnOk, map};
 ghost use Rattle.std.specs.List.{All, list_any, filter_map};
+ghost use Rattle.match_model.specs.Constructors.{has_piece};
 ghost use Rattle.pat_context.specs.Views.{plain_ctor, plain_set, is_sure};
-ghost use Rattle.constructor_sets.specs.Columns.{plain_ctors, plain_piece};
+ghost use Rattle.constructor_sets.specs.Columns.{plain_ctors};
+ghost use Rattle.constructor_sets.specs.Serving.{IsServing};
 ghost use Rattle.constructor_sets.specs.Spans.{plain_span};
 ghost use Rattle.constructor_sets.specs.Present.{is_sharp_head, present_piece, is_missing, gap_of, AreFound};
-ghost use Rattle.constructor_sets.specs.Present.{ArePresent};
+ghost use Rattle.constructor_sets.specs.Present.{AreFoundOf, ArePresent};
 
+use crate::set_pieces::set_pieces;
 use crate::spans::spans_of;
-use crate::split::split_column;
+use crate::split::piece_state;
 use crate::variants::found_variants;
-use crate::{Piece, PieceState, PresentPieces};
+use crate::{PieceState, PresentPieces};
 use no_memory::NoMemory;
 use pat_context::{Ctor, CtorSet, PatCx, Validity};
 use std::alloc::Global;
@@ -77,7 +80,7 @@ fn found_by_set<'a, C: PatCx>(
     }
 }
 
-// The same by the split of the column.
+// The same by the pieces of the set.
 fn found_pieces<'a, C: PatCx>(
     alloc: Global,
     cx: &C,
@@ -91,39 +94,52 @@ fn found_pieces<'a, C: PatCx>(
         (record { type = ty; sure = is_sure validity }) (plain_ctors heads.now)
         (plain_ctors f.ctors.items) f.missing (plain_ctors f.gaps.items)) }
 {
-    let split = split_column(alloc, cx, ty, validity, heads)?;
-    by_states(alloc, &split.pieces)
+    let set = cx.set(ty);
+    let pieces = set_pieces(alloc, &set, heads)?;
+    by_states(alloc, cx, ty, validity, &set, heads, &pieces)
 }
 
-// The pieces that are present, whether some is missing, and the missing ranges and lengths.
-fn by_states<'a>(alloc: Global, pieces: &[Piece<'a>]) -> Result<Found<'a>, NoMemory>
-    ensures present { IfOk result (λ f. plain_ctors f.ctors.items ≡ filter_map present_piece
-        (map plain_piece pieces.now)) }
-    ensures missing { IfOk result (λ f. f.missing ≡ list_any is_missing (map plain_piece pieces.now)) }
-    ensures gaps { IfOk result (λ f. plain_ctors f.gaps.items ≡ filter_map gap_of (map plain_piece pieces.now)) }
+// The pieces that are present, whether some is missing, and the missing ranges and lengths. None of the heads is a
+// wildcard.
+fn by_states<'a, C: PatCx>(
+    alloc: Global,
+    cx: &C,
+    ty: C::Ty,
+    validity: Validity,
+    set: &CtorSet,
+    heads: &[Ctor<'a>],
+    pieces: &[(Ctor<'a>, bool)],
+) -> Result<Found<'a>, NoMemory>
+    requires ty { C.is_type cx.now ty }
+    requires set { plain_set set.now ≡ (C.context cx.now).set_of ty }
+    requires serving { All (λ p. IsServing (plain_set set.now) (plain_ctor p.0)) pieces.now }
+    requires flagged { All (λ p. p.1 ≡ list_any (λ h. has_piece h (plain_ctor p.0)) (plain_ctors heads.now)) pieces.now }
+    ensures { IfOk result (λ f. AreFoundOf (C.is_value cx.now) (record { type = ty; sure = is_sure validity })
+        (plain_ctors heads.now) pieces.now (plain_ctors f.ctors.items) f.missing (plain_ctors f.gaps.items)) }
 {
     let mut found = Found {
-        ctors: Vec::new(alloc),
+        ctors: Vec::with_capacity(alloc, pieces.len())?,
         missing: false,
         gaps: Vec::new(alloc),
     };
-    for piece in pieces {
-        add_piece(&mut found, piece)?;
+    for (ctor, present) in pieces {
+        let state = piece_state(cx, ty, validity, set, ctor, *present);
+        add_piece(&mut found, ctor, state)?;
     }
     Ok(found)
 }
 
 // Adds what is found of one piece more.
-fn add_piece<'a>(found: &mut Found<'a>, piece: &Piece<'a>) -> Result<(), NoMemory>
+fn add_piece<'a>(found: &mut Found<'a>, ctor: &Ctor<'a>, state: PieceState) -> Result<(), NoMemory>
     ensures present { OnOk result (plain_ctors found.new.ctors.items ≡ plain_ctors found.old.ctors.items
-        ++ filter_map present_piece (plain_piece piece.now ∷ [])) }
-    ensures missing { OnOk result (found.new.missing ≡ (found.old.missing || is_missing (plain_piece piece.now))) }
+        ++ filter_map present_piece ((plain_ctor ctor.now, state) ∷ [])) }
+    ensures missing { OnOk result (found.new.missing ≡ (found.old.missing || is_missing (plain_ctor ctor.now, state))) }
     ensures gaps { OnOk result (plain_ctors found.new.gaps.items ≡ plain_ctors found.old.gaps.items
-        ++ filter_map gap_of (plain_piece piece.now ∷ [])) }
+        ++ filter_map gap_of ((plain_ctor ctor.now, state) ∷ [])) }
 {
-    match piece.state {
-        PieceState::Present => found.ctors.push(piece.ctor)?,
-        PieceState::Missing => add_missing(found, &piece.ctor)?,
+    match state {
+        PieceState::Present => found.ctors.push(*ctor)?,
+        PieceState::Missing => add_missing(found, ctor)?,
         PieceState::Empty => (),
     }
     Ok(())

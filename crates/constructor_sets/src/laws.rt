@@ -2,7 +2,7 @@
 //! law.
 
 ghost use Rattle.constructor_sets.specs.Laws.{EachByOnePiece, PiecesFitColumns, PiecesStandInOrder};
-ghost use Rattle.constructor_sets.specs.Laws.{PieceValuesAreTold};
+ghost use Rattle.constructor_sets.specs.Laws.{PieceValuesAreTold, MissingIsOfValues};
 
 use pat_context::PatCx;
 
@@ -27,6 +27,12 @@ pub fn piece_values_are_told<C: PatCx>(cx: &C)
         (C.variant_empty_of cx.now) }
 {}
 
+/// Where a piece is missing, some value at the place is in no head; where none is, each value but an unseen and an opaque
+/// thing is in some head. It is said of `missing` of `present`, and of any list of pieces that is so.
+pub fn missing_is_of_values<C: PatCx>(cx: &C)
+    ensures { MissingIsOfValues (C.is_value cx.now) (C.context cx.now) }
+{}
+
 #[cfg(test)]
 mod tests {
     use super::*;
@@ -36,5 +42,6 @@ mod tests {
     #[test]
     fn laws_hold_at_the_toy_context(_rt: HostRuntime) {
         piece_values_are_told(&Toy);
+        missing_is_of_values(&Toy);
     }
 }

@@ -155,7 +155,7 @@ fn numbers<'a>(
 fn ranges_of(alloc: Global, column: &[Ctor]) -> Result<Vec<Range>, NoMemory>
     ensures { IfOk result (λ v. plain_ranges v.items ≡ filter_map range_of (plain_ctors column.now)) }
 {
-    let mut ranges = Vec::new(alloc);
+    let mut ranges = Vec::with_capacity(alloc, column.len())?;
     for head in column {
         if let Ctor::Numbers(range) = *head {
             ranges.push(range)?;
@@ -198,7 +198,7 @@ fn texts<'a>(alloc: Global, column: &[Ctor<'a>]) -> Result<Vec<(Ctor<'a>, bool)>
 fn text_pieces<'a>(alloc: Global, named: &[&'a str]) -> Result<Vec<(Ctor<'a>, bool)>, NoMemory>
     ensures { IfOk result (λ v. plain_flagged v.items ≡ map (λ t. (TextCtor t, true)) (plain_texts named.now)) }
 {
-    let mut pieces = Vec::new(alloc);
+    let mut pieces = Vec::with_capacity(alloc, named.len() + 1)?;
     for text in named {
         pieces.push((Ctor::Text(text), true))?;
     }
@@ -220,7 +220,7 @@ fn texts_of<'a>(alloc: Global, column: &[Ctor<'a>]) -> Result<Vec<&'a str>, NoMe
     ensures same { IfOk result (λ v. plain_texts v.items ≡ filter_map text_of (plain_ctors column.now)) }
     ensures texts { IfOk result (λ v. All (λ t. IsUtf8 t.now) v.items) }
 {
-    let mut texts = Vec::new(alloc);
+    let mut texts = Vec::with_capacity(alloc, column.len())?;
     for head in column {
         if let Ctor::Text(text) = *head {
             texts.push(as_text(text))?;
@@ -258,7 +258,7 @@ fn row_pieces<'a>(
 ) -> Result<Vec<(Ctor<'a>, bool)>, NoMemory>
     ensures { IfOk result (λ v. plain_flagged v.items ≡ map (λ p. (RowCtor p.0, p.1)) (plain_pieces lengths.now)) }
 {
-    let mut pieces = Vec::new(alloc);
+    let mut pieces = Vec::with_capacity(alloc, lengths.len())?;
     for (shape, present) in lengths {
         pieces.push((Ctor::Row(*shape), *present))?;
     }
@@ -269,7 +269,7 @@ fn row_pieces<'a>(
 fn shapes_of(alloc: Global, column: &[Ctor]) -> Result<Vec<Shape>, NoMemory>
     ensures { IfOk result (λ v. plain_shapes v.items ≡ filter_map shape_of (plain_ctors column.now)) }
 {
-    let mut shapes = Vec::new(alloc);
+    let mut shapes = Vec::with_capacity(alloc, column.len())?;
     for head in column {
         if let Ctor::Row(shape) = *head {
             shapes.push(shape)?;

@@ -1,11 +1,12 @@
 // Which of the pieces in a list the heads of their column have.
-ghost use Rattle.std.specs.Prelude.{◌≡◌, ◌||◌, IsTrue, IfOk, map};
+ghost use Rattle.std.specs.Prelude.{◌≡◌, ◌≤◌, ◌||◌, IsTrue, IfOk, length, map};
 ghost use Rattle.std.specs.List.{All, AllPairs};
 ghost use Rattle.match_model.specs.Constructors.{has_piece};
 ghost use Rattle.match_model.specs.WellTyped.{is_written};
 ghost use Rattle.pat_context.specs.Views.{plain_ctor};
 ghost use Rattle.constructor_sets.specs.Columns.{plain_ctors};
 ghost use Rattle.constructor_sets.specs.Spans.{starts_before, Precedes, plain_span, IsSpan, AreSpans, is_up_to_head};
+ghost use Rattle.constructor_sets.specs.Spans.{HoldsBelow, FailsAt, IsFirst, IsEnd};
 
 use crate::Span;
 use crate::heads::{has_piece, starts_before};
@@ -24,30 +25,158 @@ pub(crate) fn spans_of(
     ensures { IfOk result (λ v. AreSpans (plain_ctors pieces.now) (plain_ctors heads.now) (map plain_span v.items)) }
 {
     let mut spans = Vec::with_capacity(alloc, heads.len())?;
+    let mut near = Span { first: 0, end: 0 };
     for head in heads {
-        let span = span_of(pieces, head);
+        let span = span_of(pieces, head, near);
         spans.push(span)?;
+        near = span;
     }
     Ok(spans)
 }
 
-// Which of the pieces the head has.
-fn span_of(pieces: &[Ctor], head: &Ctor) -> Span
+// Which of the pieces the head has. Heads often stand in order, so it is looked for beside the span of the head before.
+fn span_of(pieces: &[Ctor], head: &Ctor, near: Span) -> Span
     requires rising { AllPairs Precedes (plain_ctors pieces.now) }
     requires head { IsTrue (is_written (plain_ctor head.now)) }
     ensures { IsSpan (plain_ctors pieces.now) (plain_ctor head.now) (plain_span result) }
 {
-    let first = pieces.partition_point(
+    let first = first_of(pieces, head, near.first);
+    let end = end_of(pieces, head, first, near.end);
+    Span { first, end }
+}
+
+// How many of the pieces begin before all that the head has; it may be close to `near`.
+fn first_of(pieces: &[Ctor], head: &Ctor, near: usize) -> usize
+    requires rising { AllPairs Precedes (plain_ctors pieces.now) }
+    ensures { IsFirst (plain_ctor head.now) pieces.now result }
+{
+    if is_first(pieces, head, near) {
+        near
+    } else if near < pieces.len() && is_first(pieces, head, near + 1) {
+        near + 1
+    } else if 0 < near && is_first(pieces, head, near - 1) {
+        near - 1
+    } else {
+        search_first(pieces, head)
+    }
+}
+
+// Tells whether so many of the pieces begin before all that the head has, by the pieces on both sides.
+fn is_first(pieces: &[Ctor], head: &Ctor, count: usize) -> bool
+    requires rising { AllPairs Precedes (plain_ctors pieces.now) }
+    ensures { IsTrue result → IsFirst (plain_ctor head.now) pieces.now count }
+{
+    if count <= pieces.len() {
+        starts_below(pieces, head, count) && stops_at(pieces, head, count)
+    } else {
+        false
+    }
+}
+
+// Tells whether the piece below the place, if there is one, begins before all that the head has.
+fn starts_below(pieces: &[Ctor], head: &Ctor, place: usize) -> bool
+    requires { place ≤ length pieces.now }
+    ensures { IsTrue result → HoldsBelow (λ x. starts_before (plain_ctor x) (plain_ctor head.now)) pieces.now place }
+{
+    if place == 0 {
+        true
+    } else {
+        starts_before(&pieces[place - 1], head)
+    }
+}
+
+// Tells whether the piece at the place, if there is one, does not begin before all that the head has.
+fn stops_at(pieces: &[Ctor], head: &Ctor, place: usize) -> bool
+    requires { place ≤ length pieces.now }
+    ensures { IsTrue result → FailsAt (λ x. starts_before (plain_ctor x) (plain_ctor head.now)) pieces.now place }
+{
+    if place == pieces.len() {
+        true
+    } else {
+        !starts_before(&pieces[place], head)
+    }
+}
+
+// The same by halving.
+fn search_first(pieces: &[Ctor], head: &Ctor) -> usize
+    requires rising { AllPairs Precedes (plain_ctors pieces.now) }
+    ensures { IsFirst (plain_ctor head.now) pieces.now result }
+{
+    pieces.partition_point(
         |piece: &Ctor| -> bool
             ensures { result ≡ starts_before (plain_ctor piece.now) (plain_ctor head.entry.now) }
         { starts_before(piece, head) },
-    );
-    let end = pieces.partition_point(
+    )
+}
+
+// How many of the pieces lie before what the head has or are of it; it may be one more than `first`, or close to `near`.
+fn end_of(pieces: &[Ctor], head: &Ctor, first: usize, near: usize) -> usize
+    requires rising { AllPairs Precedes (plain_ctors pieces.now) }
+    requires head { IsTrue (is_written (plain_ctor head.now)) }
+    requires first { first ≤ length pieces.now }
+    ensures { IsEnd (plain_ctor head.now) pieces.now result }
+{
+    if first < pieces.len() && is_end(pieces, head, first + 1) {
+        first + 1
+    } else if is_end(pieces, head, near) {
+        near
+    } else if near < pieces.len() && is_end(pieces, head, near + 1) {
+        near + 1
+    } else if 0 < near && is_end(pieces, head, near - 1) {
+        near - 1
+    } else {
+        search_end(pieces, head)
+    }
+}
+
+// Tells whether so many of the pieces lie before what the head has or are of it, by the pieces on both sides.
+fn is_end(pieces: &[Ctor], head: &Ctor, count: usize) -> bool
+    requires rising { AllPairs Precedes (plain_ctors pieces.now) }
+    requires head { IsTrue (is_written (plain_ctor head.now)) }
+    ensures { IsTrue result → IsEnd (plain_ctor head.now) pieces.now count }
+{
+    if count <= pieces.len() {
+        goes_below(pieces, head, count) && ends_at(pieces, head, count)
+    } else {
+        false
+    }
+}
+
+// Tells whether the piece below the place, if there is one, lies before what the head has or is of it.
+fn goes_below(pieces: &[Ctor], head: &Ctor, place: usize) -> bool
+    requires { place ≤ length pieces.now }
+    ensures { IsTrue result → HoldsBelow (λ x. is_up_to_head (plain_ctor head.now) (plain_ctor x)) pieces.now place }
+{
+    if place == 0 {
+        true
+    } else {
+        is_up_to(&pieces[place - 1], head)
+    }
+}
+
+// Tells whether the piece at the place, if there is one, lies behind what the head has.
+fn ends_at(pieces: &[Ctor], head: &Ctor, place: usize) -> bool
+    requires { place ≤ length pieces.now }
+    ensures { IsTrue result → FailsAt (λ x. is_up_to_head (plain_ctor head.now) (plain_ctor x)) pieces.now place }
+{
+    if place == pieces.len() {
+        true
+    } else {
+        !is_up_to(&pieces[place], head)
+    }
+}
+
+// The same by halving.
+fn search_end(pieces: &[Ctor], head: &Ctor) -> usize
+    requires rising { AllPairs Precedes (plain_ctors pieces.now) }
+    requires head { IsTrue (is_written (plain_ctor head.now)) }
+    ensures { IsEnd (plain_ctor head.now) pieces.now result }
+{
+    pieces.partition_point(
         |piece: &Ctor| -> bool
             ensures { result ≡ is_up_to_head (plain_ctor head.entry.now) (plain_ctor piece.now) }
         { is_up_to(piece, head) },
-    );
-    Span { first, end }
+    )
 }
 
 // Tells whether the piece lies before what the head has, or the head has it.

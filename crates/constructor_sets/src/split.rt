@@ -75,7 +75,7 @@ fn either(first: bool, second: bool) -> bool
 }
 
 // The state of a piece.
-fn piece_state<C: PatCx>(
+pub(crate) fn piece_state<C: PatCx>(
     cx: &C,
     ty: C::Ty,
     validity: Validity,

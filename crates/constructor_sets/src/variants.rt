@@ -1,12 +1,12 @@
 // The variants that the heads of a column have, by their numbers: those that are missing are not listed.
-ghost use Rattle.std.specs.Prelude.{◌≡◌, ◌<◌, ◌&&◌, ◌||◌, not, IsTrue, IfOk, map};
+ghost use Rattle.std.specs.Prelude.{◌≡◌, ◌<◌, ◌&&◌, ◌||◌, not, nat_eq, nat_lt, length, slice_index_or, IsTrue, IfOk, map};
 ghost use Rattle.std.specs.List.{All, AllPairs, list_any, filter, filter_map};
 ghost use Rattle.match_model.specs.Constructors.{VariantSet, VariantCtor};
 ghost use Rattle.match_model.specs.Pieces.{each_below};
 ghost use Rattle.pat_context.specs.Views.{is_sure};
 ghost use Rattle.constructor_sets.specs.Columns.{plain_ctors};
 ghost use Rattle.constructor_sets.specs.Present.{is_sharp_head, AreFound};
-ghost use Rattle.constructor_sets.specs.Numbered.{variant_of, is_valued, is_listed, is_left_out, AreNumbers};
+ghost use Rattle.constructor_sets.specs.Numbered.{variant_of, is_valued, is_left_out, AreNumbers};
 
 use crate::column::Found;
 use no_memory::NoMemory;
@@ -122,39 +122,26 @@ fn leaves_out<C: PatCx>(
     ensures { result ≡ list_any (is_left_out (C.variant_empty_of cx.now ty) (is_sure validity) numbers.now)
         (each_below (λ k. k) count) }
 {
+    let mut place = 0;
     for k in 0..count {
-        if is_left_out(cx, ty, validity, count, later, numbers, k) {
+        if stands_at(numbers, place, k) {
+            place += 1;
+        } else if is_valued(cx, ty, validity, count, later, k) {
             return true;
         }
     }
     false
 }
 
-// Tells whether the variant has a value, and its number is not among these.
-fn is_left_out<C: PatCx>(
-    cx: &C,
-    ty: C::Ty,
-    validity: Validity,
-    count: u32,
-    later: bool,
-    numbers: &[u32],
-    k: u32,
-) -> bool
-    requires ty { C.is_type cx.now ty }
-    requires set { (C.context cx.now).set_of ty ≡ VariantSet count later }
-    requires ascending { AllPairs (λ j k. j < k) numbers.now }
-    requires below { k < count }
-    ensures { result ≡ is_left_out (C.variant_empty_of cx.now ty) (is_sure validity) numbers.now k }
+// Tells whether the number stands at the place.
+fn stands_at(numbers: &[u32], place: usize, k: u32) -> bool
+    ensures { result ≡ (nat_lt place (length numbers.now) && nat_eq (slice_index_or numbers.now place 0) k) }
 {
-    !is_listed(numbers, k) && is_valued(cx, ty, validity, count, later, k)
-}
-
-// Tells whether the number is among these, which ascend.
-fn is_listed(numbers: &[u32], k: u32) -> bool
-    requires { AllPairs (λ j k. j < k) numbers.now }
-    ensures { result ≡ is_listed numbers.now k }
-{
-    numbers.binary_search(&k).is_ok()
+    if place < numbers.len() {
+        numbers[place] == k
+    } else {
+        false
+    }
 }
 
 // Tells whether the variant has a value at a place of the validity.
