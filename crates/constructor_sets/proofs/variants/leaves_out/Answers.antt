@@ -18,14 +18,14 @@ loop-k-preserved g c =
     let place = c.loop-k.place in
     elim c.if-stands_at.branch [
       | then-stands_at w ↦ (
-            none_more (is_left_out empty sure numbers) k c.loop-k.invariant.0
-                (left_not (is_valued empty sure k) (is_listed numbers k) (inr (listed_there numbers place k (sym c.stands_at.ensures ∙ w.if-stands_at.true)))),
-            rw w.place-is (walked_on numbers place k c.requires.ascending c.loop-k.invariant.1 (sym c.stands_at.ensures ∙ w.if-stands_at.true)),
-          )
+        none_more (is_left_out empty sure numbers) k c.loop-k.invariant.0
+            (left_not (is_valued empty sure k) (is_listed numbers k) (inr (listed_there numbers place k (sym c.stands_at.ensures ∙ w.if-stands_at.true)))),
+        rw w.place-is (walked_on numbers place k c.requires.ascending c.loop-k.invariant.1 (sym c.stands_at.ensures ∙ w.if-stands_at.true)),
+      )
       | else-stands_at+else-is_valued w ↦ (
-            none_more (is_left_out empty sure numbers) k c.loop-k.invariant.0 (left_not (is_valued empty sure k) (is_listed numbers k) (inl (sym w.is_valued.ensures ∙ w.if-is_valued.false))),
-            rw w.place-is (walked_past numbers place k c.loop-k.invariant.1 (sym c.stands_at.ensures ∙ w.if-stands_at.false)),
-          )
+        none_more (is_left_out empty sure numbers) k c.loop-k.invariant.0 (left_not (is_valued empty sure k) (is_listed numbers k) (inl (sym w.is_valued.ensures ∙ w.if-is_valued.false))),
+        rw w.place-is (walked_past numbers place k c.loop-k.invariant.1 (sym c.stands_at.ensures ∙ w.if-stands_at.false)),
+      )
     ]
 
 pub returns-then-is_valued : goal.returns-then-is_valued
