@@ -5,7 +5,7 @@ use Rattle.std.proofs.lemmas.List.{append-nil, map-append, take_all}
 use Rattle.type_names.specs.NameRules.{is_among, repeats, some_among, is_taken, taken_names, function_names, value_names}
 use Rattle.decl_syntax.specs.Items.{KindTree, ItemTree}
 use Rattle.type_names.specs.Views.{among}
-use Rattle.type_names.proofs.Places.{same_functions}
+use Rattle.type_names.proofs.Places.{same_functions, front_more}
 use Rattle.type_names.proofs.ItemTests.{any_append, parted}
 
 or_assoc : (a b c : Bool) → ((a || b) || c) ≡ (a || (b || c))
@@ -66,6 +66,17 @@ taken_twice before xs ys old y b is fresh known =
 -- the names of a list around one of them
 pub parted_map : {A B : Type 0} (f : A → B) (xs : List A) (i : ℕ) (x : A) → i < length xs → x ≡ get_or xs i x → map f xs ≡ map f (take i xs) ++ f x ∷ map f (drop (i + 1) xs)
 parted_map f xs i x lt is = ap (map f) (parted xs i x lt is) ∙ map-append f (take i xs) (x ∷ drop (i + 1) xs)
+
+-- the names of what is seen of a list, around one item
+pub parted_names : {A B : Type 0} (view : A → B) (name : B → List ℕ) (xs : List A) (i : ℕ) (x : A) → i < length xs → x ≡ get_or xs i x →
+    map name (map view xs) ≡ map name (map view (take i xs)) ++ name (view x) ∷ map name (map view (drop (i + 1) xs))
+parted_names view name xs i x lt is =
+    ap (map name) (parted_map view xs i x lt is) ∙ map-append name (map view (take i xs)) (view x ∷ map view (drop (i + 1) xs))
+
+-- the names of what is seen of a front that is one item longer
+pub front_names : {A B : Type 0} (view : A → B) (name : B → List ℕ) (xs : List A) (i : ℕ) (x : A) → i < length xs → x ≡ get_or xs i x →
+    map name (map view (take (i + 1) xs)) ≡ map name (map view (take i xs)) ++ name (view x) ∷ []
+front_names view name xs i x lt is = ap (map name) (front_more view xs i x lt is) ∙ map-append name (map view (take i xs)) (view x ∷ [])
 
 pub whole_map : {A B : Type 0} (f : A → B) (xs : List A) (i : ℕ) → length xs ≤ i → map f (take i xs) ≡ map f xs
 whole_map f xs i all = ap (map f) (take_all i xs all)

@@ -3,13 +3,13 @@ use Rattle.std.proofs.Common.{◌≡◌, ℕ, List, [], ◌∷◌, map, Option, 
 use borrow.Author.Tests.{ltb-true}
 use Rattle.std.proofs.lemmas.Option.{slice_get_read}
 use Rattle.std.specs.Prelude.{slice_get, position, option_map}
-use Rattle.indexmap.specs.IndexMap.{get_by_text}
+use Rattle.std.specs.Global.{Box}
 use Rattle.match_model.specs.Types.{DeclaredItem}
 use Rattle.decl_syntax.specs.Items.{VariantTree, ItemTree}
 use Rattle.type_names.specs.declared.names.Names.{Names}
 use Rattle.type_names.specs.Meanings.{Means, ItemName, is_name, first_of_two, built_in, means}
 use Rattle.type_names.specs.Imports.{named_variant, item_variants, kind_variants, variant_number, form_kind, form_at, owner_variants}
-use Rattle.type_names.specs.Views.{PlaceMap, means_in, AreNames, place_in, variant_at}
+use Rattle.type_names.specs.Views.{PlaceMap, places_of, means_in, AreNames, place_in, variant_at}
 use Rattle.type_names.proofs.Places.{position_map}
 
 -- an item of a list that is mapped
@@ -22,7 +22,7 @@ at_or : Option (List ℕ → Option ℕ) → List ℕ → Option ℕ
 at_or None q = None
 at_or (Some f) q = f q
 
-by_map : (o : Option PlaceMap) (q : List ℕ) → place_in o q ≡ at_or (option_map get_by_text o) q
+by_map : (o : Option (Option (Box PlaceMap))) (q : List ℕ) → place_in o q ≡ at_or (option_map places_of o) q
 unfolding at_or
 by_map None q = refl
 by_map (Some m) q = refl
@@ -39,7 +39,7 @@ pub item_variant_is : (items : List ItemTree) (names : Names) → AreNames items
     place_in (slice_get names.variants.items i) q ≡ variant_number items (DeclaredItem i) q
 item_variant_is items names are i q =
     by_map (slice_get names.variants.items i) q
-    ∙ (ap (λ (o : Option (List ℕ → Option ℕ)). at_or o q) (sym (get_map get_by_text names.variants.items i) ∙ (ap (λ (fs : List (List ℕ → Option ℕ)). slice_get fs i) are.variants ∙ get_map (λ i. variant_at (kind_variants i.kind)) items i))
+    ∙ (ap (λ (o : Option (List ℕ → Option ℕ)). at_or o q) (sym (get_map places_of names.variants.items i) ∙ (ap (λ (fs : List (List ℕ → Option ℕ)). slice_get fs i) are.variants ∙ get_map (λ i. variant_at (kind_variants i.kind)) items i))
     ∙ (by_item (slice_get items i) q ∙ by_name (item_variants (slice_get items i)) q))
 
 -- the form of a variant that is there

@@ -1,6 +1,6 @@
 -- What callers see of meanings and of the names of a file.
 use Rattle.std.specs.Prelude.{◌≡◌, ℕ, Bool, true, false, List, map, position, Option, Some, None, option_map}
-use Rattle.std.specs.Global.{Global}
+use Rattle.std.specs.Global.{Global, Box}
 use Rattle.std.specs.Prelude.{String, string_bytes}
 use denote.Ref.{Bor}
 use Rattle.std.specs.declared.hash.FoldHasher.{FoldHasher}
@@ -89,10 +89,15 @@ with_place old name at q = first_place (old q) (is_name q name) at
 abbrev pub variant_at : List VariantTree → (name : List ℕ) → Option ℕ
 variant_at variants name = position (λ v. is_name name (Some v.name)) variants
 
+-- No meaning: the places of names by a map that may be there.
+abbrev pub places_of : Option (Box PlaceMap) → (name : List ℕ) → Option ℕ
+places_of None = λ name. None
+places_of (Some places) = get_by_text places.value
+
 -- the names are those of the items
 pub record AreNames (items : List ItemTree) (names : declared_names.Names) : Type 0 where
   pub declared : get_by_text names.declared ≡ declared_at items
-  pub variants : map get_by_text names.variants.items ≡ map (λ i. variant_at (kind_variants i.kind)) items
+  pub variants : map places_of names.variants.items ≡ map (λ i. variant_at (kind_variants i.kind)) items
 
 -- what names mean as types, by the look-ups
 abbrev pub means_in : declared_names.Names → Means
@@ -108,7 +113,7 @@ pub record AreTaken (types functions values : List (List ℕ)) (taken : declared
   pub functions_are : contains_text taken.functions ≡ among functions
   pub values_are : contains_text taken.values ≡ among values
 
--- No meaning: the place of a name by a map that may be there.
-abbrev pub place_in : Option PlaceMap → (name : List ℕ) → Option ℕ
+-- No meaning: the place of a name by the maps of an item that may be there.
+abbrev pub place_in : Option (Option (Box PlaceMap)) → (name : List ℕ) → Option ℕ
 place_in None name = None
-place_in (Some places) name = get_by_text places name
+place_in (Some places) name = places_of places name

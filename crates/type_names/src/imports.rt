@@ -70,8 +70,10 @@ impl Names {
     fn item_variant(&self, i: usize, name: &str) -> Option<usize>
         ensures { result ≡ place_in (slice_get self.now.variants.items i) name.now }
     {
-        let places = self.variants.get(i)?;
-        places.get(name).copied()
+        match self.variants.get(i)? {
+            Some(places) => places.get(name).copied(),
+            None => None,
+        }
     }
 }
 

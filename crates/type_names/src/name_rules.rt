@@ -297,24 +297,22 @@ pub(crate) fn has_variant_twice(alloc: Global, kind: &ItemKind) -> Result<bool, 
     ensures { IfOk result (λ b. b ≡ has_variant_twice (kind_view kind.now)) }
 {
     match kind {
-        ItemKind::Enum(e) => {
-            let all = variant_names(alloc, &e.variants)?;
-            has_repeats(alloc, &all)
-        }
+        ItemKind::Enum(e) => variants_repeat(alloc, &e.variants),
         _ => Ok(false),
     }
 }
 
-// The names of the variants.
-fn variant_names(alloc: Global, variants: &[Variant]) -> Result<Vec<String>, NoMemory>
-    ensures { IfOk result (λ v. map string_bytes v.items ≡ map (λ x. x.name) (map variant_view variants.now)) }
+// Whether two of the variants have one name. Each name is kept once: an enum may have millions.
+fn variants_repeat(alloc: Global, variants: &[Variant]) -> Result<bool, NoMemory>
+    ensures { IfOk result (λ b. b ≡ repeats [] (map (λ x. x.name) (map variant_view variants.now))) }
 {
-    let mut all = Vec::new(alloc);
+    let mut taken = IndexSet::new(alloc);
     for variant in variants {
-        let copy = variant.name.clone()?;
-        all.push(copy)?;
+        if !take_name(&mut taken, &variant.name)? {
+            return Ok(true);
+        }
     }
-    Ok(all)
+    Ok(false)
 }
 
 /// Whether two fields of a struct or variant have one name.

@@ -4,7 +4,7 @@ ghost use Rattle.indexmap.specs.IndexMap.{get_by_text};
 ghost use Rattle.decl_syntax.specs.Items.{item_view, kind_view, variant_view, file_view};
 ghost use Rattle.type_names.specs.Meanings.{declared_name, declared_at};
 ghost use Rattle.type_names.specs.Imports.{kind_variants};
-ghost use Rattle.type_names.specs.Views.{meaning_view, means_in, text_of, with_place, variant_at, AreNames};
+ghost use Rattle.type_names.specs.Views.{meaning_view, means_in, text_of, with_place, variant_at, places_of, AreNames};
 
 use crate::meanings::{Meaning, built_in};
 use decl_syntax::{File, Item, ItemKind, Variant};
@@ -13,11 +13,12 @@ use no_memory::NoMemory;
 use std::alloc::Global;
 
 /// The names of a file: the number of the first enum or struct of each name, counted from 0 over all items, and
-/// for each item the number of the first variant of each name.
+/// for each item that is an enum the number of the first variant of each name. Most items are none, so the map of
+/// an enum stands behind a box.
 #[derive(Debug, Drop)]
 pub struct Names {
     pub(crate) declared: IndexMap<String, usize>,
-    pub(crate) variants: Vec<IndexMap<String, usize>>,
+    pub(crate) variants: Vec<Option<Box<IndexMap<String, usize>>>>,
 }
 
 impl Names {
@@ -88,11 +89,11 @@ fn note(
 fn all_variant_places(
     alloc: Global,
     items: &[Item],
-) -> Result<Vec<IndexMap<String, usize>>, NoMemory>
-    ensures { IfOk result (λ all. map get_by_text all.items
+) -> Result<Vec<Option<Box<IndexMap<String, usize>>>>, NoMemory>
+    ensures { IfOk result (λ all. map places_of all.items
         ≡ map (λ i. variant_at (kind_variants i.kind)) (map item_view items.now)) }
 {
-    let mut all = Vec::new(alloc);
+    let mut all = Vec::with_capacity(alloc, items.len())?;
     for item in items {
         let places = item_variant_places(alloc, &item.kind)?;
         all.push(places)?;
@@ -101,13 +102,29 @@ fn all_variant_places(
 }
 
 // The variants of an item by name; what is no enum has none.
-fn item_variant_places(alloc: Global, kind: &ItemKind) -> Result<IndexMap<String, usize>, NoMemory>
-    ensures { IfOk result (λ places. get_by_text places ≡ variant_at (kind_variants (kind_view kind.now))) }
+fn item_variant_places(
+    alloc: Global,
+    kind: &ItemKind,
+) -> Result<Option<Box<IndexMap<String, usize>>>, NoMemory>
+    ensures { IfOk result (λ places. places_of places ≡ variant_at (kind_variants (kind_view kind.now))) }
 {
     match kind {
-        ItemKind::Enum(e) => variant_places(alloc, &e.variants),
-        _ => Ok(IndexMap::new(alloc)),
+        ItemKind::Enum(e) => {
+            let places = variant_places(alloc, &e.variants)?;
+            boxed(alloc, places)
+        }
+        _ => Ok(None),
     }
+}
+
+// The map behind a box.
+fn boxed(
+    alloc: Global,
+    places: IndexMap<String, usize>,
+) -> Result<Option<Box<IndexMap<String, usize>>>, NoMemory>
+    ensures { IfOk result (λ all. places_of all ≡ get_by_text places) }
+{
+    Ok(Some(Box::new(alloc, places)?))
 }
 
 // The variants by name.

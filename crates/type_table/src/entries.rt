@@ -68,7 +68,7 @@ pub(crate) fn all_entries(
     ensures told { IfOk result (λ v. map (entry_told (types_in nodes.new.keys)) v.items
         ≡ items_told (means_in names.now) (map item_view items.now)) }
 {
-    let mut all = Vec::new(alloc);
+    let mut all = Vec::with_capacity(alloc, items.len())?;
     for (i, item) in items.iter().enumerate() {
         let entry = item_entry(alloc, names, nodes, i, item)?;
         all.push(entry)?;
@@ -134,7 +134,7 @@ fn variant_entries(
     ensures variants { IfOk result (λ v. map (variant_entry (types_in nodes.new.keys)) v.items
         ≡ map (variant_of (means_in names.now)) (map variant_view variants.now)) }
 {
-    let mut all = Vec::new(alloc);
+    let mut all = Vec::with_capacity(alloc, variants.len())?;
     for variant in variants {
         let entry = variant_entry(alloc, names, nodes, &variant.name, &variant.form)?;
         all.push(entry)?;
@@ -204,7 +204,7 @@ fn field_entries(
     ensures fields { IfOk result (λ v. map (field_entry (types_in nodes.new.keys)) v.items
         ≡ map (field_of (means_in names.now)) (map field_view fields.now)) }
 {
-    let mut all = Vec::new(alloc);
+    let mut all = Vec::with_capacity(alloc, fields.len())?;
     for field in fields {
         let entry = field_entry(alloc, names, nodes, field)?;
         all.push(entry)?;

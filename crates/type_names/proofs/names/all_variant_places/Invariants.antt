@@ -1,9 +1,8 @@
 use Rattle.std.proofs.Common.{◌≡◌, map, take}
-use Rattle.indexmap.specs.IndexMap.{get_by_text}
 use Rattle.decl_syntax.specs.Items.{item_view}
 use Rattle.type_names.specs.Imports.{kind_variants}
-use Rattle.type_names.specs.Views.{variant_at}
+use Rattle.type_names.specs.Views.{places_of, variant_at}
 use Rattle.type_names.proofs.names.all_variant_places.Given as goal
 
 abbrev pub invariant-loop-item : goal.invariant-loop-item
-invariant-loop-item l = map get_by_text l.all.items ≡ map (λ i. variant_at (kind_variants i.kind)) (map item_view (take l.item-index l.items))
+invariant-loop-item l = map places_of l.all.items ≡ map (λ i. variant_at (kind_variants i.kind)) (map item_view (take l.item-index l.items))
