@@ -33,7 +33,7 @@ abbrev mutual
 
   pub field_nodes : FieldTrees → ℕ
   field_nodes p.no_field = 0
-  field_nodes (p.and_field name attrs q fs) = pattern_nodes q + field_nodes fs
+  field_nodes (p.and_field name short attrs q fs) = pattern_nodes q + field_nodes fs
 
 -- how many variants an item has
 abbrev pub kind_variants : KindTree → ℕ

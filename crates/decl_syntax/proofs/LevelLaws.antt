@@ -44,7 +44,7 @@ mutual
 
   fields_more : (fs : FieldTrees) (n : ℕ) → fields_fit fs n ≡ true → fields_fit fs (suc n) ≡ true
   fields_more no_field n e = refl
-  fields_more (and_field name attrs p fs) n e = let b = both (fits p n) (fields_fit fs n) e in and (fits p (suc n)) (fields_fit fs (suc n)) (fits_more p n b.0) (fields_more fs n b.1)
+  fields_more (and_field name short attrs p fs) n e = let b = both (fits p n) (fields_fit fs n) e in and (fits p (suc n)) (fields_fit fs (suc n)) (fits_more p n b.0) (fields_more fs n b.1)
 
 or_fits : (from : ℕ) (ps : PatternTrees) (n : ℕ) → fits (At from (Or ps)) n ≡ true → all_fit ps n ≡ true
 or_fits from ps zero e = absurd cc

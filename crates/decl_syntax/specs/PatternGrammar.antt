@@ -69,10 +69,10 @@ pub data SliceItemForm (Plain : Spelling Shape) : List Placed → PatternTree �
 -- a field of a brace pattern: attributes, then a label and a pattern, or, where no label begins, a binding
 pub data FieldForm (Plain : Spelling Shape) : List Placed → FieldTree → List Placed → Type 0 where
   labelled : (ts us vs rest : List Placed) (attrs : List AttrTree) (name : List ℕ) (p : PatternTree) → Many marks.Hash SpellsAttribute ts attrs us
-      → SpellsLabel us name vs → PatternForm Plain vs p rest → FieldForm Plain ts (record { name = name; attrs = attrs; pattern = p }) rest
+      → SpellsLabel us name vs → PatternForm Plain vs p rest → FieldForm Plain ts (record { name = name; short = false; attrs = attrs; pattern = p }) rest
   shorthand : (ts us rest : List Placed) (attrs : List AttrTree) (b : Binding) → Many marks.Hash SpellsAttribute ts attrs us → ((name : List ℕ) (vs : List Placed) → SpellsLabel us name vs → ⊥)
       → SpellsBinding us b rest
-      → FieldForm Plain ts (record { name = b.name; attrs = attrs; pattern = At (from_of us) (Bind b.name b.by_ref b.mutable) }) rest
+      → FieldForm Plain ts (record { name = b.name; short = true; attrs = attrs; pattern = At (from_of us) (Bind b.name b.by_ref b.mutable) }) rest
 
 -- fields with commas between them and an optional last comma up to "}", or up to ".." "}" at the start or behind a comma
 pub data FieldList (Plain : Spelling Shape) : List Placed → List FieldTree × Bool → List Placed → Type 0 where

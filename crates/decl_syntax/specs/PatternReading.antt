@@ -100,8 +100,8 @@ label_at (t ∷ ts) = behind (is_mark marks.Colon) ts >>= λ us. field_name t.le
 -- a field
 unfoldable pub field_at : (List Placed → Read Shape) → List Placed → Read FieldTree
 field_at plain ts =
-    attributes_at ts >>= λ a. either (label_at a.1) (λ l. whole_at plain l.1 >>= λ p. Some (record { name = l.0; attrs = a.0; pattern = p.0 }, p.1))
-    (binding_at a.1 >>= λ b. Some (record { name = b.0.name; attrs = a.0; pattern = At (from_of a.1) (Bind b.0.name b.0.by_ref b.0.mutable) }, b.1))
+    attributes_at ts >>= λ a. either (label_at a.1) (λ l. whole_at plain l.1 >>= λ p. Some (record { name = l.0; short = false; attrs = a.0; pattern = p.0 }, p.1))
+    (binding_at a.1 >>= λ b. Some (record { name = b.0.name; short = true; attrs = a.0; pattern = At (from_of a.1) (Bind b.0.name b.0.by_ref b.0.mutable) }, b.1))
 
 -- one field, and what is read behind it
 abbrev pub fields_step : (List Placed → Read FieldTree) → (List Placed → Read (List FieldTree × Bool)) → List Placed → Read (List FieldTree × Bool)

@@ -76,11 +76,12 @@ mutual
 
   pub data FieldTrees : Type 0 where
     no_field : FieldTrees
-    and_field : List ℕ → List AttrTree → PatternTree → FieldTrees → FieldTrees
+    and_field : List ℕ → (short : Bool) → List AttrTree → PatternTree → FieldTrees → FieldTrees
 
--- a field of a brace pattern
+-- a field of a brace pattern, and whether it was written short, without a label, so that the name it binds is not looked up
 pub record FieldTree : Type 0 where
   pub name : List ℕ
+  pub short : Bool
   pub attrs : List AttrTree
   pub pattern : PatternTree
 
@@ -92,7 +93,7 @@ patterns_from (p ∷ ps) = more p (patterns_from ps)
 -- the fields of a list
 abbrev pub fields_from : List FieldTree → FieldTrees
 fields_from [] = no_field
-fields_from (f ∷ fs) = and_field f.name f.attrs f.pattern (fields_from fs)
+fields_from (f ∷ fs) = and_field f.name f.short f.attrs f.pattern (fields_from fs)
 
 -- a binding, with or without what it is bound at
 abbrev pub bind_shape : List ℕ → Bool → Bool → Option PatternTree → Shape
@@ -122,7 +123,7 @@ pattern_step p = At p.from p.kind
 
 -- the same of a field
 abbrev pub field_step : FieldPat-F Shape FieldTree PatternTree → FieldTree
-field_step f = record { name = string_bytes f.name; attrs = map attr_view f.attrs.items; pattern = f.pat }
+field_step f = record { name = string_bytes f.name; short = f.short; attrs = map attr_view f.attrs.items; pattern = f.pat }
 
 -- what a caller sees of a pattern
 abbrev pub pattern_view : Pat → PatternTree
@@ -165,4 +166,4 @@ abbrev mutual
 
   pub fields_fit : FieldTrees → ℕ → Bool
   fields_fit no_field n = true
-  fields_fit (and_field name attrs p fs) n = fits p n && fields_fit fs n
+  fields_fit (and_field name short attrs p fs) n = fits p n && fields_fit fs n

@@ -43,7 +43,7 @@ pattern_count (p.more q qs) = suc (pattern_count qs)
 -- how many fields a brace pattern has
 abbrev pub field_count : FieldTrees → ℕ
 field_count p.no_field = 0
-field_count (p.and_field name attrs q fs) = suc (field_count fs)
+field_count (p.and_field name short attrs q fs) = suc (field_count fs)
 
 -- whether some list in a pattern has more than 256 items or fields; alternatives have no limit
 abbrev mutual
@@ -73,7 +73,7 @@ abbrev mutual
 
   pub some_field_is_wide : FieldTrees → Bool
   some_field_is_wide p.no_field = false
-  some_field_is_wide (p.and_field name attrs q fs) = pattern_is_wide q || some_field_is_wide fs
+  some_field_is_wide (p.and_field name short attrs q fs) = pattern_is_wide q || some_field_is_wide fs
 
 -- the same of a list of items
 abbrev pub list_is_wide : PatternTrees → Bool

@@ -319,7 +319,13 @@ fn field_at(alloc: Global, levels: u32, at: Cursor<'_>) -> Result<(FieldPat, Cur
     match label_at(alloc, rest) {
         Ok((name, rest)) => {
             let (pat, rest) = whole_at(alloc, levels, rest)?;
-            return Ok((FieldPat { name, attrs, pat }, rest));
+            let field = FieldPat {
+                name,
+                short: false,
+                attrs,
+                pat,
+            };
+            return Ok((field, rest));
         }
         Err(Stop::Memory) => return Err(Stop::Memory),
         Err(Stop::Syntax) => {}
@@ -331,7 +337,13 @@ fn field_at(alloc: Global, levels: u32, at: Cursor<'_>) -> Result<(FieldPat, Cur
     let kind = bind(alloc, found)?;
     let pat = Pat { from, kind };
     let name = String::from_str(alloc, found.name.as_str())?;
-    Ok((FieldPat { name, attrs, pat }, found.rest))
+    let field = FieldPat {
+        name,
+        short: true,
+        attrs,
+        pat,
+    };
+    Ok((field, found.rest))
 }
 
 /// The fields of a brace pattern up to the bracket that closes it, and whether `..` stands before that.

@@ -53,11 +53,13 @@ pub struct Pat {
     pub kind: PatKind,
 }
 
-/// A field of a brace pattern; a shorthand has a binding as its pattern.
+/// A field of a brace pattern; one that is written short has a binding as its pattern.
 #[cycle(pattern)]
 #[derive(Debug, Drop)]
 pub struct FieldPat {
     pub name: String,
+    /// Whether it was written without a label (`x`, `ref mut x`), so that its name is a binding and is not looked up.
+    pub short: bool,
     pub attrs: Vec<Attr>,
     pub pat: Pat,
 }

@@ -51,7 +51,7 @@ abbrev mutual
   -- on one of these fields, or in the pattern of one
   pub fields_unsupported : FieldTrees → Bool
   fields_unsupported no_field = false
-  fields_unsupported (and_field name attrs p fs) = is_unsupported attrs || (pattern_unsupported p || fields_unsupported fs)
+  fields_unsupported (and_field name short attrs p fs) = is_unsupported attrs || (pattern_unsupported p || fields_unsupported fs)
 
 -- such attributes are on a field of the form
 abbrev pub form_unsupported : FormTree → Bool
