@@ -14,3 +14,4 @@ pub mod Texts
 pub mod Tokens
 pub mod Views
 pub mod Words
+pub mod Written

@@ -26,6 +26,7 @@ mod text;
 mod texts;
 mod token;
 mod words;
+mod written;
 
 pub use laws::{
     comments_nest, faults_are_known, one_fault, one_token_list, tokens_in_order, tokens_or_fault,
@@ -34,3 +35,4 @@ pub use lexing::{lex, name_form, next_token};
 pub use marks::Mark;
 pub use token::{IntToken, LexFault, NameToken, Token, TokenKind};
 pub use words::{Word, word_of};
+pub use written::push_name;

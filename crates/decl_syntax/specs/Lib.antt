@@ -1,6 +1,8 @@
+pub mod Counts
 pub mod EndGrammar
 pub mod EndReading
 pub mod FieldNames
+pub mod Functions
 pub mod Grammar
 pub mod Items
 pub mod PatternGrammar

@@ -2,7 +2,7 @@
 use Rattle.std.proofs.Common.{◌≡◌, ◌∙◌, sym, subst, ℕ, ◌+◌, ◌<◌, ◌≤◌, List, Bool, true, false, take, length, nat_lt, min, MatchBool, Result, Ok, Err, IfOk, arith}
 use Rattle.std.proofs.lemmas.List.{length-take, take_all}
 use Rattle.std.proofs.lemmas.Bool.Decides.{nat_tests}
-use Rattle.match_top.specs.Answers.{Answers, IsJudged, IsRefusedBy, taken, longest_source}
+use Rattle.match_top.specs.Answers.{Answers, IsJudged, IsRefusedBy, taken, longest_source, most_taken}
 use Rattle.match_top.specs.declared.statuses.Status.{Status}
 use Rattle.match_top.specs.declared.answering.Answer.{Answer}
 
@@ -48,3 +48,8 @@ pub judged_short : {E : Type 0} (source : List ℕ) (result : Result Answer E) �
     → IfOk result (λ a. (bytes : List ℕ) → source ≡ taken bytes → Answers bytes a.text.items a.status)
 judged_short source (Ok a) fits judged = λ bytes same. answers_short source bytes a.text.items a.status same fits judged
 judged_short source (Err e) fits judged = tt
+
+-- all is taken of no more bytes than are taken at most
+pub taken_whole : (bytes : List ℕ) → length bytes ≤ most_taken → bytes ≡ taken bytes
+unfolding taken
+taken_whole bytes fits = sym (take_all most_taken bytes fits)

@@ -6,7 +6,7 @@ use Rattle.std.proofs.lemmas.List.{length-map, length-take-le, take_more, map-ap
 use Rattle.std.proofs.lemmas.List.Sums.{get_or-le-sum_by}
 use Rattle.decl_syntax.specs.declared.items.Item.{Item}
 use Rattle.decl_syntax.specs.Items.{ItemTree, item_view, kind_view}
-use Rattle.decl_parser.specs.Counts.{kind_arms}
+use Rattle.decl_syntax.specs.Counts.{kind_arms}
 use Rattle.verdict_json.specs.declared.refusal.Refusal.{Refusal}
 use Rattle.verdict_json.specs.Report.{ReportEntry, RefusedFunction}
 use Rattle.verdict_json.specs.Writing.{HasEntries}

@@ -1,15 +1,15 @@
 -- The report on the functions of a file of which no item breaks a rule on declarations.
 use Rattle.std.specs.Prelude.{◌≡◌, ℕ, ◌+◌, Bool, true, false, List, [], ◌∷◌, ◌++◌, Some, None}
 use Rattle.std.specs.List.{AllZip, list_all}
+use Rattle.decl_syntax.specs.Functions.{FunctionTree}
 use Rattle.decl_syntax.specs.Items.{KindTree, Enum, Struct, Import, Function, ItemTree}
 use Rattle.match_model.specs.declared.Width.TheVariants.{Endless}
 use Rattle.type_table.specs.Faults.{BreaksNone}
-use Rattle.plain_match.specs.Plain.{FunctionTree}
 use Rattle.plain_match.specs.Reports.{IsReportOn}
 use Rattle.plain_match.specs.Answers.{IsNotBuilt, IsUnknownName}
 use Rattle.verdict_json.specs.declared.refusal.Refusal.{Refusal}
-use Rattle.verdict_json.specs.declared.report.FnReport.{FnReport}
 use Rattle.verdict_json.specs.Report.{ReportEntry, JudgedFunction, RefusedFunction, report_text}
+use Rattle.verdict_json.specs.Trees.{ReportTree}
 use Rattle.match_top.specs.declared.statuses.Status.{Status}
 use Rattle.match_top.specs.declared.statuses.Status.TheVariants.{Clean, Found}
 
@@ -51,7 +51,7 @@ unknown_name number arm at = record { rule = 20; item = Some number; arm = Some 
 pub data IsEntry (items : List ItemTree) (f : NumberedFunction) (e : ReportEntry) : Type 0 where
   is_not_built : IsNotBuilt items f.function → e ≡ RefusedFunction f.function.name (not_built f.number) → IsEntry items f e
   is_unknown : (arm at : ℕ) → IsUnknownName items f.function arm at → e ≡ RefusedFunction f.function.name (unknown_name f.number arm at) → IsEntry items f e
-  is_judged : (report : FnReport) → IsReportOn items Endless f.function report → e ≡ JudgedFunction report → IsEntry items f e
+  is_judged : (report : ReportTree) → IsReportOn items Endless f.function report → e ≡ JudgedFunction report → IsEntry items f e
 
 -- the function is judged, and its match is exhaustive
 abbrev pub is_clean : ReportEntry → Bool

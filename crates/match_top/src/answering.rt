@@ -1,9 +1,10 @@
 // The text that is written for the bytes of a file, with its status.
 ghost use Rattle.std.specs.Prelude.{◌≡◌, ◌≤◌, ◌<◌, ◌^◌, ◌*◌, List, ℕ, length, nat_lt, sum_by, IfOk, IfErr};
 ghost use Rattle.decl_lexer.specs.Tokens.{tokens_view};
+ghost use Rattle.decl_syntax.specs.Counts.{kind_arms};
 ghost use Rattle.decl_syntax.specs.Items.{file_view};
 ghost use Rattle.decl_syntax.specs.Units.{units};
-ghost use Rattle.decl_parser.specs.Counts.{HasAtMost, kind_arms};
+ghost use Rattle.decl_parser.specs.Counts.{HasAtMost};
 ghost use Rattle.decl_parser.specs.FileGrammar.{IsFile, IsFaultOf as IsFaultOfTokens};
 ghost use Rattle.match_model.specs.declared.Width.TheVariants.{Endless};
 ghost use Rattle.type_table.specs.Faults.{BreaksNone, IsFaultOf};

@@ -5,9 +5,11 @@
 //! source and every sink: the relation `Answers` between the bytes of a file, the text and the status is all that it
 //! knows of matches. The way of a file through the modules: `reading` (the bytes), `answering` (tokens, items and their
 //! faults; text and status), `reporting` (the entries of the functions), `writing` (the sink).
+//! `laws` says that a file has one answer, and that no function is left out of a report.
 #![tactic(auto)]
 
 mod answering;
+mod laws;
 mod reading;
 mod reporting;
 mod statuses;
@@ -17,5 +19,6 @@ mod top;
 mod words;
 mod writing;
 
+pub use laws::{one_answer, one_entry, one_first_fault, some_report};
 pub use statuses::Status;
 pub use top::run;

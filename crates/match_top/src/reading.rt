@@ -46,6 +46,7 @@ pub(crate) fn read_source<F: Files>(
 ) -> Result<Vec<u8>, ReadError>
     ensures content { IfOk result (λ read. (bytes : List ℕ) → F.holds files.old name.now ≡ Some bytes
         → read.items ≡ taken bytes) }
+    ensures short { IfOk result (λ read. length read.items ≤ most_taken) }
     ensures few { (bytes : List ℕ) → F.holds files.old name.now ≡ Some bytes
         → (F.left files.new ≡ F.left files.old) ⊎ HasTaken most_taken bytes (F.left files.new) }
     ensures holds { F.holds files.new ≡ F.holds files.old }
@@ -66,6 +67,7 @@ fn read_file<F: Files>(
 ) -> Result<Vec<u8>, ReadError>
     ensures content { IfOk result (λ read. (bytes : List ℕ) → F.holds files.old name.now ≡ Some bytes
         → read.items ≡ take most bytes) }
+    ensures short { IfOk result (λ read. length read.items ≤ most) }
     ensures few { (bytes : List ℕ) → F.holds files.old name.now ≡ Some bytes
         → (F.left files.new ≡ F.left files.old) ⊎ HasTaken most bytes (F.left files.new) }
     ensures holds { F.holds files.new ≡ F.holds files.old }
@@ -96,6 +98,7 @@ fn read_rest<F: Files>(
     requires { 0 < length buffer.old }
     ensures content { IfOk result (λ read. (bytes : List ℕ) → F.left files.old ≡ Some bytes
         → read.items ≡ take most bytes) }
+    ensures short { IfOk result (λ read. length read.items ≤ most) }
     ensures few { TakesAtMost most (F.left files.old) (F.left files.new) }
     ensures holds { F.holds files.new ≡ F.holds files.old }
     ensures still_sure { F.sure files.old → F.sure files.new }

@@ -1,12 +1,13 @@
 // The report on a file: an entry for each function, written as soon as it is judged.
 ghost use Rattle.std.specs.Prelude.{◌≡◌, ◌<◌, ◌^◌, ◌&&◌, ◌++◌, ◌∷◌, [], List, map, length, sum_by, IfOk};
+ghost use Rattle.decl_syntax.specs.Counts.{kind_arms};
+ghost use Rattle.decl_syntax.specs.Functions.{function_view};
 ghost use Rattle.decl_syntax.specs.Items.{ItemTree, file_view, item_view, kind_view};
-ghost use Rattle.decl_parser.specs.Counts.{kind_arms};
 ghost use Rattle.match_model.specs.declared.Width.TheVariants.{Endless};
 ghost use Rattle.type_table.specs.Faults.{BreaksNone};
-ghost use Rattle.plain_match.specs.Views.{function_view};
 ghost use Rattle.verdict_json.specs.Report.{JudgedFunction, RefusedFunction};
 ghost use Rattle.verdict_json.specs.Rules.{IsRule};
+ghost use Rattle.verdict_json.specs.Trees.{report_view};
 ghost use Rattle.match_top.specs.Reports.{NumberedFunction, numbered, function_at, functions_of};
 ghost use Rattle.match_top.specs.Reports.{IsEntry, IsReported, not_built, unknown_name, status_of};
 ghost use Rattle.match_top.specs.Reporting.{IsKnownOf, ReportsOn};
@@ -157,7 +158,7 @@ fn add_refused(so_far: Progress, name: &str, refusal: &Refusal) -> Result<Progre
 // Adds a function that is judged.
 fn add_judged(so_far: Progress, report: &FnReport<'_>) -> Result<Progress, NoMemory>
     ensures { (items : List ItemTree) → (fs : List NumberedFunction) → (f : NumberedFunction)
-        → ReportsOn items fs so_far → IsEntry items f (JudgedFunction report.now)
+        → ReportsOn items fs so_far → IsEntry items f (JudgedFunction (report_view report.now))
         → IfOk result (ReportsOn items (fs ++ f ∷ [])) }
 {
     let Progress { text, clean } = so_far;

@@ -60,6 +60,10 @@ pub fn run<F: Files, K: Sink>(
         → F.holds files.old file ≡ Some bytes
         → (text : List ℕ) × Answers bytes text result
         × Appends (K.written sink.old) (K.written sink.new) text }
+
+    // Of a file of which nothing is told it is the whole text of some bytes.
+    ensures seen { IsVerdict result → (bytes : List ℕ) × (text : List ℕ) × Answers bytes text result
+        × Appends (K.written sink.old) (K.written sink.new) text }
 {
     let Some(file) = file_word(words) else {
         return Status::Words;

@@ -8,13 +8,14 @@ use Rattle.match_model.specs.ExactCover.{IsExactCover}
 use Rattle.match_model.specs.Typing.{InDomain}
 use Rattle.match_model.specs.RustTypes.{rust_context, RustValue}
 use Rattle.match_model.specs.WitnessList.{IsWitnessList}
+use Rattle.decl_syntax.specs.Functions.{FunctionTree}
 use Rattle.decl_syntax.specs.Items.{ItemTree}
 use Rattle.type_names.specs.Written.{program_of}
-use Rattle.verdict_json.specs.declared.report.FnReport.{FnReport}
+use Rattle.verdict_json.specs.Trees.{ReportTree, report_view}
 use Rattle.plain_match.specs.declared.answering.FnAnswer.{FnAnswer}
 use Rattle.plain_match.specs.declared.answering.FnAnswer.TheVariants as answers
 use Rattle.plain_match.specs.declared.judging.CaseArm.{CaseArm}
-use Rattle.plain_match.specs.Plain.{FunctionTree, PlainType, plain_type, PlainArm, PlainMatch, IsPlainMatch}
+use Rattle.plain_match.specs.Plain.{PlainType, plain_type, PlainArm, PlainMatch, IsPlainMatch}
 use Rattle.plain_match.specs.Answers.{IsAnswerTo}
 use Rattle.plain_match.specs.Reports.{param_type, model_arms, engine_match, IsReportOn, ShowsUnreachable}
 use Rattle.plain_match.specs.Cases.{count_of, AreCases, IsJudged, IsMatchAnswer, IsTypeIn}
@@ -28,7 +29,7 @@ use Rattle.plain_match.proofs.Cover.{wits, cover_by, shown_by}
 use Rattle.plain_match.proofs.WitnessLists.{witness_list_by}
 
 -- the report on a match whose arms take these values
-report_is : (items : List ItemTree) (width : Width) (f : FunctionTree) (m : PlainMatch) (cs : List CaseArm) (r : FnReport) → IsPlainMatch items f m → AreCases m.type m.arms cs → IsJudged m.type f.name cs r → IsReportOn items width f r
+pub report_is : (items : List ItemTree) (width : Width) (f : FunctionTree) (m : PlainMatch) (cs : List CaseArm) (r : ReportTree) → IsPlainMatch items f m → AreCases m.type m.arms cs → IsJudged m.type f.name cs r → IsReportOn items width f r
 report_is items width f m cs r plain is judged =
     let program = program_of items width in
     let typed = type_is items (param_type items f) m.type plain.typed in
@@ -42,7 +43,7 @@ report_is items width f m cs r plain is judged =
       known = all_known m.type m.arms cs taken;
       name_is = judged.name_is;
       exhaustive_is = subst (λ (t : MType). IsTrue r.exhaustive ↔ IsExhaustive (InDomain program false t) (model_arms m.type m.arms)) same (exhaustive_by program m.type m.arms cs r.exhaustive known taken judged.exhaustive_is);
-      unreachable_is = subst (λ (t : MType). ShowsUnreachable (InDomain program false t) (model_arms m.type m.arms) r.unreachable.items) same (unreachable_by program m.type known m.arms cs r.unreachable.items taken judged.unreachable_is);
+      unreachable_is = subst (λ (t : MType). ShowsUnreachable (InDomain program false t) (model_arms m.type m.arms) r.unreachable) same (unreachable_by program m.type known m.arms cs r.unreachable taken judged.unreachable_is);
       witnesses_are = record {
         witnesses = found;
         cover = subst (λ (t : MType). IsExactCover (InDomain program false t) (model_arms m.type m.arms) found) same (cover_by program m.type m.arms cs known taken);
@@ -55,7 +56,7 @@ report_is items width f m cs r plain is judged =
 answer_is : (items : List ItemTree) (f : FunctionTree) (m : PlainMatch) (a : FnAnswer) → IsPlainMatch items f m → IsMatchAnswer m.type f.name m.arms a → IsAnswerTo items f a
 answer_is items f m answers.NotBuilt plain h = absurd h
 answer_is items f m (answers.UnknownName arm at) plain h = record { found = m; plain = plain; first = h }
-answer_is items f m (answers.Judged r) plain h = λ width. report_is items width f m h.0 r plain h.1 h.2
+answer_is items f m (answers.Judged r) plain h = λ width. report_is items width f m h.0 (report_view r) plain h.1 h.2
 
 pub answered : {E : Type 0} (items : List ItemTree) (f : FunctionTree) (type : PlainType) (arms : List PlainArm) (r : Result FnAnswer E) → f.deref ≡ None → Some type ≡ plain_type items (param_type items f) → AreArms type f.arms arms
     → IfOk r (IsMatchAnswer type f.name arms) → IfOk r (IsAnswerTo items f)

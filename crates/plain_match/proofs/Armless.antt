@@ -2,6 +2,7 @@
 use Rattle.std.proofs.Common.{◌≡◌, ℕ, zero, suc, Bool, true, false, not, List, [], ◌∷◌, ◌++◌, length, Result, Ok, Err, IfOk, refl, sym, ap, ◌∙◌}
 use Rattle.std.specs.Prelude.{nat_eq}
 use Rattle.verdict_json.specs.declared.report.FnReport.{FnReport}
+use Rattle.verdict_json.specs.Trees.{ReportTree, report_view}
 use Rattle.plain_match.proofs.Lists.{not_zero}
 use Rattle.plain_match.specs.declared.judging.CaseArm.{CaseArm}
 use Rattle.plain_match.specs.Plain.{PlainType}
@@ -22,7 +23,7 @@ armless_list type [] = refl
 armless_list type (k ∷ ks) = refl
 
 -- what is reported without arms is what is judged
-pub armless_is : (type : PlainType) (name : List ℕ) (arms : List CaseArm) (b no_value : Bool) (r : FnReport) → b ≡ nat_eq (length arms) 0 → b ≡ true → no_value ≡ nat_eq (count_of type) 0 → IsArmless name no_value r → IsJudged type name arms r
+pub armless_is : (type : PlainType) (name : List ℕ) (arms : List CaseArm) (b no_value : Bool) (r : ReportTree) → b ≡ nat_eq (length arms) 0 → b ≡ true → no_value ≡ nat_eq (count_of type) 0 → IsArmless name no_value r → IsJudged type name arms r
 armless_is type name (a ∷ arms) b no_value r is e none h = absurd (apart b (is ∙ not_zero (length arms)) e)
   where
     apart : (b : Bool) → b ≡ false → b ≡ true → ⊥
@@ -37,6 +38,6 @@ armless_is type name [] b no_value r is e none h =
     }
 
 pub armless_result : {E : Type 0} (type : PlainType) (name : List ℕ) (arms : List CaseArm) (b no_value : Bool) (r : Result FnReport E) → b ≡ nat_eq (length arms) 0 → b ≡ true → no_value ≡ nat_eq (count_of type) 0
-    → IfOk r (IsArmless name no_value) → IfOk r (IsJudged type name arms)
-armless_result type name arms b no_value (Ok r) is e none h = armless_is type name arms b no_value r is e none h
+    → IfOk r (λ x. IsArmless name no_value (report_view x)) → IfOk r (λ x. IsJudged type name arms (report_view x))
+armless_result type name arms b no_value (Ok r) is e none h = armless_is type name arms b no_value (report_view r) is e none h
 armless_result type name arms b no_value (Err x) is e none h = tt

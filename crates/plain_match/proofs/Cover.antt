@@ -10,12 +10,13 @@ use Rattle.match_model.specs.Match.{is_covered}
 use Rattle.match_model.specs.Witness.{MWitness, AnyOf, FlagOf, NodeOf, no_witnesses, fits}
 use Rattle.match_model.specs.WitnessOrder.{compare_witness, Before}
 use Rattle.match_model.specs.ExactCover.{IsExactCover}
+use Rattle.verdict_json.specs.Trees.{WitnessTree, OfFlag, OfVariant}
 use Rattle.plain_match.specs.declared.judging.CaseArm.{CaseArm}
 use Rattle.match_model.specs.Declarations.{MProgram}
 use Rattle.plain_match.specs.Plain.{PlainType, FlagType, EnumType, PlainArm}
 use Rattle.plain_match.specs.Cases.{count_of, witness_of, missing_witnesses}
 use Rattle.plain_match.specs.Judging.{taken, those_below, missing}
-use Rattle.plain_match.specs.Reports.{model_arms, PlainWitness, OfFlag, OfVariant, shown_witness}
+use Rattle.plain_match.specs.Reports.{model_arms, shown_witness}
 use Rattle.plain_match.proofs.Lists.{some_is}
 use Rattle.plain_match.proofs.Meaning.{Values, value_of, IsTypeOf, value_in, value_is, Taking, no_arms, one_arm, covered_is}
 
@@ -284,7 +285,7 @@ name_there [] k lt = absurd (omega arith)
 name_there (n ∷ names) zero lt = (n, refl)
 name_there (n ∷ names) (suc k) lt = name_there names k (omega arith)
 
-shown_is : (type : PlainType) (k : ℕ) → k < count_of type → (w : PlainWitness) × (witness_of type k ≡ Some w) × (shown_witness type (wit type k) ≡ Some w)
+shown_is : (type : PlainType) (k : ℕ) → k < count_of type → (w : WitnessTree) × (witness_of type k ≡ Some w) × (shown_witness type (wit type k) ≡ Some w)
 shown_is FlagType k lt = (OfFlag (nat_eq k 1), refl, refl)
 shown_is (EnumType i e) k lt = let n = name_there e.variants k lt in (OfVariant e.name n.0, rw n.1 refl, rw n.1 refl)
 
@@ -293,7 +294,7 @@ all_shown type [] h = refl
 all_shown type (k ∷ ks) h =
     let w = shown_is type k (h 0 k refl) in
     let more = all_shown type ks (λ i j e. h (suc i) j e) in
-    rw (w.1, w.2) (ap (λ (ws : List (Option PlainWitness)). Some w.0 ∷ ws) more)
+    rw (w.1, w.2) (ap (λ (ws : List (Option WitnessTree)). Some w.0 ∷ ws) more)
 
 shown_list : (type : PlainType) (cs : List CaseArm) (ks : List ℕ) → ((i k : ℕ) → slice_get ks i ≡ Some k → k < count_of type) → map Some (missing_witnesses type cs ks) ≡ map (shown_witness type) (wits type cs ks)
 shown_list type cs [] h = refl

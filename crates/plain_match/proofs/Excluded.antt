@@ -7,7 +7,7 @@ use Rattle.plain_match.specs.Views.{AreArms}
 use Rattle.plain_match.proofs.Lists.{some_is, both_same}
 use Rattle.plain_match.proofs.Variants.{all_at}
 
-somes_are : {A : Type 0} (xs ys : List A) → map Some xs ≡ map Some ys → xs ≡ ys
+pub somes_are : {A : Type 0} (xs ys : List A) → map Some xs ≡ map Some ys → xs ≡ ys
 somes_are [] [] e = refl
 somes_are [] (y ∷ ys) e = absurd cc
 somes_are (x ∷ xs) [] e = absurd cc

@@ -4,7 +4,9 @@ pub mod Cover
 pub mod Excluded
 pub mod Lists
 pub mod Meaning
+pub mod OneReport
 pub mod Seen
+pub mod SomeAnswer
 pub mod Types
 pub mod Variants
 pub mod Verdict

@@ -3,7 +3,7 @@ use Rattle.std.specs.Prelude.{◌≡◌, ℕ, vec_len, Bool, true, false, ◌==�
 use Rattle.std.specs.List.{filter_map}
 use Rattle.std.specs.Str.{bytes_eq}
 use Rattle.decl_syntax.specs.Items.{ItemTree}
-use Rattle.verdict_json.specs.declared.report.FnReport.{FnReport}
+use Rattle.verdict_json.specs.Trees.{WitnessTree, Anything, OfFlag, OfVariant, ReportTree, report_view}
 use Rattle.plain_match.specs.declared.answering.FnAnswer.{FnAnswer}
 use Rattle.plain_match.specs.declared.answering.FnAnswer.TheVariants as answers
 use Rattle.plain_match.specs.declared.cases.Cases.{Cases}
@@ -12,7 +12,6 @@ use Rattle.plain_match.specs.declared.judging.Case.{Case}
 use Rattle.plain_match.specs.declared.judging.Case.TheVariants.{Any, Value}
 use Rattle.plain_match.specs.declared.judging.CaseArm.{CaseArm}
 use Rattle.plain_match.specs.Plain.{PlainType, FlagType, EnumType, plain_at, PlainPattern, Wildcard, Literal, Variant, PlainArm, IsFirstUnknown}
-use Rattle.plain_match.specs.Reports.{PlainWitness, Anything, OfFlag, OfVariant, witness_view}
 use Rattle.plain_match.specs.Judging.{unreached, missing}
 
 -- the type is one of the file's
@@ -58,12 +57,12 @@ HasCases type arms (cases.Known cs) = AreCases type arms cs.items
 HasCases type arms (cases.Unknown arm at) = IsFirstUnknown type arms arm at
 
 -- the witness of a value
-abbrev pub witness_of : PlainType → ℕ → Option PlainWitness
+abbrev pub witness_of : PlainType → ℕ → Option WitnessTree
 witness_of FlagType k = Some (OfFlag (k == 1))
 witness_of (EnumType i e) k = option_map (OfVariant e.name) (slice_get e.variants k)
 
 -- the witnesses of the values that no arm takes: anything where there is no arm
-abbrev pub missing_witnesses : PlainType → List CaseArm → List ℕ → List PlainWitness
+abbrev pub missing_witnesses : PlainType → List CaseArm → List ℕ → List WitnessTree
 missing_witnesses type arms [] = []
 missing_witnesses type [] (k ∷ ks) = Anything ∷ []
 missing_witnesses type (a ∷ arms) (k ∷ ks) = filter_map (witness_of type) (k ∷ ks)
@@ -74,29 +73,29 @@ is_nothing [] = true
 is_nothing (k ∷ ks) = false
 
 -- what is reported of a function of this name, of arms that take these values
-pub record IsJudged (type : PlainType) (name : List ℕ) (arms : List CaseArm) (r : FnReport) : Type 0 where
-  pub name_is : r.name.now ≡ name
+pub record IsJudged (type : PlainType) (name : List ℕ) (arms : List CaseArm) (r : ReportTree) : Type 0 where
+  pub name_is : r.name ≡ name
   pub exhaustive_is : r.exhaustive ≡ is_nothing (missing (count_of type) arms)
-  pub unreachable_is : r.unreachable.items ≡ unreached (count_of type) [] arms
-  pub witnesses_are : map witness_view r.witnesses.items ≡ missing_witnesses type arms (missing (count_of type) arms)
+  pub unreachable_is : r.unreachable ≡ unreached (count_of type) [] arms
+  pub witnesses_are : r.witnesses ≡ missing_witnesses type arms (missing (count_of type) arms)
 
 -- the witnesses of a match without arms, whose type has no value or some
-abbrev pub armless_witnesses : (no_value : Bool) → List PlainWitness
+abbrev pub armless_witnesses : (no_value : Bool) → List WitnessTree
 armless_witnesses true = []
 armless_witnesses false = Anything ∷ []
 
 -- what is reported of a function of this name without arms, whose type has no value or some
-pub record IsArmless (name : List ℕ) (no_value : Bool) (r : FnReport) : Type 0 where
-  pub name_is : r.name.now ≡ name
+pub record IsArmless (name : List ℕ) (no_value : Bool) (r : ReportTree) : Type 0 where
+  pub name_is : r.name ≡ name
   pub exhaustive_is : r.exhaustive ≡ no_value
-  pub unreachable_is : r.unreachable.items ≡ []
-  pub witnesses_are : map witness_view r.witnesses.items ≡ armless_witnesses no_value
+  pub unreachable_is : r.unreachable ≡ []
+  pub witnesses_are : r.witnesses ≡ armless_witnesses no_value
 
 -- what is answered for a match with these arms on the type, in a function of this name
 abbrev pub IsMatchAnswer : PlainType → List ℕ → List PlainArm → FnAnswer → Type 0
 IsMatchAnswer type name arms answers.NotBuilt = ⊥
 IsMatchAnswer type name arms (answers.UnknownName arm at) = IsFirstUnknown type arms arm at
-IsMatchAnswer type name arms (answers.Judged r) = (cs : List CaseArm) × AreCases type arms cs × IsJudged type name cs r
+IsMatchAnswer type name arms (answers.Judged r) = (cs : List CaseArm) × AreCases type arms cs × IsJudged type name cs (report_view r)
 
 -- there are as many cases as arms
 abbrev pub HasFewCases : ℕ → Cases → Type 0

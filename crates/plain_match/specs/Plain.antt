@@ -4,19 +4,12 @@ use Rattle.std.specs.Prelude.{◌≡◌, ℕ, ◌<◌, Bool, true, false, not, �
 use Rattle.std.specs.List.{list_any, list_all}
 use Rattle.std.specs.Str.{bytes_eq}
 use Rattle.match_model.specs.Types.{DeclaredItem, MType, BoolType, NamedType, no_types}
-use Rattle.decl_syntax.specs.Types.{TypeTree}
 use Rattle.decl_syntax.specs.Patterns.{LitTree, Flag, PatternTree, At, Shape, Wild, Path}
 use Rattle.decl_syntax.specs.Patterns as written
+use Rattle.decl_syntax.specs.Functions.{FunctionTree}
 use Rattle.decl_syntax.specs.Items.{FormTree, Unit, ArmTree, KindTree, Enum, ItemTree}
 use Rattle.type_names.specs.Meanings.{means}
 use Rattle.type_names.specs.Written.{type_of, is_marked_by}
-
--- a function: its name, the type of its parameter, the place of `*` before its scrutinee, and its arms
-pub record FunctionTree : Type 0 where
-  pub name : List ℕ
-  pub param : TypeTree
-  pub deref : Option ℕ
-  pub arms : List ArmTree
 
 -- ---- types
 

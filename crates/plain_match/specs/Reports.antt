@@ -1,5 +1,5 @@
 -- What is reported of a function that is judged, in the words of the definitions of matching.
-use Rattle.std.specs.Prelude.{◌≡◌, ◌↔◌, ℕ, Bool, false, true, IsTrue, List, [], map, position, slice_get, Option, Some, None, option_map, unwrap_or}
+use Rattle.std.specs.Prelude.{◌≡◌, ◌↔◌, ℕ, false, true, IsTrue, List, [], map, position, slice_get, Option, Some, None, option_map, unwrap_or}
 use Rattle.std.specs.List.{AllByRecursion}
 use Rattle.std.specs.Str.{bytes_eq}
 use Rattle.match_model.specs.declared.Width.{Width}
@@ -15,14 +15,13 @@ use Rattle.match_model.specs.Constructors.{MCtor, WildCtor, FlagCtor, VariantCto
 use Rattle.match_model.specs.ArenaPatterns.{de_pat, no_de_pats, MDeArm, MDeMatch}
 use Rattle.match_model.specs.RustTypes.{rust_context, RustValue}
 use Rattle.match_model.specs.WitnessList.{IsWitnessList}
+use Rattle.decl_syntax.specs.Functions.{FunctionTree}
 use Rattle.decl_syntax.specs.Items.{ItemTree}
 use Rattle.type_names.specs.Meanings.{means}
 use Rattle.type_names.specs.Written.{type_of, program_of}
 use Rattle.verdict_json.specs.declared.entry.Unreachable.{Unreachable}
-use Rattle.verdict_json.specs.declared.entry.Witness.{Witness}
-use Rattle.verdict_json.specs.declared.entry.Witness.TheVariants as shown
-use Rattle.verdict_json.specs.declared.report.FnReport.{FnReport}
-use Rattle.plain_match.specs.Plain.{FunctionTree, PlainType, FlagType, EnumType, PlainPattern, Wildcard, Literal, Variant, PlainArm, PlainMatch, IsPlainMatch, is_known}
+use Rattle.verdict_json.specs.Trees.{WitnessTree, Anything, OfFlag, OfVariant, ReportTree}
+use Rattle.plain_match.specs.Plain.{PlainType, FlagType, EnumType, PlainPattern, Wildcard, Literal, Variant, PlainArm, PlainMatch, IsPlainMatch, is_known}
 
 -- ---- the match as the definitions of matching see it
 
@@ -73,20 +72,8 @@ engine_match t m = record { type = t; sure = true; arms = map (engine_arm t m.ty
 abbrev pub shown_entry : Entry → Unreachable
 shown_entry e = record { arm = e.arm; at = e.at; whole = e.whole }
 
--- what is told of values that no arm takes: any value, a truth value, or a variant by the names of its enum and of itself
-pub data PlainWitness : Type 0 where
-  Anything : PlainWitness
-  OfFlag : Bool → PlainWitness
-  OfVariant : (owner variant : List ℕ) → PlainWitness
-
--- a reported witness, without where its names lie in memory
-abbrev pub witness_view : Witness → PlainWitness
-witness_view shown.Any = Anything
-witness_view (shown.Flag b) = OfFlag b
-witness_view (shown.Unit owner variant) = OfVariant owner.now variant.now
-
 -- a witness as it is reported
-abbrev pub shown_witness : PlainType → MWitness → Option PlainWitness
+abbrev pub shown_witness : PlainType → MWitness → Option WitnessTree
 shown_witness type AnyOf = Some Anything
 shown_witness type (FlagOf b) = Some (OfFlag b)
 shown_witness (EnumType i e) (NodeOf k no_witnesses) = option_map (OfVariant e.name) (slice_get e.variants k)
@@ -99,7 +86,7 @@ pub record ShowsUnreachable (Values : MValue → Type 0) (arms : List ArmWays) (
   pub shown : reported ≡ map shown_entry entries
 
 -- the witness list of the match is reported: it is an exact cover of what is missing
-pub record ShowsWitnesses (items : List ItemTree) (width : Width) (f : FunctionTree) (m : PlainMatch) (reported : List PlainWitness) : Type 0 where
+pub record ShowsWitnesses (items : List ItemTree) (width : Width) (f : FunctionTree) (m : PlainMatch) (reported : List WitnessTree) : Type 0 where
   pub witnesses : List MWitness
   pub cover : IsExactCover (Domain items width f) (model_arms m.type m.arms) witnesses
   pub listed : IsWitnessList (rust_context (program_of items width)) (RustValue (program_of items width)) (engine_match (param_type items f) m) witnesses
@@ -107,11 +94,11 @@ pub record ShowsWitnesses (items : List ItemTree) (width : Width) (f : FunctionT
 
 -- what is reported of a function of the file is so: its match is plain and names no unknown variant, it is exhaustive
 -- exactly where the report says so, and the report has its unreachable list and its witness list
-pub record IsReportOn (items : List ItemTree) (width : Width) (f : FunctionTree) (r : FnReport) : Type 0 where
+pub record IsReportOn (items : List ItemTree) (width : Width) (f : FunctionTree) (r : ReportTree) : Type 0 where
   pub found : PlainMatch
   pub plain : IsPlainMatch items f found
   pub known : AllByRecursion (λ a. is_known found.type a.pattern ≡ true) found.arms
-  pub name_is : r.name.now ≡ f.name
+  pub name_is : r.name ≡ f.name
   pub exhaustive_is : IsTrue r.exhaustive ↔ IsExhaustive (Domain items width f) (model_arms found.type found.arms)
-  pub unreachable_is : ShowsUnreachable (Domain items width f) (model_arms found.type found.arms) r.unreachable.items
-  pub witnesses_are : ShowsWitnesses items width f found (map witness_view r.witnesses.items)
+  pub unreachable_is : ShowsUnreachable (Domain items width f) (model_arms found.type found.arms) r.unreachable
+  pub witnesses_are : ShowsWitnesses items width f found r.witnesses

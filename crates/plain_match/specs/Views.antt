@@ -1,19 +1,13 @@
--- What callers see of functions, and of types and arms as the code has them.
+-- What callers see of types and arms as the code has them.
 use Rattle.std.specs.Prelude.{◌≡◌, Bool, List, map, Some, string_bytes}
-use Rattle.decl_syntax.specs.Types.{type_view}
-use Rattle.decl_syntax.specs.Items.{ArmTree, variant_view, arm_view, ItemTree}
-use Rattle.decl_syntax.specs.declared.items.FnItem as declared_function
+use Rattle.decl_syntax.specs.Items.{ArmTree, variant_view, ItemTree}
 use Rattle.decl_syntax.specs.declared.items.EnumItem as declared_enum
 use Rattle.plain_match.specs.declared.params.ParamType.{ParamType}
 use Rattle.plain_match.specs.declared.params.ParamType.TheVariants as types
 use Rattle.plain_match.specs.declared.patterns.Pattern.{Pattern}
 use Rattle.plain_match.specs.declared.patterns.Pattern.TheVariants as patterns
 use Rattle.plain_match.specs.declared.patterns.ReadArm.{ReadArm}
-use Rattle.plain_match.specs.Plain.{FunctionTree, PlainEnum, PlainType, FlagType, EnumType, is_plain_enum, PlainPattern, Wildcard, Literal, Variant, PlainArm, plain_arm}
-
--- a function
-abbrev pub function_view : declared_function.FnItem → FunctionTree
-function_view f = record { name = string_bytes f.name; param = type_view f.param; deref = f.deref; arms = map arm_view f.arms.items }
+use Rattle.plain_match.specs.Plain.{PlainEnum, PlainType, FlagType, EnumType, is_plain_enum, PlainPattern, Wildcard, Literal, Variant, PlainArm, plain_arm}
 
 -- for each item whether it is an enum without fields
 abbrev pub plain_marks : List ItemTree → List Bool

@@ -1,11 +1,12 @@
 // The answer for a function.
 ghost use Rattle.std.specs.Prelude.{◌≡◌, ◌<◌, ◌^◌, List, true, map, length, IfOk};
 ghost use Rattle.std.specs.List.{AllByRecursion};
+ghost use Rattle.decl_syntax.specs.Functions.{function_view};
 ghost use Rattle.decl_syntax.specs.Items.{ItemTree, item_view};
 ghost use Rattle.type_names.specs.Views.{AreNames};
 ghost use Rattle.plain_match.specs.Answers.{IsAnswerTo};
 ghost use Rattle.plain_match.specs.Cases.{IsMatchAnswer, IsTypeIn, may_stand};
-ghost use Rattle.plain_match.specs.Views.{function_view, plain_marks, param_view, read_view};
+ghost use Rattle.plain_match.specs.Views.{plain_marks, param_view, read_view};
 
 use crate::cases::{Cases, cases_of};
 use crate::params::{ParamType, param_type};

@@ -8,7 +8,7 @@
 //!
 //! [`plain_enums`] marks the enums of a file once; [`judge_function`] answers for one function, in time linear in its
 //! arms and its missing witnesses. `specs/Answers.antt` says what each answer means, in the words of the definitions of
-//! matching, and the law [`answers_exclude`] that no function has two kinds of them.
+//! matching; the laws [`some_answer`], [`answers_exclude`] and [`answers_are_one`] that a function has exactly one.
 #![tactic(auto)]
 
 mod answering;
@@ -24,4 +24,4 @@ mod witnesses;
 
 pub use answering::{FnAnswer, judge_function};
 pub use enums::plain_enums;
-pub use laws::answers_exclude;
+pub use laws::{answers_are_one, answers_exclude, some_answer};

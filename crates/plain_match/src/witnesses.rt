@@ -1,8 +1,8 @@
 // The report on a match: its witnesses by the names of the values that no arm takes.
 ghost use Rattle.std.specs.Prelude.{◌≡◌, ◌<◌, ◌^◌, ◌++◌, ◌∷◌, [], length, map, option_map, IfOk, OnOk};
 ghost use Rattle.std.specs.List.{filter_map};
+ghost use Rattle.verdict_json.specs.Trees.{report_view, witness_view};
 ghost use Rattle.plain_match.specs.Cases.{count_of, witness_of, armless_witnesses, IsArmless, IsJudged};
-ghost use Rattle.plain_match.specs.Reports.{witness_view};
 ghost use Rattle.plain_match.specs.Views.{param_view};
 
 use crate::judging::{CaseArm, judge};
@@ -19,7 +19,7 @@ pub fn report_of<'a>(
     arms: &[CaseArm],
 ) -> Result<FnReport<'a>, NoMemory>
     requires { length arms.now < 2 ^ 32 }
-    ensures { IfOk result (IsJudged (param_view ty.now) name.now arms.now) }
+    ensures { IfOk result (λ r. IsJudged (param_view ty.now) name.now arms.now (report_view r)) }
 {
     if arms.is_empty() {
         return report_without_arms(alloc, name, count(ty) == 0);
@@ -40,7 +40,7 @@ fn report_without_arms<'a>(
     name: &'a str,
     no_value: bool,
 ) -> Result<FnReport<'a>, NoMemory>
-    ensures { IfOk result (IsArmless name.now no_value) }
+    ensures { IfOk result (λ r. IsArmless name.now no_value (report_view r)) }
 {
     let witnesses = witnesses_without_arms(alloc, no_value)?;
     Ok(FnReport {

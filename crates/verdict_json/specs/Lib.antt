@@ -1,4 +1,5 @@
 pub mod Refused
 pub mod Report
 pub mod Rules
+pub mod Trees
 pub mod Writing

@@ -1,16 +1,14 @@
 -- The report on functions as JSON.
-use Rattle.std.specs.Prelude.{ℕ, List, [], ◌∷◌, ◌++◌, map, codes, Bool, true, false, is_some, if◌then◌else◌}
-use Rattle.decl_lexer.specs.Words.{word_of}
+use Rattle.std.specs.Prelude.{ℕ, List, [], ◌∷◌, ◌++◌, map, codes, Bool, true, false}
+use Rattle.decl_lexer.specs.Written.{written_name}
 use Rattle.serde_json.specs.Data.{Data, boolean, number, unsigned, string, array, object, no_items, item, no_members, member}
 use Rattle.serde_json.specs.View.{items_of}
 use Rattle.serde_json.specs.Written.{compact_text}
 use Rattle.verdict_json.specs.declared.entry.Unreachable.{Unreachable}
-use Rattle.verdict_json.specs.declared.entry.Witness.{Witness}
-use Rattle.verdict_json.specs.declared.entry.Witness.TheVariants.{Any, Flag, Unit}
-use Rattle.verdict_json.specs.declared.report.FnReport.{FnReport}
 use Rattle.verdict_json.specs.declared.refusal.Refusal.{Refusal}
 use Rattle.verdict_json.specs.Refused.{name_or_empty, refusal_data}
 use Rattle.verdict_json.specs.Rules.{name_of}
+use Rattle.verdict_json.specs.Trees.{WitnessTree, Anything, OfFlag, OfVariant, ReportTree}
 
 -- an entry of the unreachable list
 abbrev pub unreachable_data : Unreachable → Data
@@ -18,10 +16,6 @@ unreachable_data u =
     object (member (codes "arm") (number (unsigned u.arm))
     (member (codes "at") (number (unsigned u.at))
     (member (codes "whole") (boolean u.whole) no_members)))
-
--- a name as Rust writes it: one that is a keyword has `r#` in front (the Rust Reference, "Identifiers")
-abbrev pub written_name : List ℕ → List ℕ
-written_name name = if is_some (word_of name) then codes "r#" ++ name else name
 
 -- the name of a variant, behind that of its enum
 abbrev pub unit_name : List ℕ → List ℕ → List ℕ
@@ -41,19 +35,19 @@ flag_text true = codes "true"
 flag_text false = codes "false"
 
 -- a witness
-abbrev pub witness_data : Witness → Data
-witness_data Any = text_and_tree (codes "_") (array (item (string (codes "any")) no_items))
-witness_data (Flag b) = text_and_tree (flag_text b) (array (item (string (codes "flag")) (item (boolean b) no_items)))
-witness_data (Unit owner variant) = unit_data (unit_name owner.now variant.now)
+abbrev pub witness_data : WitnessTree → Data
+witness_data Anything = text_and_tree (codes "_") (array (item (string (codes "any")) no_items))
+witness_data (OfFlag b) = text_and_tree (flag_text b) (array (item (string (codes "flag")) (item (boolean b) no_items)))
+witness_data (OfVariant owner variant) = unit_data (unit_name owner variant)
 
 -- what is reported of one function
-abbrev pub function_data : FnReport → Data
+abbrev pub function_data : ReportTree → Data
 function_data f =
     object (member (codes "exhaustive") (boolean f.exhaustive)
-    (member (codes "name") (string f.name.now)
+    (member (codes "name") (string f.name)
     (member (codes "overlaps") (array no_items)
-    (member (codes "unreachable") (array (items_of (map unreachable_data f.unreachable.items)))
-    (member (codes "witnesses") (array (items_of (map witness_data f.witnesses.items))) no_members)))))
+    (member (codes "unreachable") (array (items_of (map unreachable_data f.unreachable)))
+    (member (codes "witnesses") (array (items_of (map witness_data f.witnesses))) no_members)))))
 
 -- the refusal of the function of this name
 abbrev pub refused_data : List ℕ → Refusal → Data
@@ -63,7 +57,7 @@ refused_data name r =
 
 -- an entry of a report: what is reported of a function, or the name of one that is refused with its refusal
 pub data ReportEntry : Type 0 where
-  JudgedFunction : FnReport → ReportEntry
+  JudgedFunction : ReportTree → ReportEntry
   RefusedFunction : List ℕ → Refusal → ReportEntry
 
 -- an entry as it is written

@@ -1,10 +1,11 @@
 // The parts of a report on one function: unreachable arms and alternatives, and witnesses.
-ghost use Rattle.std.specs.Prelude.{◌≡◌, ◌++◌, ◌∷◌, [], IfOk, OnOk, string_bytes};
+ghost use Rattle.std.specs.Prelude.{◌≡◌, ◌∷◌, [], IfOk, string_bytes};
 ghost use Rattle.serde_json.specs.View.{view};
 ghost use Rattle.serde_json.specs.Written.{has_float, compact_text};
-ghost use Rattle.verdict_json.specs.Report.{unreachable_data, witness_data, unit_data, unit_name, written_name};
+ghost use Rattle.verdict_json.specs.Report.{unreachable_data, witness_data, unit_data, unit_name};
+ghost use Rattle.verdict_json.specs.Trees.{witness_view};
 
-use decl_lexer::word_of;
+use decl_lexer::push_name;
 use serde_json::{Value, json};
 use std::alloc::{AllocError, Global};
 
@@ -43,16 +44,6 @@ pub fn unreachable_entry(alloc: Global, entry: &Unreachable) -> Result<String, A
     unreachable_value(alloc, entry)?.to_string(alloc)
 }
 
-// Adds a name as Rust writes it: one that is a keyword has `r#` in front.
-fn push_name(text: &mut String, name: &str) -> Result<(), AllocError>
-    ensures { OnOk result (string_bytes text.new ≡ string_bytes text.old ++ written_name name.now) }
-{
-    if word_of(name).is_some() {
-        text.push_str("r#")?;
-    }
-    text.push_str(name)
-}
-
 // The name of a variant, behind that of its enum.
 fn variant_path(alloc: Global, owner: &str, variant: &str) -> Result<String, AllocError>
     ensures { IfOk result (λ s. string_bytes s ≡ unit_name owner.now variant.now) }
@@ -71,7 +62,7 @@ fn unit_value(alloc: Global, name: &str) -> Result<Value, AllocError>
 }
 
 fn witness_value(alloc: Global, witness: &Witness<'_>) -> Result<Value, AllocError>
-    ensures { IfOk result (λ v. view v ≡ witness_data witness.now) }
+    ensures { IfOk result (λ v. view v ≡ witness_data (witness_view witness.now)) }
 {
     match witness {
         Witness::Any => json!(in alloc; {"text": "_", "tree": ["any"]}),
@@ -86,7 +77,7 @@ fn witness_value(alloc: Global, witness: &Witness<'_>) -> Result<Value, AllocErr
 
 // The text of a witness.
 pub fn witness_entry(alloc: Global, witness: &Witness<'_>) -> Result<String, AllocError>
-    ensures { IfOk result (λ s. string_bytes s ≡ compact_text (witness_data witness.now)) }
+    ensures { IfOk result (λ s. string_bytes s ≡ compact_text (witness_data (witness_view witness.now))) }
 {
     witness_value(alloc, witness)?.to_string(alloc)
 }

@@ -6,6 +6,7 @@ ghost use Rattle.serde_json.specs.View.{items_of};
 ghost use Rattle.verdict_json.specs.Report.{ReportEntry, JudgedFunction, RefusedFunction, report_text};
 ghost use Rattle.verdict_json.specs.Report.{function_data, unreachable_data, witness_data};
 ghost use Rattle.verdict_json.specs.Rules.{IsRule};
+ghost use Rattle.verdict_json.specs.Trees.{report_view, witness_view};
 ghost use Rattle.verdict_json.specs.Writing.{HasEntries, flag_word};
 
 use crate::entry::{Unreachable, Witness, unreachable_entry, witness_entry};
@@ -81,7 +82,7 @@ fn push_witnesses(
     witnesses: &[Witness<'_>],
 ) -> Result<(), AllocError>
     ensures { OnOk result (string_bytes text.new
-        ≡ string_bytes text.old ++ items_text false (items_of (map witness_data witnesses.now))) }
+        ≡ string_bytes text.old ++ items_text false (items_of (map witness_data (map witness_view witnesses.now)))) }
 {
     let mut later = false;
     for witness in witnesses {
@@ -103,7 +104,7 @@ fn flag_word(flag: bool) -> &'static str
 
 // Adds what is reported of a function.
 fn push_function(alloc: Global, text: &mut String, report: &FnReport<'_>) -> Result<(), AllocError>
-    ensures { OnOk result (string_bytes text.new ≡ string_bytes text.old ++ compact_text (function_data report.now)) }
+    ensures { OnOk result (string_bytes text.new ≡ string_bytes text.old ++ compact_text (function_data (report_view report.now))) }
 {
     text.push_str("{\"exhaustive\":")?;
     text.push_str(flag_word(report.exhaustive))?;
@@ -133,7 +134,7 @@ impl ReportText {
     /// The report with what is reported of one more function at its end.
     pub fn add(self, report: &FnReport<'_>) -> Result<ReportText, NoMemory>
         ensures { (entries : List ReportEntry) → HasEntries entries self
-            → IfOk result (HasEntries (entries ++ JudgedFunction report.now ∷ [])) }
+            → IfOk result (HasEntries (entries ++ JudgedFunction (report_view report.now) ∷ [])) }
     {
         let ReportText {
             mut text,

@@ -1,9 +1,10 @@
 use Rattle.std.proofs.Common.{◌≡◌, Some, map, sym, ap, ◌∙◌}
 use Rattle.std.specs.Prelude.{option_map}
+use Rattle.decl_syntax.specs.Functions.{function_view}
 use Rattle.decl_syntax.specs.Items.{item_view, arm_view}
 use Rattle.plain_match.specs.Plain.{plain_type}
 use Rattle.plain_match.specs.Reports.{param_type}
-use Rattle.plain_match.specs.Views.{function_view, param_view, read_view, AreArms}
+use Rattle.plain_match.specs.Views.{param_view, read_view, AreArms}
 use Rattle.plain_match.proofs.Lists.{not_some}
 use Rattle.plain_match.proofs.Variants.{arms_stand}
 use Rattle.plain_match.proofs.Answered.{answered, param_in}

@@ -1,6 +1,6 @@
 use Rattle.std.proofs.Common.{◌≡◌, map, take}
 use Rattle.std.specs.List.{filter_map}
-use Rattle.plain_match.specs.Reports.{witness_view}
+use Rattle.verdict_json.specs.Trees.{witness_view}
 use Rattle.plain_match.specs.Cases.{witness_of}
 use Rattle.plain_match.specs.Views.{param_view}
 use Rattle.plain_match.proofs.witnesses.witnesses_of.Given as goal

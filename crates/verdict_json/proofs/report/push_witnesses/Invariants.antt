@@ -2,9 +2,10 @@ use Rattle.std.proofs.Common.{◌≡◌, ◌++◌, map, drop, false, string_byte
 use Rattle.serde_json.specs.View.{items_of}
 use Rattle.serde_json.specs.Written.{items_text}
 use Rattle.verdict_json.specs.Report.{witness_data}
+use Rattle.verdict_json.specs.Trees.{witness_view}
 use Rattle.verdict_json.proofs.report.push_witnesses.Given as goal
 
 abbrev pub invariant-loop-witness : goal.invariant-loop-witness
 invariant-loop-witness l =
-    string_bytes l.text ++ items_text l.later (items_of (map witness_data (drop l.witness-index l.witnesses)))
-    ≡ string_bytes l.initial.text ++ items_text false (items_of (map witness_data l.witnesses))
+    string_bytes l.text ++ items_text l.later (items_of (map witness_data (map witness_view (drop l.witness-index l.witnesses))))
+    ≡ string_bytes l.initial.text ++ items_text false (items_of (map witness_data (map witness_view l.witnesses)))

@@ -1,0 +1,38 @@
+-- Laws of what is written for a file: there is one answer, and no function is left out.
+use Rattle.std.specs.Prelude.{◌≡◌, ℕ, List, slice_get, Some}
+use Rattle.decl_syntax.specs.Functions.{FunctionTree}
+use Rattle.decl_syntax.specs.Items.{ItemTree, Function}
+use Rattle.match_model.specs.declared.Width.TheVariants.{Endless}
+use Rattle.type_table.specs.Faults.{BreaksNone, IsFirstFault}
+use Rattle.verdict_json.specs.Report.{ReportEntry}
+use Rattle.match_top.specs.declared.statuses.Status.{Status}
+use Rattle.match_top.specs.Answers.{Answers}
+use Rattle.match_top.specs.Reports.{NumberedFunction, numbered, functions_of, IsEntry, IsReported}
+
+-- the bytes of a file have one text and one status at most
+abbrev pub OneAnswer : Type 0
+OneAnswer = (bytes text other : List ℕ) (status ending : Status) → Answers bytes text status → Answers bytes other ending → (text ≡ other) × (status ≡ ending)
+
+-- items have one first fault at most
+abbrev pub OneFirstFault : Type 0
+OneFirstFault =
+    (items : List ItemTree) (rule i at other j elsewhere : ℕ) → IsFirstFault items Endless rule i at → IsFirstFault items Endless other j elsewhere
+    → (rule ≡ other) × (i ≡ j) × (at ≡ elsewhere)
+
+-- a function has one entry at most
+abbrev pub OneEntry : Type 0
+OneEntry = (items : List ItemTree) (f : NumberedFunction) (e other : ReportEntry) → IsEntry items f e → IsEntry items f other → e ≡ other
+
+-- every function has an entry
+abbrev pub SomeEntry : Type 0
+SomeEntry = (items : List ItemTree) (f : NumberedFunction) → (e : ReportEntry) × IsEntry items f e
+
+-- each item that is a function stands among the functions of its file, with its number
+abbrev pub EachFunctionStands : Type 0
+EachFunctionStands =
+    (items : List ItemTree) (i : ℕ) (item : ItemTree) (f : FunctionTree) → slice_get items i ≡ Some item
+    → item.kind ≡ Function f.name f.param f.deref f.arms → (k : ℕ) × (slice_get (functions_of items) k ≡ Some (numbered i f))
+
+-- items of which none breaks a rule have a report
+abbrev pub SomeReport : Type 0
+SomeReport = (items : List ItemTree) → BreaksNone items Endless → (text : List ℕ) × (status : Status) × IsReported items text status
