@@ -1,0 +1,12 @@
+pub mod Bare
+pub mod Spreads
+pub mod Apart
+pub mod Listing
+pub mod Opened
+pub mod Getting
+pub mod PartColumns
+pub mod Starting
+pub mod Halves
+pub mod Having
+pub mod LeafCtors
+pub mod BareLaws

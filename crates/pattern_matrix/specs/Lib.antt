@@ -1,0 +1,9 @@
+pub mod Sparse
+pub mod Views
+pub mod Spreading
+pub mod Opening
+pub mod Columns
+pub mod Starting
+pub mod Halving
+pub mod Parts
+pub mod Laws
