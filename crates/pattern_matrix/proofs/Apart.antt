@@ -65,7 +65,7 @@ module _ {T : Type 0} (place : List MStep) (others : List ℕ) (rows : List (Spa
   abbrev chosen_row : MHead T → Choice T → MRow T
   chosen_row h c = row_with (fronted h) (Some c.pat ∷ heads_at r.heads others) c.chosen (map (bind_at place) c.binds)
 
-  one_choice : (h : MHead T) (c : Choice T) → leaf_row others (leaf_of n [] c) r ≡ bare_row (chosen_row h c)
+  pub one_choice : (h : MHead T) (c : Choice T) → leaf_row others (leaf_of n [] c) r ≡ bare_row (chosen_row h c)
   one_choice h c = rw (bare-bare (Some c.pat), bare-heads_at r.heads others) refl
 
   each_choice : (h : MHead T) (cs : List (Choice T)) → leaf_views others rows (map (leaf_of n []) cs) ≡ map bare_row (map (chosen_row h) cs)

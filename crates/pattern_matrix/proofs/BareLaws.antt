@@ -10,7 +10,7 @@ use Rattle.match_model.specs.Matrices.{MRow, head_ways}
 use Rattle.match_model.specs.Weights.{head_weight, heads_weight, rows_weight}
 use Rattle.pattern_matrix.specs.Sparse.{bare_head, bare_row}
 
-bound_trace : (binds : List MBound) (v : MValue) (w : Way) → (with_bounds binds v w).trace ≡ w.trace
+pub bound_trace : (binds : List MBound) (v : MValue) (w : Way) → (with_bounds binds v w).trace ≡ w.trace
 bound_trace [] v w = refl
 bound_trace (b ∷ rest) v w = bound_trace rest v w
 

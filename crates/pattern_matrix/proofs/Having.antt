@@ -69,15 +69,15 @@ module _ {T : Type 0} (place : List MStep) (piece : MCtor) (n : ℕ) (others : L
   kept_rows (l ∷ leaves) = one_kept l leaves (head_has piece l.head) refl (kept_rows leaves)
 
 -- the constructors of leaves are those of the column of the definitions
-head_ctor : {T : Type 0} (h : MHead T) (hs : List (MHead T)) → first_ctor (h ∷ hs) ≡ first_ctor (h ∷ [])
+pub head_ctor : {T : Type 0} (h : MHead T) (hs : List (MHead T)) → first_ctor (h ∷ hs) ≡ first_ctor (h ∷ [])
 head_ctor None hs = refl
 head_ctor (Some (de_pat c t uid at subs binds)) hs = refl
 
-one_ctor : {X Y : Type 0} (f : X → Option Y) (x : X) (o : Option Y) → f x ≡ o → filter_map f (x ∷ []) ≡ option_to_list o
+pub one_ctor : {X Y : Type 0} (f : X → Option Y) (x : X) (o : Option Y) → f x ≡ o → filter_map f (x ∷ []) ≡ option_to_list o
 one_ctor f x None e = rw e refl
 one_ctor f x (Some y) e = rw e refl
 
-got_some : {X : Type 0} (xs : List X) (i : ℕ) → i < length xs → (x : X) × (slice_get xs i ≡ Some x)
+pub got_some : {X : Type 0} (xs : List X) (i : ℕ) → i < length xs → (x : X) × (slice_get xs i ≡ Some x)
 got_some [] i h = absurd (omega arith)
 got_some (x ∷ xs) zero h = (x, refl)
 got_some (x ∷ xs) (suc i) h = got_some xs i (omega arith)

@@ -6,6 +6,7 @@ pub mod Opened
 pub mod Getting
 pub mod PartColumns
 pub mod Starting
+pub mod Within
 pub mod Halves
 pub mod Having
 pub mod LeafCtors

@@ -46,7 +46,7 @@ columns_passed x heads start (suc n) l =
     ap (λ h. h ∷ heads_at (x ∷ heads) (columns_from (suc start) n)) (passed x heads start (λ same. omega arith))
     ∙ ap (λ hs. head_at heads start ∷ hs) (columns_passed x heads (suc start) n (omega arith))
 
-more_below : {T : Type 0} (n m : ℕ) (heads : List (ℕ × MDePat T)) → n ≤ m → AreHeadsBelow n heads → AreHeadsBelow m heads
+pub more_below : {T : Type 0} (n m : ℕ) (heads : List (ℕ × MDePat T)) → n ≤ m → AreHeadsBelow n heads → AreHeadsBelow m heads
 more_below n m heads l h = λ k d lt. let b = h k d lt in omega arith
 
 -- so does the first of them, which may be a wildcard
@@ -94,25 +94,25 @@ left_stand column heads (c ∷ others) h =
     ∙ ap (λ xs. head_at heads c ∷ xs) (left_stand column heads others (All-tail (λ d. d ≢ column) c others h))
 
 -- what is left of heads below a number is below it
-without_below : {T : Type 0} (column first : ℕ) (heads : List (ℕ × MDePat T)) → AreHeadsBelow first heads → AreHeadsBelow first (without column heads)
+pub without_below : {T : Type 0} (column first : ℕ) (heads : List (ℕ × MDePat T)) → AreHeadsBelow first heads → AreHeadsBelow first (without column heads)
 without_below column first heads h = All-filter (λ x. not (nat_eq x.0 column)) (λ x. x.0 < first) heads h
 
 -- the one row of a leaf whose head has the piece
-special_one : {T : Type 0} (piece : MCtor) (n : ℕ) (h : MHead T) (hs : List (MHead T)) → head_has piece h ≡ true → specialised_heads piece n (bare_head h ∷ hs) ≡ (leaf_parts n h ++ hs) ∷ []
+pub special_one : {T : Type 0} (piece : MCtor) (n : ℕ) (h : MHead T) (hs : List (MHead T)) → head_has piece h ≡ true → specialised_heads piece n (bare_head h ∷ hs) ≡ (leaf_parts n h ++ hs) ∷ []
 special_one piece n None hs e = refl
 special_one piece n (Some (de_pat WildCtor t uid at subs binds)) hs e = refl
 special_one piece n (Some (de_pat OrCtor t uid at subs binds)) hs e = cc
 special_one piece n (Some (de_pat c t uid at subs binds)) hs e = rw e refl
 
 -- what holds of each holds of the one that is got
-at_get : {X : Type 0} (P : X → Type 0) (xs : List X) (i : ℕ) (x : X) → All P xs → slice_get xs i ≡ Some x → P x
+pub at_get : {X : Type 0} (P : X → Type 0) (xs : List X) (i : ℕ) (x : X) → All P xs → slice_get xs i ≡ Some x → P x
 at_get P [] i x h e = cc
 at_get P (y ∷ ys) zero x h e = let same : y ≡ x = cc in subst P same (All-head P y ys h)
 at_get P (y ∷ ys) (suc i) x h e = at_get P ys i x (All-tail P y ys h) e
 
 module _ {T : Type 0} (place : List MStep) (piece : MCtor) (column first count : ℕ) (others : List ℕ) (apart : AreOthers column first others) where
   -- all heads of an opened row
-  opened_heads : (l : SparseLeaf T) (r : SparseRow T) → length (leaf_parts count l.head) ≡ count → AreHeadsBelow first r.heads →
+  pub opened_heads : (l : SparseLeaf T) (r : SparseRow T) → length (leaf_parts count l.head) ≡ count → AreHeadsBelow first r.heads →
       heads_at (listed first (leaf_parts count l.head) ++ without column r.heads) (columns_from first count ++ others) ≡ map bare_head (leaf_parts count l.head ++ heads_at r.heads others)
   opened_heads l r many below =
       let rest = without column r.heads in
@@ -151,7 +151,7 @@ module _ {T : Type 0} (place : List MStep) (piece : MCtor) (column first count :
 
 module _ {T : Type 0} (place : List MStep) (column : ℕ) (others : List ℕ) (apart : Lacks column others) where
   -- the other heads stand where they stood
-  left_heads : (r : SparseRow T) → heads_at (without column r.heads) others ≡ map bare_head (heads_at r.heads others)
+  pub left_heads : (r : SparseRow T) → heads_at (without column r.heads) others ≡ map bare_head (heads_at r.heads others)
   left_heads r = left_stand column r.heads others apart ∙ sym (bare-heads_at r.heads others)
 
   one_dropped : (l : SparseLeaf T) (r : SparseRow T) (b : Bool) → is_wild l.head ≡ b →

@@ -1,6 +1,6 @@
 -- Rows that list only their heads that are no wildcards, and the rows of the definitions that they stand for.
-use Rattle.std.specs.Prelude.{◌≡◌, ◌≢◌, ℕ, zero, suc, ◌<◌, true, Bool, not, cond, nat_eq, List, [], ◌∷◌, ◌++◌, map, filter, length, Option, Some, None, slice_get}
-use Rattle.std.specs.List.{All, flat_map, filter_map}
+use Rattle.std.specs.Prelude.{◌≡◌, ◌≢◌, ℕ, zero, suc, ◌<◌, true, false, Bool, not, cond, nat_eq, List, [], ◌∷◌, ◌++◌, map, filter, length, Option, Some, None, slice_get}
+use Rattle.std.specs.List.{All, Contains, flat_map, filter_map}
 use Rattle.std.specs.Option.{option_to_list}
 use Rattle.match_model.specs.Constructors.{MCtor, has_piece}
 use Rattle.match_model.specs.ArenaPatterns.{MDePat, de_pat, de_pats_list}
@@ -86,6 +86,14 @@ AreHeadsBelow n heads = All (λ h. h.0 < n) heads
 -- the heads of the rows stand at columns below a number
 abbrev pub AreBelow : {T : Type 0} → ℕ → List (SparseRow T) → Type 0
 AreBelow n rows = All (λ r. AreHeadsBelow n r.heads) rows
+
+-- the listed heads are no wildcards, and stand at these columns
+abbrev pub AreHeadsOver : {T : Type 0} → (columns : List ℕ) → List (ℕ × MDePat T) → Type 0
+AreHeadsOver columns heads = All (λ h. Contains columns h.0 × (is_wild (Some h.1) ≡ false)) heads
+
+-- the rows list only heads that are no wildcards, at these columns
+abbrev pub AreOver : {T : Type 0} → (columns : List ℕ) → List (SparseRow T) → Type 0
+AreOver columns rows = All (λ r. AreHeadsOver columns r.heads) rows
 
 -- the heads of so many parts that a head writes, where it has the piece that they are of
 abbrev pub leaf_parts : {T : Type 0} → (count : ℕ) → MHead T → List (MHead T)

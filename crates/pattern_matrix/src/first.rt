@@ -2,7 +2,7 @@
 ghost use Rattle.std.specs.Prelude.{◌≡◌, ◌≤◌, ◌<◌, ◌^◌, ◌++◌, ◌∷◌, [], length, map, IfOk, OnOk};
 ghost use Rattle.match_model.specs.Matrices.{first_matrix};
 ghost use Rattle.pattern_arena.specs.Trees.{plain_arm, plain_match};
-ghost use Rattle.pattern_matrix.specs.Sparse.{row_views, bare_row, AreBelow};
+ghost use Rattle.pattern_matrix.specs.Sparse.{row_views, bare_row, AreBelow, AreOver};
 ghost use Rattle.pattern_matrix.specs.Views.{plain_rows};
 ghost use Rattle.pattern_matrix.specs.Starting.{starting_row, starting_rows};
 
@@ -43,7 +43,9 @@ pub fn first_rows<'a, T: Copy>(
 ) -> Result<Vec<Row<'a, T>>, NoMemory>
     requires { length m.now.arms.now ≤ 2 ^ 32 }
     ensures rows { IfOk result (λ v. row_views (0 ∷ []) (plain_rows v.items) ≡ map bare_row (first_matrix (plain_match m.now)).rows) }
-    ensures below { IfOk result (λ v. AreBelow 1 (plain_rows v.items)) }
+    ensures starting { IfOk result (λ v. plain_rows v.items ≡ starting_rows 0 (plain_match m.now).arms) }
+    ensures over { IfOk result (λ v. AreOver (0 ∷ []) (plain_rows v.items)) }
+    ensures within { IfOk result (λ v. AreBelow 1 (plain_rows v.items)) }
 {
     let rows = rows_of_arms(alloc, m.arms)?;
     Ok(rows)

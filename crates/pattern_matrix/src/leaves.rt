@@ -149,6 +149,7 @@ pub fn leaves_at<'a, T: Copy>(
     rows: &[Row<'a, T>],
     column: usize,
 ) -> Result<Vec<Leaf<'a, T>>, NoMemory>
+    ensures leaves { IfOk result (λ v. plain_leaves v.items ≡ all_apart column 0 (plain_rows rows.now)) }
     ensures rows { IfOk result (λ v. (place : List MStep) (others : List ℕ)
         → leaf_views others (plain_rows rows.now) (plain_leaves v.items) ≡ map bare_row (expand_rows place (row_views (column ∷ others) (plain_rows rows.now)))) }
     ensures within { IfOk result (λ v. All (λ l. l.row < length rows.now) v.items) }

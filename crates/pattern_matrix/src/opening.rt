@@ -6,7 +6,7 @@ ghost use Rattle.match_model.specs.Places.{MStep};
 ghost use Rattle.match_model.specs.Matrices.{specialised_rows, default_rows};
 ghost use Rattle.match_model.specs.Rows.{is_wild};
 ghost use Rattle.pattern_arena.specs.Trees.{tree, placed_ctor, placed_subs};
-ghost use Rattle.pattern_matrix.specs.Sparse.{row_views, bare_row, leaf_views, leaves_listed, leaf_parts, listed, without, columns_from, AreOthers, AreBelow, IsLeafOf, AreParts, Lacks};
+ghost use Rattle.pattern_matrix.specs.Sparse.{row_views, bare_row, leaf_views, leaves_listed, leaf_parts, listed, without, columns_from, AreOthers, AreBelow, AreOver, IsLeafOf, AreParts, Lacks};
 ghost use Rattle.pattern_matrix.specs.Views.{plain_heads, plain_row, plain_rows, plain_leaf, plain_leaves, plain_pattern};
 ghost use Rattle.pattern_matrix.specs.Opening.{opened_row, opened_leaf, opened_rows, pattern_parts, dropped_row, dropped_leaf, dropped_rows};
 
@@ -201,10 +201,13 @@ pub fn piece_rows<'a, T: Copy>(
     requires within { All (λ l. l.row < length rows.now) leaves.now }
     requires parts { All (λ k. AreParts count (plain_leaves leaves.now) k) numbers.now }
     requires fits { first + count < 2 ^ 64 }
-    ensures { IfOk result (λ v. (place : List MStep) (piece : MCtor) (others : List ℕ) → AreBelow first (plain_rows rows.now) → AreOthers column first others
+    ensures opened { IfOk result (λ v. plain_rows v.items ≡ opened_rows column first count (plain_rows rows.now) (leaves_listed (plain_leaves leaves.now) numbers.now)) }
+    ensures rows { IfOk result (λ v. (place : List MStep) (piece : MCtor) (others : List ℕ) → AreBelow first (plain_rows rows.now) → AreOthers column first others
         → All (IsLeafOf piece count) (leaves_listed (plain_leaves leaves.now) numbers.now)
         → row_views (columns_from first count ++ others) (plain_rows v.items)
         ≡ map bare_row (specialised_rows place piece count (leaf_views others (plain_rows rows.now) (leaves_listed (plain_leaves leaves.now) numbers.now)))) }
+    ensures over { IfOk result (λ v. (others : List ℕ) → AreOver (column ∷ others) (plain_rows rows.now) → AreOver (columns_from first count ++ others) (plain_rows v.items)) }
+    ensures within { IfOk result (λ v. AreBelow first (plain_rows rows.now) → AreBelow (first + count) (plain_rows v.items)) }
 {
     let opened = opened_rows(alloc, rows, leaves, numbers, column, first, count)?;
     Ok(opened)
@@ -295,8 +298,11 @@ pub fn wild_rows<'a, T: Copy>(
     column: usize,
 ) -> Result<Vec<Row<'a, T>>, NoMemory>
     requires within { All (λ l. l.row < length rows.now) leaves.now }
-    ensures { IfOk result (λ v. (place : List MStep) (others : List ℕ) → Lacks column others
+    ensures dropped { IfOk result (λ v. plain_rows v.items ≡ dropped_rows column (plain_rows rows.now) (plain_leaves leaves.now)) }
+    ensures rows { IfOk result (λ v. (place : List MStep) (others : List ℕ) → Lacks column others
         → row_views others (plain_rows v.items) ≡ map bare_row (default_rows place (leaf_views others (plain_rows rows.now) (plain_leaves leaves.now)))) }
+    ensures over { IfOk result (λ v. (others : List ℕ) → AreOver (column ∷ others) (plain_rows rows.now) → AreOver others (plain_rows v.items)) }
+    ensures within { IfOk result (λ v. (end : ℕ) → AreBelow end (plain_rows rows.now) → AreBelow end (plain_rows v.items)) }
 {
     let dropped = dropped_rows(alloc, rows, leaves, column)?;
     Ok(dropped)
