@@ -24,7 +24,7 @@ bare_weight None = refl
 bare_weight (Some (de_pat WildCtor t uid at subs binds)) = refl
 bare_weight (Some (de_pat _ t uid at subs binds)) = refl
 
-bare_weights : {T : Type 0} (hs : List (MHead T)) → heads_weight (map bare_head hs) ≡ heads_weight hs
+pub bare_weights : {T : Type 0} (hs : List (MHead T)) → heads_weight (map bare_head hs) ≡ heads_weight hs
 bare_weights [] = refl
 bare_weights (h ∷ hs) = ap (λ n. n * heads_weight (map bare_head hs)) (bare_weight h) ∙ ap (λ n. head_weight h * n) (bare_weights hs)
 

@@ -117,7 +117,7 @@ fn add_leaf<'a, T: Copy>(
 
 // Adds the leaves of the row with this number.
 #[tactic(auto, using(crate::proofs::Apart::aparts))]
-fn add_leaves<'a, T: Copy>(
+pub fn add_leaves<'a, T: Copy>(
     alloc: Global,
     leaves: &mut Vec<Leaf<'a, T>>,
     row: usize,

@@ -139,7 +139,7 @@ fn add_leaf_parts<'a, T: Copy>(
 }
 
 // The row of the leaf, with the heads of the parts in place of that at the column.
-fn opened_row<'a, T: Copy>(
+pub fn opened_row<'a, T: Copy>(
     alloc: Global,
     row: &Row<'a, T>,
     leaf: &Leaf<'a, T>,
@@ -238,7 +238,7 @@ fn opened_rows<'a, T: Copy>(
 
 // Tells whether the leaf is a wildcard.
 #[tactic(auto, using(crate::proofs::Bare::bares))]
-pub(crate) fn is_wild_leaf<'a, T: Copy>(head: Option<&'a DePat<'a, T>>) -> bool
+pub fn is_wild_leaf<'a, T: Copy>(head: Option<&'a DePat<'a, T>>) -> bool
     ensures { result ≡ is_wild (plain_pattern head.entry) }
 {
     match head {
@@ -248,7 +248,7 @@ pub(crate) fn is_wild_leaf<'a, T: Copy>(head: Option<&'a DePat<'a, T>>) -> bool
 }
 
 // The row of the leaf without its head at the column.
-fn dropped_row<'a, T: Copy>(
+pub fn dropped_row<'a, T: Copy>(
     alloc: Global,
     row: &Row<'a, T>,
     leaf: &Leaf<'a, T>,

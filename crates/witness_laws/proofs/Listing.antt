@@ -203,7 +203,7 @@ guarded_stops x vs g = ap (λ b. not b && row_takes x.row.heads vs) g
 pub leave_guarded : {T : Type 0} (is_marked : Question → Bool) (n : ℕ) (through kept_rows : List (WantedRow T)) (x : WantedRow T) → DoFor is_marked n through kept_rows →
     x.row.guarded ≡ true → IsDone is_marked x → DoFor is_marked n (through ++ x ∷ []) kept_rows
 leave_guarded is_marked n through kept_rows x d g f =
-    gone_on is_marked n through kept_rows x d (λ vs l. guarded_stops x vs g) (λ q vs l w a. f w q (both (nat_eq q.arm x.row.arm) _ a).0)
+    gone_on is_marked n through kept_rows x d (λ vs l. guarded_stops x vs g) (λ q vs l w a. f w q vs a)
 
 -- a bare guarded row that is noted
 pub note_guarded : {T : Type 0} (is_marked : Question → Bool) (n : ℕ) (through kept_rows : List (WantedRow T)) (x : WantedRow T) → DoFor is_marked n through kept_rows →
@@ -211,7 +211,7 @@ pub note_guarded : {T : Type 0} (is_marked : Question → Bool) (n : ℕ) (throu
 note_guarded is_marked n through kept_rows x d l b g f =
     gone_on is_marked n through kept_rows x d (λ vs m. guarded_stops x vs g) (λ q vs m w a. f w q (sym (bare_answers q x vs (m ∙ sym l) b) ∙ a))
 
--- the row as it is listed: wanted no more, where everything of its arm is marked
+-- the row as it is listed: wanted no more, where everything that it may answer is marked
 abbrev pub as_wanted : {T : Type 0} → Bool → WantedRow T → WantedRow T
 as_wanted w x = record { row = x.row; wanted = w }
 
@@ -239,19 +239,16 @@ list_row {T} is_marked n through kept_rows x w d less f = record {
     same : (q : Question) (vs : List MValue) (k : Bool) → (is_marked q ≡ true) ⊎ (((x.wanted && row_answers q x.row vs) || (not (row_stops x.row vs) && k)) ≡ ((w && row_answers q x.row vs) || (not (row_stops x.row vs) && k)))
     same q vs k = go w x.wanted less f
       where
-        go : (w y : Bool) → (w ≡ true → y ≡ true) → (w ≡ false → y ≡ true → (q : Question) → nat_eq q.arm x.row.arm ≡ true → is_marked q ≡ true) →
+        go : (w y : Bool) → (w ≡ true → y ≡ true) → (w ≡ false → y ≡ true → (q : Question) (vs : List MValue) → row_answers q x.row vs ≡ true → is_marked q ≡ true) →
             (is_marked q ≡ true) ⊎ (((y && row_answers q x.row vs) || (not (row_stops x.row vs) && k)) ≡ ((w && row_answers q x.row vs) || (not (row_stops x.row vs) && k)))
         go true true less f = inr refl
         go true false less f = untrue (less refl)
         go false false less f = inr refl
-        go false true less f = by (nat_eq q.arm x.row.arm) refl
+        go false true less f = by (row_answers q x.row vs) refl
           where
-            rest : Bool
-            rest = row_takes x.row.heads vs && (has_chosen q x.row.chosen || heads_pass x.row.guarded q.id x.row.heads vs)
-
-            by : (b : Bool) → nat_eq q.arm x.row.arm ≡ b → (is_marked q ≡ true) ⊎ ((row_answers q x.row vs || (not (row_stops x.row vs) && k)) ≡ (not (row_stops x.row vs) && k))
-            by true e = inl (f refl refl q e)
-            by false e = inr (ap (λ b. (b && (row_takes x.row.heads vs && (has_chosen q x.row.chosen || heads_pass x.row.guarded q.id x.row.heads vs))) || (not (row_stops x.row vs) && k)) e)
+            by : (b : Bool) → row_answers q x.row vs ≡ b → (is_marked q ≡ true) ⊎ ((row_answers q x.row vs || (not (row_stops x.row vs) && k)) ≡ (not (row_stops x.row vs) && k))
+            by true e = inl (f refl refl q vs e)
+            by false e = inr (ap (λ b. b || (not (row_stops x.row vs) && k)) e)
 
     onward : (q : Question) (vs : List MValue) (k : Bool) → length vs ≡ n → counts_before q through vs ((x.wanted && row_answers q x.row vs) || (not (row_stops x.row vs) && k)) ≡ true →
         (is_marked q ≡ true) ⊎ (counts_before q (kept_rows ++ as_wanted w x ∷ []) vs k ≡ true)

@@ -33,7 +33,7 @@ pub record RowsAreListed (T : Type 0) : Type 0 where
   -- a guarded row of wildcards is left out where it is marked
   pub note_guarded : (is_marked : Question → Bool) (n : ℕ) (through kept : List (WantedRow T)) (x : WantedRow T) → DoFor is_marked n through kept →
       length x.row.heads ≡ n → is_bare x ≡ true → x.row.guarded ≡ true → IsNoted is_marked x → DoFor is_marked n (through ++ x ∷ []) kept
-  -- any row may be listed; it is wanted no more where everything of its arm is marked
+  -- any row may be listed; it is wanted no more where everything that it may answer is marked
   pub list_row : (is_marked : Question → Bool) (n : ℕ) (through kept : List (WantedRow T)) (x : WantedRow T) (w : Bool) → DoFor is_marked n through kept →
       (w ≡ true → x.wanted ≡ true) → (w ≡ false → IsDone is_marked x) →
       DoFor is_marked n (through ++ x ∷ []) (kept ++ record { row = x.row; wanted = w } ∷ [])

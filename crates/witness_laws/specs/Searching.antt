@@ -96,9 +96,9 @@ counts_before q (x ∷ rows) vs k = (x.wanted && row_answers q x.row vs) || (not
 abbrev pub is_bare : {T : Type 0} → WantedRow T → Bool
 is_bare x = list_all is_wild x.row.heads
 
--- everything of the row's arm is marked, or nothing is looked for in the row
+-- everything that the row may answer is marked, or nothing is looked for in the row
 abbrev pub IsDone : {T : Type 0} → (is_marked : Question → Bool) → WantedRow T → Type 0
-IsDone is_marked x = x.wanted ≡ true → (q : Question) → nat_eq q.arm x.row.arm ≡ true → is_marked q ≡ true
+IsDone is_marked x = x.wanted ≡ true → (q : Question) (vs : List MValue) → row_answers q x.row vs ≡ true → is_marked q ≡ true
 
 -- the row's arm is marked and what it has chosen, where it is wanted
 abbrev pub IsNoted : {T : Type 0} → (is_marked : Question → Bool) → WantedRow T → Type 0
