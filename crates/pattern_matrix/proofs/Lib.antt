@@ -10,4 +10,15 @@ pub mod Within
 pub mod Halves
 pub mod Having
 pub mod LeafCtors
+pub mod LeafSpans
 pub mod BareLaws
+pub mod BareCounts
+pub mod BareSplits
+pub mod WantedSteps
+pub mod BareWitnesses
+pub mod LeavesTyped
+pub mod Numbers
+pub mod WantedHeads
+pub mod WantedViews
+pub mod Opens
+pub mod Listed

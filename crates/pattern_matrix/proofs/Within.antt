@@ -43,7 +43,7 @@ listed_over {T} first (Some p ∷ hs) = go (is_wild (Some p)) refl (more_over (c
     go false e h = All-cons (λ x. Contains (first ∷ columns_from (suc first) (length hs)) x.0 × (is_wild (Some x.1) ≡ false)) (first, p) (listed (suc first) hs) (contains_here first (columns_from (suc first) (length hs)), e) h
 
 -- the other heads stand at the other columns
-without_over : {T : Type 0} (column : ℕ) (others : List ℕ) (heads : List (ℕ × MDePat T)) → AreHeadsOver (column ∷ others) heads → AreHeadsOver others (without column heads)
+pub without_over : {T : Type 0} (column : ℕ) (others : List ℕ) (heads : List (ℕ × MDePat T)) → AreHeadsOver (column ∷ others) heads → AreHeadsOver others (without column heads)
 without_over {T} column others [] h = All-nil (λ (x : ℕ × MDePat T). Contains others x.0 × (is_wild (Some x.1) ≡ false))
 without_over {T} column others (x ∷ heads) h =
     let one = All-head (λ y. Contains (column ∷ others) y.0 × (is_wild (Some y.1) ≡ false)) x heads h in
@@ -88,36 +88,35 @@ parts_listed {T} count leaves (k ∷ numbers) h =
     go None f = All-nil (λ (l : SparseLeaf T). length (leaf_parts count l.head) ≡ count)
     go (Some l) f = All-cons (λ (x : SparseLeaf T). length (leaf_parts count x.head) ≡ count) l [] (f l refl) (All-nil (λ (x : SparseLeaf T). length (leaf_parts count x.head) ≡ count))
 
+-- the heads of one row that is opened
+pub row_opened_over : {T : Type 0} (column first count : ℕ) (others : List ℕ) (l : SparseLeaf T) (r : SparseRow T) → length (leaf_parts count l.head) ≡ count → AreHeadsOver (column ∷ others) r.heads →
+    AreHeadsOver (columns_from first count ++ others) (opened_row column first count l r).heads
+row_opened_over column first count others l r e h =
+    let hs = leaf_parts count l.head in
+    let cs = columns_from first count in
+    All-append (λ x. Contains (cs ++ others) x.0 × (is_wild (Some x.1) ≡ false)) (listed first hs) (without column r.heads)
+    (more_over cs (cs ++ others) (listed first hs) (Contains-append_left cs others) (subst (λ n. AreHeadsOver (columns_from first n) (listed first hs)) e (listed_over first hs)))
+    (more_over others (cs ++ others) (without column r.heads) (Contains-append_right cs others) (without_over column others r.heads h))
+
+pub row_opened_below : {T : Type 0} (column first count : ℕ) (l : SparseLeaf T) (r : SparseRow T) → length (leaf_parts count l.head) ≡ count → AreHeadsBelow first r.heads →
+    AreHeadsBelow (first + count) (opened_row column first count l r).heads
+row_opened_below column first count l r e h =
+    let hs = leaf_parts count l.head in
+    All-append (λ x. x.0 < first + count) (listed first hs) (without column r.heads)
+    (subst (λ n. AreHeadsBelow (first + n) (listed first hs)) e (listed_below first hs))
+    (more_below first (first + count) (without column r.heads) (omega arith) (without_below column first r.heads h))
+
 pub opened_over : {T : Type 0} (column first count : ℕ) (others : List ℕ) (rows : List (SparseRow T)) (leaves : List (SparseLeaf T)) (numbers : List ℕ) → All (AreParts count leaves) numbers →
     AreOver (column ∷ others) rows → AreOver (columns_from first count ++ others) (opened_rows column first count rows (leaves_listed leaves numbers))
 opened_over {T} column first count others rows leaves numbers parts over =
     each_leaf (λ r. AreHeadsOver (column ∷ others) r.heads) (λ r. AreHeadsOver (columns_from first count ++ others) r.heads) (λ l. length (leaf_parts count l.head) ≡ count) (opened_row column first count)
-    one rows (leaves_listed leaves numbers) over (parts_listed count leaves numbers parts)
-  where
-    cs : List ℕ
-    cs = columns_from first count
-
-    one : (l : SparseLeaf T) (r : SparseRow T) → length (leaf_parts count l.head) ≡ count → AreHeadsOver (column ∷ others) r.heads →
-        AreHeadsOver (columns_from first count ++ others) (listed first (leaf_parts count l.head) ++ without column r.heads)
-    one l r e h =
-        let hs = leaf_parts count l.head in
-        All-append (λ x. Contains (cs ++ others) x.0 × (is_wild (Some x.1) ≡ false)) (listed first hs) (without column r.heads)
-        (more_over cs (cs ++ others) (listed first hs) (Contains-append_left cs others) (subst (λ n. AreHeadsOver (columns_from first n) (listed first hs)) e (listed_over first hs)))
-        (more_over others (cs ++ others) (without column r.heads) (Contains-append_right cs others) (without_over column others r.heads h))
+    (row_opened_over column first count others) rows (leaves_listed leaves numbers) over (parts_listed count leaves numbers parts)
 
 pub opened_below : {T : Type 0} (column first count : ℕ) (rows : List (SparseRow T)) (leaves : List (SparseLeaf T)) (numbers : List ℕ) → All (AreParts count leaves) numbers →
     AreBelow first rows → AreBelow (first + count) (opened_rows column first count rows (leaves_listed leaves numbers))
 opened_below {T} column first count rows leaves numbers parts below =
     each_leaf (λ r. AreHeadsBelow first r.heads) (λ r. AreHeadsBelow (first + count) r.heads) (λ l. length (leaf_parts count l.head) ≡ count) (opened_row column first count)
-    one rows (leaves_listed leaves numbers) below (parts_listed count leaves numbers parts)
-  where
-    one : (l : SparseLeaf T) (r : SparseRow T) → length (leaf_parts count l.head) ≡ count → AreHeadsBelow first r.heads →
-        AreHeadsBelow (first + count) (listed first (leaf_parts count l.head) ++ without column r.heads)
-    one l r e h =
-        let hs = leaf_parts count l.head in
-        All-append (λ x. x.0 < first + count) (listed first hs) (without column r.heads)
-        (subst (λ n. AreHeadsBelow (first + n) (listed first hs)) e (listed_below first hs))
-        (more_below first (first + count) (without column r.heads) (omega arith) (without_below column first r.heads h))
+    (row_opened_below column first count) rows (leaves_listed leaves numbers) below (parts_listed count leaves numbers parts)
 
 -- what holds of the rows of each leaf that is a wildcard
 each_dropped : {T : Type 0} (P Q : SparseRow T → Type 0) (column : ℕ) → ((l : SparseLeaf T) (r : SparseRow T) → P r → Q (dropped_row column l r)) →

@@ -7,3 +7,7 @@ pub mod Starting
 pub mod Halving
 pub mod Parts
 pub mod Laws
+pub mod Wanted
+pub mod Typing
+pub mod Opens
+pub mod ListedSteps

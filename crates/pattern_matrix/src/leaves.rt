@@ -115,7 +115,8 @@ fn add_leaf<'a, T: Copy>(
     Ok(())
 }
 
-// Adds the leaves of the row with this number.
+/// Adds what stands at the column in the row with this number, which has these heads: one leaf for each way to choose among
+/// the alternatives there. The only error is want of memory; some of the leaves may then be added.
 #[tactic(auto, using(crate::proofs::Apart::aparts))]
 pub fn add_leaves<'a, T: Copy>(
     alloc: Global,

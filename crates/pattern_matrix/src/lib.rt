@@ -16,4 +16,4 @@ pub use halving::{Part, PieceLeaves, all_parts, meeting, next_piece};
 pub use leaves::{add_leaves, leaves_at};
 pub use opening::{dropped_row, is_wild_leaf, opened_row, piece_rows, wild_rows};
 pub use rows::{Column, Head, Leaf, Row};
-pub use spans::leaf_ctors;
+pub use spans::{leaf_ctors, leaf_spans};

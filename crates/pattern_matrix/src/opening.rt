@@ -138,7 +138,8 @@ fn add_leaf_parts<'a, T: Copy>(
     }
 }
 
-// The row of the leaf, with the heads of the parts in place of that at the column.
+/// The row of the leaf, which is of this row, with the heads of so many parts, at the columns from the first number on, in
+/// place of that at the column. The leaf writes so many parts. The only error is want of memory.
 pub fn opened_row<'a, T: Copy>(
     alloc: Global,
     row: &Row<'a, T>,
@@ -236,7 +237,7 @@ fn opened_rows<'a, T: Copy>(
     Ok(opened)
 }
 
-// Tells whether the leaf is a wildcard.
+/// Tells whether the head of a leaf is a wildcard.
 #[tactic(auto, using(crate::proofs::Bare::bares))]
 pub fn is_wild_leaf<'a, T: Copy>(head: Option<&'a DePat<'a, T>>) -> bool
     ensures { result ≡ is_wild (plain_pattern head.entry) }
@@ -247,7 +248,7 @@ pub fn is_wild_leaf<'a, T: Copy>(head: Option<&'a DePat<'a, T>>) -> bool
     }
 }
 
-// The row of the leaf without its head at the column.
+/// The row of the leaf, which is of this row, without its head at the column. The only error is want of memory.
 pub fn dropped_row<'a, T: Copy>(
     alloc: Global,
     row: &Row<'a, T>,

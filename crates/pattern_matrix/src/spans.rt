@@ -11,6 +11,8 @@ ghost use Rattle.pattern_matrix.specs.Halving.{leaf_ctors, AreLeafSpans};
 ghost use Rattle.pattern_matrix.specs.Parts.{plain_spans};
 
 use crate::Leaf;
+use crate::opening::is_wild_leaf;
+use constructor_sets::Span;
 use no_memory::NoMemory;
 use pat_context::Ctor;
 use pattern_arena::DePat;
@@ -55,4 +57,43 @@ pub fn leaf_ctors<'a, T: Copy>(
         add_ctor(&mut ctors, leaf.head)?;
     }
     Ok(ctors)
+}
+
+// The span of a leaf with this head, all pieces for a wildcard, and the number of the span that comes next.
+fn next_span<'a, T: Copy>(
+    head: Option<&'a DePat<'a, T>>,
+    count: usize,
+    spans: &[Span],
+    used: usize,
+) -> (Span, usize)
+    requires { is_wild (plain_pattern head) ≡ false → used < length spans.now }
+    ensures wild { is_wild (plain_pattern head.entry) ≡ true → (plain_span result.0 ≡ (0, count)) × (result.1 ≡ used) }
+    ensures other { is_wild (plain_pattern head.entry) ≡ false → (slice_get (plain_spans spans.now) used ≡ Some (plain_span result.0)) × (result.1 ≡ used + 1) }
+{
+    if is_wild_leaf(head) {
+        (Span { first: 0, end: count }, used)
+    } else {
+        (spans[used], used + 1)
+    }
+}
+
+/// For each leaf which of the pieces it has, where the spans tell it of those that are no wildcards, in order; a wildcard
+/// has all. The only error is want of memory.
+pub fn leaf_spans<'a, T: Copy>(
+    alloc: Global,
+    pieces: &[Ctor<'a>],
+    leaves: &[Leaf<'a, T>],
+    spans: &[Span],
+) -> Result<Vec<Span>, NoMemory>
+    requires { AreSpans (plain_ctors pieces.now) (leaf_ctors (plain_leaves leaves.now)) (plain_spans spans.now) }
+    ensures { IfOk result (λ v. AreLeafSpans (plain_ctors pieces.now) (plain_leaves leaves.now) (plain_spans v.items)) }
+{
+    let mut all = Vec::with_capacity(alloc, leaves.len())?;
+    let mut used = 0;
+    for leaf in leaves {
+        let (span, next) = next_span(leaf.head, pieces.len(), spans, used);
+        all.push(span)?;
+        used = next;
+    }
+    Ok(all)
 }
