@@ -1,19 +1,18 @@
 -- Rows taken apart at one column.
-use Rattle.std.proofs.Common.{◌≡◌, ℕ, zero, suc, ◌+◌, ◌<◌, ◌≤◌, subst, Bool, List, [], ◌∷◌, ◌++◌, map, take, length, cond, Option, Some, None, refl, ap, sym, ◌∙◌, true, false, arith, append_assoc, append-nil, slice_get, nat_eq, add-one}
+use Rattle.std.proofs.Common.{◌≡◌, ℕ, zero, suc, ◌+◌, ◌<◌, ◌≤◌, subst, Bool, List, [], ◌∷◌, ◌++◌, map, length, cond, Some, None, refl, ap, sym, ◌∙◌, true, false, arith, append-nil, slice_get, nat_eq}
 use Rattle.std.proofs.lemmas.List.{map-append, get_or-map, length-map}
 use Rattle.std.proofs.lemmas.Grind.{flat_map-append}
 use Rattle.std.proofs.lemmas.List.Elements.{All-nil, All-cons, All-append, All-map}
-use Rattle.std.specs.List.{flat_map, All}
+use Rattle.std.specs.List.{All}
 use Rattle.match_model.specs.ArenaPatterns.{MDePat, de_pat}
 use Rattle.match_model.specs.Places.{MStep}
-use Rattle.match_model.specs.Rows.{Head as MHead, Choice, choices_of, is_wild, is_wild_ctor}
-use Rattle.match_model.specs.Constructors.{MCtor, WildCtor}
+use Rattle.match_model.specs.Rows.{Head as MHead, Choice, choices_of, is_wild}
+use Rattle.match_model.specs.Constructors.{WildCtor}
 use Rattle.match_model.specs.Matrices.{MRow, row_with, expand_first, expand_rows, bind_at}
 use Rattle.pattern_arena.specs.declared.pattern.DePat.{DePat}
-use Rattle.pattern_arena.specs.Trees.{tree, placed_ctor}
+use Rattle.pattern_arena.specs.Trees.{tree}
 use Rattle.pattern_matrix.specs.Sparse.{SparseRow, SparseLeaf, bare_head, bare_row, head_at, heads_at, row_view, row_views, leaf_row, leaf_view, leaf_views}
 use Rattle.pattern_matrix.specs.Spreading.{leaf_of, spread, apart, all_apart}
-use Rattle.pattern_matrix.proofs.Bare.{is_wild-tree}
 
 -- a wildcard has one choice, itself
 wild_choices : {T : Type 0} (p : MDePat T) (row : ℕ) → is_wild (Some p) ≡ true → spread row [] p ≡ record { row = row; head = None; chosen = [] } ∷ []

@@ -1,24 +1,21 @@
 -- Submatrices whose rows are made bare say what they said.
-use Rattle.std.proofs.Common.{◌≡◌, ◌⊎◌, ◌↔◌, inl, inr, ℕ, Bool, true, false, not, ◌&&◌, ◌||◌, List, [], ◌∷◌, ◌++◌, map, length, nat_eq, Some, None, refl, sym, ap, subst, ◌∙◌}
-use Rattle.std.specs.List.{list_any, list_all, Contains}
+use Rattle.std.proofs.Common.{◌≡◌, ◌↔◌, ℕ, Bool, true, false, not, ◌&&◌, ◌||◌, List, [], ◌∷◌, map, nat_eq, Some, None, refl, sym, ap, ◌∙◌}
+use Rattle.std.specs.List.{list_any, list_all}
 use Rattle.match_model.specs.Values.{MValue}
 use Rattle.match_model.specs.Ways.{Way, bare_way}
 use Rattle.match_model.specs.Match.{counting_ways, goes_through}
-use Rattle.match_model.specs.Constructors.{WildCtor, OrCtor}
-use Rattle.match_model.specs.Contexts.{Context, Open}
-use Rattle.match_model.specs.ContextLaws.{PartsLaw, ValuesLaw}
+use Rattle.match_model.specs.Constructors.{WildCtor}
+use Rattle.match_model.specs.Contexts.{Context}
 use Rattle.match_model.specs.ArenaPatterns.{de_pat}
 use Rattle.match_model.specs.ArenaWays.{with_bounds}
-use Rattle.match_model.specs.Rows.{Head as MHead, is_wild, starts_wild, first_ctor, column_of}
-use Rattle.match_model.specs.Matrices.{MRow, MColumn, head_ways}
+use Rattle.match_model.specs.Rows.{Head as MHead, is_wild, starts_wild}
+use Rattle.match_model.specs.Matrices.{MColumn}
 use Rattle.match_model.specs.WellTyped.{AreHeadsTyped, IsHeadTyped}
-use Rattle.match_model.specs.Weights.{heads_weight, rows_weight}
-use Rattle.pat_context.specs.Parts.{AreValues}
-use Rattle.witness_laws.specs.Covering.{head_takes, row_takes, is_some_there}
+use Rattle.match_model.specs.Weights.{rows_weight}
+use Rattle.witness_laws.specs.Covering.{head_takes, row_takes}
 use Rattle.witness_laws.specs.HeadRows.{cols, AllTyped, AreMadeHeads, AreMadeRows, IsMadeHead}
-use Rattle.witness_laws.specs.Counting.{Question, WantedRow, has_chosen, head_passes, heads_pass, row_answers, row_stops, counts}
-use Rattle.witness_laws.specs.Searching.{Submatrix, heads_in, weight_of, IsFit, Comes, SomeComes, apart, IsSplit, AreListed, IsLookedAt, StandFor}
-use Rattle.witness_laws.proofs.HandingOn.{contains-map, from-map}
+use Rattle.witness_laws.specs.Counting.{Question, WantedRow, has_chosen, head_passes, heads_pass, counts}
+use Rattle.witness_laws.specs.Searching.{Submatrix, heads_in, weight_of, IsFit, Comes}
 use Rattle.pattern_matrix.specs.Sparse.{bare_head, bare_row}
 use Rattle.pattern_matrix.specs.Wanted.{bare_wanted, bare_submatrix}
 use Rattle.pattern_matrix.proofs.BareLaws.{bare_rows_weigh, bound_trace}
@@ -76,7 +73,8 @@ pub starts_bare : {T : Type 0} (hs : List (MHead T)) → starts_wild (map bare_h
 starts_bare [] = refl
 starts_bare (h ∷ hs) = bare_wild h
 
-typed_bare : {T : Type 0} (cx : Context T) (columns : List (MColumn T)) (hs : List (MHead T)) → AreHeadsTyped cx columns hs → AreHeadsTyped cx columns (map bare_head hs)
+typed_bare : {T : Type 0} (cx : Context T) (columns : List (MColumn T)) (hs : List (MHead T)) → AreHeadsTyped cx columns hs →
+    AreHeadsTyped cx columns (map bare_head hs)
 typed_bare cx [] [] h = h
 typed_bare cx [] (x ∷ hs) h = absurd h
 typed_bare cx (c ∷ columns) [] h = absurd h
@@ -97,7 +95,8 @@ counts_bare q (x ∷ rows) vs =
     ∙ ap (λ t. (x.wanted && (nat_eq q.arm x.row.arm && (t && (has_chosen q x.row.chosen || p)))) || (not (not x.row.guarded && t) && counts q rows vs)) (takes_bare x.row.heads vs)
     ∙ ap (λ p. (x.wanted && (nat_eq q.arm x.row.arm && (row_takes x.row.heads vs && (has_chosen q x.row.chosen || p)))) || (not (not x.row.guarded && row_takes x.row.heads vs) && counts q rows vs)) (passes_bare x.row.guarded q.id x.row.heads vs)
 
-all_typed_bare : {T : Type 0} (cx : Context T) (columns : List (MColumn T)) (rows : List (WantedRow T)) → AllTyped cx columns (heads_in rows) → AllTyped cx columns (heads_in (map bare_wanted rows))
+all_typed_bare : {T : Type 0} (cx : Context T) (columns : List (MColumn T)) (rows : List (WantedRow T)) → AllTyped cx columns (heads_in rows) →
+    AllTyped cx columns (heads_in (map bare_wanted rows))
 all_typed_bare cx columns [] h = tt
 all_typed_bare cx columns (x ∷ rows) h = (typed_bare cx columns x.row.heads h.0, all_typed_bare cx columns rows h.1)
 

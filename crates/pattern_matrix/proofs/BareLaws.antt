@@ -1,9 +1,9 @@
 -- Rows without the names that are caught and that wildcards bind.
-use Rattle.std.proofs.Common.{◌≡◌, ℕ, ◌+◌, ◌*◌, List, [], ◌∷◌, map, Some, None, refl, ap, ◌∙◌}
+use Rattle.std.proofs.Common.{◌≡◌, ◌+◌, ◌*◌, List, [], ◌∷◌, map, Some, None, refl, ap, ◌∙◌}
 use Rattle.match_model.specs.Values.{MValue}
 use Rattle.match_model.specs.Ways.{Way, bare_way}
 use Rattle.match_model.specs.Constructors.{WildCtor}
-use Rattle.match_model.specs.ArenaPatterns.{MBound, MDePat, de_pat}
+use Rattle.match_model.specs.ArenaPatterns.{MBound, de_pat}
 use Rattle.match_model.specs.ArenaWays.{with_bounds}
 use Rattle.match_model.specs.Rows.{Head as MHead}
 use Rattle.match_model.specs.Matrices.{MRow, head_ways}

@@ -1,5 +1,5 @@
 -- A submatrix is looked at where the children are listed from what is left of it, made bare.
-use Rattle.std.proofs.Common.{◌≡◌, ◌⊎◌, inl, inr, ◌<◌, ℕ, Bool, true, false, List, [], ◌∷◌, map, length, sym, ap, subst, ◌∙◌, arith}
+use Rattle.std.proofs.Common.{◌≡◌, ◌⊎◌, inl, inr, ◌<◌, Bool, true, false, List, [], ◌∷◌, map, length, sym, ap, subst, ◌∙◌, arith}
 use Rattle.std.specs.List.{list_all, Contains}
 use Rattle.match_model.specs.Values.{MValue}
 use Rattle.match_model.specs.Contexts.{Context, Open}
@@ -31,17 +31,20 @@ module _ {T : Type 0} (IsType : T → Type 0) (IsValue : T → Bool → MValue �
     falls = let k = l.falls in let e = weighs_bare n in omega (arith, k, e);
   }
 
-  stood_fit : (is_marked : Question → Bool) (n m : Submatrix T) → IsFit IsType IsValue cx n → m.places ≡ n.places → StandFor is_marked (length n.places) n.rows m.rows → IsFit IsType IsValue cx m
+  stood_fit : (is_marked : Question → Bool) (n m : Submatrix T) → IsFit IsType IsValue cx n → m.places ≡ n.places →
+      StandFor is_marked (length n.places) n.rows m.rows → IsFit IsType IsValue cx m
   stood_fit is_marked n m f e d =
       subst (λ ps. IsFit IsType IsValue cx (record { places = ps; rows = m.rows })) (sym e)
       (record { types = f.types; typed = part_typed cx n.places (heads_in m.rows) (heads_in n.rows) d.part f.typed; made = part_made (heads_in m.rows) (heads_in n.rows) d.part f.made; some = f.some })
 
-  stood_back : (is_marked : Question → Bool) (n m : Submatrix T) → m.places ≡ n.places → StandFor is_marked (length n.places) n.rows m.rows → (q : Question) → Comes IsValue q m → Comes IsValue q n
+  stood_back : (is_marked : Question → Bool) (n m : Submatrix T) → m.places ≡ n.places → StandFor is_marked (length n.places) n.rows m.rows →
+      (q : Question) → Comes IsValue q m → Comes IsValue q n
   stood_back is_marked n m e d q (vs, a, c) =
       let b = subst (λ ps. AreValues IsValue ps vs) e a in (vs, b, d.back q vs (values_long IsValue n.places vs b) c)
 
   pub bare_split_is_look : (old now : Question → Bool) (o : Open T) (places : List (Open T)) (rows : List (WantedRow T)) (left new : List (Submatrix T)) →
-      IsFit IsType IsValue cx (record { places = o ∷ places; rows = rows }) → list_all starts_wild (heads_in rows) ≡ false → IsSplit IsValue cx o places (apart rows) left →
+      IsFit IsType IsValue cx (record { places = o ∷ places; rows = rows }) → list_all starts_wild (heads_in rows) ≡ false →
+      IsSplit IsValue cx o places (apart rows) left →
       AreListed now (map bare_submatrix left) new → ((q : Question) → old q ≡ true → now q ≡ true) →
       ((q : Question) → now q ≡ true → (old q ≡ true) ⊎ SomeComes IsValue q (map bare_submatrix left)) →
       IsLookedAt IsType IsValue cx old now (record { places = o ∷ places; rows = rows }) new

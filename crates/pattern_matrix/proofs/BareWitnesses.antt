@@ -1,5 +1,5 @@
 -- Rows of heads have the witnesses that they have once they are made bare.
-use Rattle.std.proofs.Common.{◌≡◌, ℕ, Bool, true, false, ◌&&◌, ◌||◌, cond, List, [], ◌∷◌, ◌++◌, map, length, Option, Some, None, refl, sym, ap, subst, ◌∙◌, IsTrue}
+use Rattle.std.proofs.Common.{◌≡◌, ℕ, Bool, true, false, ◌&&◌, ◌||◌, cond, List, [], ◌∷◌, ◌++◌, map, Some, None, refl, sym, ap, subst, ◌∙◌}
 use Rattle.std.specs.List.{list_any, list_all, flat_map, cons_option}
 use Rattle.std.proofs.lemmas.List.{map-append}
 use Rattle.match_model.specs.Values.{MValue}
@@ -11,7 +11,6 @@ use Rattle.match_model.specs.Pieces.{ArePieces}
 use Rattle.match_model.specs.Rows.{Head as MHead, Choice, choices_of, is_wild, starts_wild, first_ctor, column_of, row_rest, expand_row, wildcards, heads_of, specialised_heads, all_specialised, parts_open}
 use Rattle.match_model.specs.WitnessList.{Witnesses, PieceWitnesses, are_wild, named_in, taken, covered, no_row, anything, by_pieces, no_piece, with_value, without_value}
 use Rattle.pattern_matrix.specs.Sparse.{bare_head}
-use Rattle.pattern_matrix.proofs.Apart.{bare-bare}
 use Rattle.pattern_matrix.proofs.BareCounts.{bare_wild, starts_bare}
 use Rattle.pattern_matrix.proofs.WantedSteps.{bare_all, bare_behind}
 
@@ -65,7 +64,8 @@ module _ {T : Type 0} (f : List (MHead T) → List (List (MHead T))) (same : (hs
   pub keeps_alike : (xs ys : List (List (MHead T))) → bare_heads ys ≡ bare_heads xs → bare_heads (flat_map f ys) ≡ bare_heads (flat_map f xs)
   keeps_alike xs ys e = rows_same ys ∙ ap (λ hss. bare_heads (flat_map f hss)) e ∙ sym (rows_same xs)
 
-choices_same : {T : Type 0} (cs : List (Choice T)) (rest : List (MHead T)) → bare_heads (map (λ c. Some c.pat ∷ rest) cs) ≡ bare_heads (map (λ c. Some c.pat ∷ map bare_head rest) cs)
+choices_same : {T : Type 0} (cs : List (Choice T)) (rest : List (MHead T)) →
+    bare_heads (map (λ c. Some c.pat ∷ rest) cs) ≡ bare_heads (map (λ c. Some c.pat ∷ map bare_head rest) cs)
 choices_same [] rest = refl
 choices_same (c ∷ cs) rest =
     ap (λ hs. (bare_head (Some c.pat) ∷ hs) ∷ bare_heads (map (λ c. Some c.pat ∷ rest) cs)) (sym (bare_all rest))
@@ -77,7 +77,8 @@ expand_same (None ∷ rest) = ap (λ hs. (None ∷ hs) ∷ []) (sym (bare_all re
 expand_same (Some (de_pat WildCtor t uid at subs binds) ∷ rest) = ap (λ hs. (None ∷ hs) ∷ []) (sym (bare_all rest))
 expand_same (Some (de_pat c t uid at subs binds) ∷ rest) = choices_same (choices_of (de_pat c t uid at subs binds)) rest
 
-special_same : {T : Type 0} (p : MCtor) (n : ℕ) (hs : List (MHead T)) → bare_heads (specialised_heads p n hs) ≡ bare_heads (specialised_heads p n (map bare_head hs))
+special_same : {T : Type 0} (p : MCtor) (n : ℕ) (hs : List (MHead T)) →
+    bare_heads (specialised_heads p n hs) ≡ bare_heads (specialised_heads p n (map bare_head hs))
 special_same p n [] = refl
 special_same p n (None ∷ rest) = ap (λ hs. hs ∷ []) (bare_behind (wildcards n) rest)
 special_same p n (Some (de_pat WildCtor t uid at subs binds) ∷ rest) = ap (λ hs. hs ∷ []) (bare_behind (wildcards n) rest)

@@ -1,13 +1,12 @@
 -- Ranges of pieces halved.
-use Rattle.std.proofs.Common.{◌≡◌, ℕ, zero, suc, ◌+◌, ◌-◌, ◌≤◌, ◌<◌, Bool, true, false, ◌&&◌, nat_le, nat_lt, cond, List, [], ◌∷◌, ◌++◌, length, filter, map, reverse, Option, Some, None, slice_get, refl, ap, sym, ◌∙◌, arith, subst, take, get_or}
+use Rattle.std.proofs.Common.{◌≡◌, ℕ, zero, suc, ◌+◌, ◌-◌, ◌≤◌, ◌<◌, Bool, true, false, ◌&&◌, nat_le, nat_lt, cond, List, [], ◌∷◌, ◌++◌, length, filter, Option, Some, None, slice_get, refl, ap, ◌∙◌, arith, take, get_or}
 use Rattle.std.specs.List.{All, flat_map}
 use Rattle.std.proofs.lemmas.List.Elements.{All-filter, All-nil, All-cons, filter-append}
 use Rattle.std.proofs.lemmas.List.{take_more, reverse-append}
 use Rattle.std.proofs.lemmas.Bool.Decides.{nat_tests}
-use Rattle.constructor_sets.specs.declared.piece.Span.{Span}
 use Rattle.pattern_matrix.specs.declared.halving.Part.{Part}
 use Rattle.pattern_matrix.specs.Sparse.{columns_from}
-use Rattle.pattern_matrix.specs.Halving.{span_has, span_meets, having, meeting, leaves_with, IsPart, one_meeting}
+use Rattle.pattern_matrix.specs.Halving.{span_has, span_meets, meeting, leaves_with, IsPart, one_meeting}
 use Rattle.pattern_matrix.specs.Parts.{pieces_in, pieces_left}
 
 -- a test that implies another passes the same of what the other passes
@@ -42,7 +41,8 @@ span_one first end None e = refl
 span_one first end (Some s) e = one_piece first end s.0 s.1 e
 
 -- the leaves of a part of one piece
-pub one_left : (spans : List (ℕ × ℕ)) (first end : ℕ) (numbers : List ℕ) → IsPart spans first end numbers → first + 1 ≡ end → meeting spans first end numbers ≡ leaves_with spans first
+pub one_left : (spans : List (ℕ × ℕ)) (first end : ℕ) (numbers : List ℕ) → IsPart spans first end numbers → first + 1 ≡ end →
+    meeting spans first end numbers ≡ leaves_with spans first
 one_left spans first end numbers is e =
     filter-same (λ k. span_meets first end (slice_get spans k)) (λ k. span_has first (slice_get spans k)) (λ k. span_one first end (slice_get spans k) e) numbers
     ∙ is.complete first (omega arith) is.some
@@ -67,7 +67,8 @@ columns_from-add first (suc m) n =
     let e : suc first + m ≡ first + suc m = omega arith in
     ap (columns_from first) z ∙ ap (λ xs. first ∷ xs) (columns_from-add (suc first) m n) ∙ ap (λ k. first ∷ (columns_from (suc first) m ++ columns_from k n)) e
 
-pub split_pieces : (first middle end : ℕ) → first ≤ middle → middle ≤ end → columns_from first (end - first) ≡ columns_from first (middle - first) ++ columns_from middle (end - middle)
+pub split_pieces : (first middle end : ℕ) → first ≤ middle → middle ≤ end →
+    columns_from first (end - first) ≡ columns_from first (middle - first) ++ columns_from middle (end - middle)
 split_pieces first middle end l m =
     let a : end - first ≡ (middle - first) + (end - middle) = omega arith in
     let b : first + (middle - first) ≡ middle = omega arith in
@@ -80,7 +81,8 @@ columns_from-more n = columns_from-add 0 n 1 ∙ ap (λ k. columns_from 0 n ++ k
 pub ruleset more_numbers = columns_from-more
 
 -- one more number that is looked at
-pub meeting-more : (spans : List (ℕ × ℕ)) (first end : ℕ) (numbers : List ℕ) (i : ℕ) (s : ℕ × ℕ) → i < length numbers → slice_get spans (get_or numbers i 0) ≡ Some s →
+pub meeting-more : (spans : List (ℕ × ℕ)) (first end : ℕ) (numbers : List ℕ) (i : ℕ) (s : ℕ × ℕ) → i < length numbers →
+    slice_get spans (get_or numbers i 0) ≡ Some s →
     meeting spans first end (take (i + 1) numbers) ≡ meeting spans first end (take i numbers) ++ one_meeting first end (get_or numbers i 0) s
 meeting-more spans first end numbers i s h e =
     let n = get_or numbers i 0 in

@@ -1,5 +1,5 @@
 -- A span for each leaf, from those of the leaves that are no wildcards.
-use Rattle.std.proofs.Common.{◌≡◌, ℕ, zero, suc, ◌+◌, ◌≤◌, ◌<◌, Bool, true, false, ◌&&◌, nat_le, nat_lt, List, [], ◌∷◌, ◌++◌, length, map, take, drop, get_or, Option, Some, None, slice_get, slice_index_or, refl, ap, sym, subst, ◌∙◌, inl, inr, arith}
+use Rattle.std.proofs.Common.{◌≡◌, ℕ, ◌+◌, ◌<◌, Bool, true, false, ◌&&◌, nat_le, nat_lt, List, [], ◌∷◌, ◌++◌, length, map, take, drop, get_or, Some, None, slice_get, slice_index_or, refl, ap, sym, subst, ◌∙◌, inl, inr, arith}
 use Rattle.std.specs.Option.{option_to_list}
 use Rattle.std.proofs.lemmas.Bool.{cases_lt}
 use Rattle.std.proofs.lemmas.Bool.Decides.{nat_tests}
@@ -50,7 +50,8 @@ other_span : {T : Type 0} (pieces : List MCtor) (l : SparseLeaf T) (s : ℕ × �
 other_span pieces l s o is = record { forward = is.forward; within = is.within; each = λ i d h. o.same (slice_index_or pieces i d) ∙ is.each i d h }
 
 -- one that is no wildcard takes the next span
-step_other : {T : Type 0} (pieces : List MCtor) (l : SparseLeaf T) (leaves : List (SparseLeaf T)) (spans : List (ℕ × ℕ)) (used : ℕ) (s : ℕ × ℕ) → is_wild l.head ≡ false →
+step_other : {T : Type 0} (pieces : List MCtor) (l : SparseLeaf T) (leaves : List (SparseLeaf T)) (spans : List (ℕ × ℕ)) (used : ℕ) (s : ℕ × ℕ) →
+    is_wild l.head ≡ false →
     slice_get spans used ≡ Some s → AreSpans pieces (leaf_ctors (l ∷ leaves)) (drop used spans) → IsLeafSpan pieces l s × AreSpans pieces (leaf_ctors leaves) (drop (used + 1) spans)
 step_other pieces l leaves spans used s e got h =
     let o = other_some l.head e in
@@ -59,13 +60,15 @@ step_other pieces l leaves spans used s e got h =
     (other_span pieces l s o two.0, two.1)
 
 -- a wildcard takes none
-step_wild : {T : Type 0} (pieces : List MCtor) (l : SparseLeaf T) (leaves : List (SparseLeaf T)) (spans : List (ℕ × ℕ)) → is_wild l.head ≡ true → AreSpans pieces (leaf_ctors (l ∷ leaves)) spans → AreSpans pieces (leaf_ctors leaves) spans
+step_wild : {T : Type 0} (pieces : List MCtor) (l : SparseLeaf T) (leaves : List (SparseLeaf T)) (spans : List (ℕ × ℕ)) → is_wild l.head ≡ true →
+    AreSpans pieces (leaf_ctors (l ∷ leaves)) spans → AreSpans pieces (leaf_ctors leaves) spans
 step_wild pieces l leaves spans e h = subst (λ o. AreSpans pieces (option_to_list o ++ leaf_ctors leaves) spans) (wild_none l.head e) h
 
 -- the span of the next leaf, and those of the leaves behind it
 pub spans_step : {T : Type 0} (pieces : List MCtor) (l : SparseLeaf T) (leaves : List (SparseLeaf T)) (spans : List (ℕ × ℕ)) (used next : ℕ) (s : ℕ × ℕ) →
     AreSpans pieces (leaf_ctors (l ∷ leaves)) (drop used spans) → (is_wild l.head ≡ true → (s ≡ (0, length pieces)) × (next ≡ used)) →
-    (is_wild l.head ≡ false → (slice_get spans used ≡ Some s) × (next ≡ used + 1)) → IsLeafSpan pieces l s × AreSpans pieces (leaf_ctors leaves) (drop next spans)
+    (is_wild l.head ≡ false → (slice_get spans used ≡ Some s) × (next ≡ used + 1)) →
+    IsLeafSpan pieces l s × AreSpans pieces (leaf_ctors leaves) (drop next spans)
 spans_step {T} pieces l leaves spans used next s h wild other = go (is_wild l.head) refl
   where
     go : (b : Bool) → is_wild l.head ≡ b → IsLeafSpan pieces l s × AreSpans pieces (leaf_ctors leaves) (drop next spans)
@@ -92,7 +95,8 @@ has_next pieces l leaves spans used h e =
     ]
 
 -- one leaf and its span more
-pub spans_push : {T : Type 0} (pieces : List MCtor) (leaves : List (SparseLeaf T)) (spans : List (ℕ × ℕ)) (l : SparseLeaf T) (s : ℕ × ℕ) → AreLeafSpans pieces leaves spans → IsLeafSpan pieces l s →
+pub spans_push : {T : Type 0} (pieces : List MCtor) (leaves : List (SparseLeaf T)) (spans : List (ℕ × ℕ)) (l : SparseLeaf T) (s : ℕ × ℕ) →
+    AreLeafSpans pieces leaves spans → IsLeafSpan pieces l s →
     AreLeafSpans pieces (leaves ++ l ∷ []) (spans ++ s ∷ [])
 spans_push pieces [] [] l s h is = (is, tt)
 spans_push pieces (x ∷ leaves) (y ∷ spans) l s h is = (h.0, spans_push pieces leaves spans l s h.1 is)
@@ -105,7 +109,8 @@ spans_push pieces (x ∷ leaves) [] l s h is = absurd h
 abbrev pub IsUnderWay : {X T : Type 0} → (f : X → SparseLeaf T) → (pieces : List MCtor) → (leaves : List X) → (i : ℕ) → (left done : List (ℕ × ℕ)) → Type 0
 IsUnderWay f pieces leaves i left done = AreSpans pieces (leaf_ctors (map f (drop i leaves))) left × AreLeafSpans pieces (map f (take i leaves)) done
 
-next_leaf : {X T : Type 0} (f : X → SparseLeaf T) (leaves : List X) (i : ℕ) (x : X) → i < length leaves → x ≡ get_or leaves i x → map f (drop i leaves) ≡ f x ∷ map f (drop (i + 1) leaves)
+next_leaf : {X T : Type 0} (f : X → SparseLeaf T) (leaves : List X) (i : ℕ) (x : X) → i < length leaves → x ≡ get_or leaves i x →
+    map f (drop i leaves) ≡ f x ∷ map f (drop (i + 1) leaves)
 next_leaf f leaves i x h e = ap (map f) (drop_more leaves i x h) ∙ ap (λ y. f y ∷ map f (drop (i + 1) leaves)) (sym e)
 
 -- there is a span for a leaf that is no wildcard
@@ -121,7 +126,7 @@ pub span_more : {X T : Type 0} (f : X → SparseLeaf T) (pieces : List MCtor) (l
 span_more f pieces leaves i x spans used next s done h e way wild other =
     let r = spans_step pieces (f x) (map f (drop (i + 1) leaves)) spans used next s (subst (λ ls. AreSpans pieces (leaf_ctors ls) (drop used spans)) (next_leaf f leaves i x h e) way.0) wild other in
     let more : map f (take i leaves) ++ f x ∷ [] ≡ map f (take (i + 1) leaves) =
-        ap (λ y. map f (take i leaves) ++ f y ∷ []) e ∙ sym (map-append f (take i leaves) (get_or leaves i x ∷ [])) ∙ ap (map f) (sym (take_more leaves i x h)) in
+    ap (λ y. map f (take i leaves) ++ f y ∷ []) e ∙ sym (map-append f (take i leaves) (get_or leaves i x ∷ [])) ∙ ap (map f) (sym (take_more leaves i x h)) in
     (r.1, subst (λ ls. AreLeafSpans pieces ls (done ++ s ∷ [])) more (spans_push pieces (map f (take i leaves)) done (f x) s way.1 r.0))
 
 -- one span more, as pairs

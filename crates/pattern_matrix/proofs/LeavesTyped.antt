@@ -1,6 +1,6 @@
 -- Well-typed rows have well-typed leaves, and these have heads of the set and write as many parts as their pieces have.
-use Rattle.std.proofs.Common.{◌≡◌, ℕ, suc, ◌<◌, Bool, true, false, ◌&&◌, List, [], ◌∷◌, ◌++◌, map, length, Option, Some, None, refl, sym, ap, subst, ◌∙◌, IsTrue}
-use Rattle.std.specs.List.{All, flat_map}
+use Rattle.std.proofs.Common.{◌≡◌, ℕ, suc, Bool, true, false, ◌&&◌, List, [], ◌∷◌, ◌++◌, map, length, Some, None, refl, sym, IsTrue}
+use Rattle.std.specs.List.{All}
 use Rattle.std.specs.Option.{option_to_list}
 use Rattle.std.proofs.lemmas.List.Elements.{All-head, All-tail, All-nil, All-cons, All-append}
 use Rattle.match_model.specs.Values.{MValue}
@@ -8,16 +8,16 @@ use Rattle.match_model.specs.Constructors.{MCtor, SingleCtor, PointCtor, LaterCt
 use Rattle.match_model.specs.Contexts.{Context, Open}
 use Rattle.match_model.specs.ContextLaws.{PartsLaw}
 use Rattle.match_model.specs.ArenaPatterns.{MDePat, de_pat}
-use Rattle.match_model.specs.Rows.{Head as MHead, Choice, choices_of, first_ctor, is_or_ctor, starts_or, expand_row}
+use Rattle.match_model.specs.Rows.{Head as MHead, Choice, choices_of, first_ctor, starts_or}
 use Rattle.match_model.specs.Matrices.{column_at}
 use Rattle.match_model.specs.WellTyped.{IsHeadTyped, IsTyped, is_written}
 use Rattle.match_model.proofs.Basics.{untrue}
 use Rattle.constructor_sets.specs.Present.{is_sharp_head}
-use Rattle.witness_laws.specs.HeadRows.{cols, AllTyped, all_heads}
+use Rattle.witness_laws.specs.HeadRows.{cols, AllTyped}
 use Rattle.witness_laws.proofs.Places.{expanded_typed, expanded_none, NoneOr}
 use Rattle.witness_laws.proofs.SpecialTyped.{head_fitted}
-use Rattle.pattern_matrix.specs.Sparse.{SparseRow, SparseLeaf, bare_head, head_at, row_views, head_has, leaf_parts}
-use Rattle.pattern_matrix.specs.Spreading.{leaf_of, spread, apart, all_apart}
+use Rattle.pattern_matrix.specs.Sparse.{SparseRow, SparseLeaf, bare_head, head_at, head_has, leaf_parts}
+use Rattle.pattern_matrix.specs.Spreading.{leaf_of, apart, all_apart}
 use Rattle.pattern_matrix.specs.Halving.{leaf_ctors}
 use Rattle.pattern_matrix.specs.Typing.{IsLeafTyped, AreLeavesTyped, AreViewsTyped}
 use Rattle.pattern_matrix.proofs.Listing.{length-wildcards}
@@ -27,11 +27,13 @@ module _ {T : Type 0} (cx : Context T) where
   bare_leaf : (t : T) (row : ℕ) (c : Choice T) → IsHeadTyped cx t (Some c.pat) → starts_or (Some c.pat ∷ []) ≡ false → IsLeafTyped cx t (leaf_of row [] c)
   bare_leaf t row c h o = go c.pat h o
     where
-      go : (p : MDePat T) → IsHeadTyped cx t (Some p) → starts_or (Some p ∷ []) ≡ false → IsLeafTyped cx t (record { row = row; head = bare_head (Some p); chosen = [] ++ c.chosen })
+      go : (p : MDePat T) → IsHeadTyped cx t (Some p) → starts_or (Some p ∷ []) ≡ false →
+          IsLeafTyped cx t (record { row = row; head = bare_head (Some p); chosen = [] ++ c.chosen })
       go (de_pat WildCtor u uid at subs binds) h o = record { head = tt; not_or = refl }
       go (de_pat _ u uid at subs binds) h o = record { head = h; not_or = o }
 
-  each_choice : (o : Open T) (row : ℕ) (cs : List (Choice T)) → AllTyped cx (cols (o ∷ [])) (map (λ c. Some c.pat ∷ []) cs ++ []) → NoneOr cx (map (λ c. Some c.pat ∷ []) cs ++ []) →
+  each_choice : (o : Open T) (row : ℕ) (cs : List (Choice T)) → AllTyped cx (cols (o ∷ [])) (map (λ c. Some c.pat ∷ []) cs ++ []) →
+      NoneOr cx (map (λ c. Some c.pat ∷ []) cs ++ []) →
       All (IsLeafTyped cx o.type) (map (leaf_of row []) cs)
   each_choice o row [] h n = All-nil (IsLeafTyped cx o.type)
   each_choice o row (c ∷ cs) h n = All-cons (IsLeafTyped cx o.type) (leaf_of row [] c) (map (leaf_of row []) cs) (bare_leaf o.type row c h.0.0 n.0) (each_choice o row cs h.1 n.1)
@@ -42,13 +44,15 @@ module _ {T : Type 0} (cx : Context T) where
       let one : AllTyped cx (cols (o ∷ [])) ((Some p ∷ []) ∷ []) = ((h, tt), tt) in
       each_choice o row (choices_of p) (expanded_typed cx (column_at [] o) [] ((Some p ∷ []) ∷ []) one) (expanded_none cx (column_at [] o) [] ((Some p ∷ []) ∷ []) one)
 
-  pub leaves_typed : (o : Open T) (places : List (Open T)) (column n : ℕ) (others : List ℕ) (rows : List (SparseRow T)) → AreViewsTyped cx (o ∷ places) (column ∷ others) rows → AreLeavesTyped cx o.type (all_apart column n rows)
+  pub leaves_typed : (o : Open T) (places : List (Open T)) (column n : ℕ) (others : List ℕ) (rows : List (SparseRow T)) →
+      AreViewsTyped cx (o ∷ places) (column ∷ others) rows → AreLeavesTyped cx o.type (all_apart column n rows)
   leaves_typed o places column n others [] h = All-nil (IsLeafTyped cx o.type)
   leaves_typed o places column n others (r ∷ rows) h =
       All-append (IsLeafTyped cx o.type) (apart n (head_at r.heads column)) (all_apart column (suc n) rows) (row_typed o n (head_at r.heads column) h.0.0) (leaves_typed o places column (suc n) others rows h.1)
 
   -- the constructors of the leaves are heads of the set
-  leaf_sharp : (t : T) (h : MHead T) → IsHeadTyped cx t h → starts_or (h ∷ []) ≡ false → All (λ c. IsTrue (is_sharp_head (cx.set_of t) c)) (option_to_list (first_ctor (bare_head h ∷ [])))
+  leaf_sharp : (t : T) (h : MHead T) → IsHeadTyped cx t h → starts_or (h ∷ []) ≡ false →
+      All (λ c. IsTrue (is_sharp_head (cx.set_of t) c)) (option_to_list (first_ctor (bare_head h ∷ [])))
   leaf_sharp t None h o = All-nil (λ c. IsTrue (is_sharp_head (cx.set_of t) c))
   leaf_sharp t (Some (de_pat d u uid at subs binds)) h o = go d h o
     where

@@ -1,5 +1,5 @@
 -- The laws of the steps, together.
-use Rattle.std.proofs.Common.{◌≡◌, ap, Bool, true, false, List, ◌∷◌, ◌++◌, length}
+use Rattle.std.proofs.Common.{ap, Bool, true, false, ◌∷◌, ◌++◌, length}
 use Rattle.match_model.specs.Values.{MValue}
 use Rattle.match_model.specs.Contexts.{Context}
 use Rattle.match_model.specs.ContextLaws.{PartsLaw, ValuesLaw}
@@ -17,7 +17,8 @@ use Rattle.pattern_matrix.proofs.Numbers as numbers
 use Rattle.pattern_matrix.proofs.WantedSteps.{wanted_apart, wanted_settled, wanted_enters, wanted_left}
 use Rattle.pattern_matrix.proofs.WantedHeads.{ctors_listed, wild_listed, none_listed, some_listed}
 
-pub bare_alike : {T : Type 0} (IsType : T → Type 0) (IsValue : T → Bool → MValue → Type 0) (cx : Context T) → ValuesLaw IsType IsValue cx → PartsLaw IsType IsValue cx → BareSubmatricesAreAlike IsType IsValue cx
+pub bare_alike : {T : Type 0} (IsType : T → Type 0) (IsValue : T → Bool → MValue → Type 0) (cx : Context T) → ValuesLaw IsType IsValue cx →
+    PartsLaw IsType IsValue cx → BareSubmatricesAreAlike IsType IsValue cx
 bare_alike IsType IsValue cx values law = record {
   same_counts = counts_bare;
   fit = fit_bare IsType IsValue cx;
@@ -29,7 +30,8 @@ bare_alike IsType IsValue cx values law = record {
 pub rows_witness : {T : Type 0} (IsValue : T → Bool → MValue → Type 0) (cx : Context T) → AlikeRowsHaveTheWitnesses IsValue cx
 rows_witness IsValue cx = λ places xs ys ws w e. alike_witnesses IsValue cx places xs ws w ys e
 
-pub leaves_are_typed : {T : Type 0} (IsType : T → Type 0) (IsValue : T → Bool → MValue → Type 0) (cx : Context T) → PartsLaw IsType IsValue cx → LeavesAreTyped IsType cx
+pub leaves_are_typed : {T : Type 0} (IsType : T → Type 0) (IsValue : T → Bool → MValue → Type 0) (cx : Context T) → PartsLaw IsType IsValue cx →
+    LeavesAreTyped IsType cx
 leaves_are_typed IsType IsValue cx law = record {
   typed = λ o places column others rows h. leaves_typed cx o places column 0 others rows h;
   sharp = leaves_sharp cx;

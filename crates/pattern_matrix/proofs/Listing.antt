@@ -1,8 +1,8 @@
 -- Dense heads as listed ones.
 use Rattle.std.proofs.Common.{◌≡◌, ◌≢◌, ℕ, zero, suc, ◌+◌, ◌-◌, ◌<◌, ◌≤◌, min, subst, Bool, List, [], ◌∷◌, ◌++◌, map, take, drop, length, cond, Option, Some, None, refl, ap, sym, ◌∙◌, inl, inr, true, false, arith, append_assoc, append-nil}
-use Rattle.match_model.specs.Constructors.{MCtor, WildCtor, RowCtor, LongerShape}
-use Rattle.match_model.specs.ArenaPatterns.{MDePat, de_pat, de_pats_of, de_pats_list}
-use Rattle.match_model.specs.Rows.{Head as MHead, is_wild, is_wild_ctor, wildcards, heads_of}
+use Rattle.match_model.specs.Constructors.{RowCtor, LongerShape}
+use Rattle.match_model.specs.ArenaPatterns.{MDePat, de_pats_of, de_pats_list}
+use Rattle.match_model.specs.Rows.{Head as MHead, is_wild, wildcards}
 use Rattle.std.proofs.lemmas.Bool.{cases_lt}
 use Rattle.std.proofs.lemmas.List.{take-map, drop-map, take_all, drop_all, length-map, length-take-le}
 use Rattle.slice_split.proofs.Below.{map-map}
@@ -18,7 +18,8 @@ listed-wildcards first zero = refl
 listed-wildcards first (suc n) = listed-wildcards (suc first) n
 
 -- the heads behind others stand behind those columns
-pub listed-append : {T : Type 0} (first next : ℕ) (xs ys : List (MHead T)) → first + length xs ≡ next → listed first (xs ++ ys) ≡ listed first xs ++ listed next ys
+pub listed-append : {T : Type 0} (first next : ℕ) (xs ys : List (MHead T)) → first + length xs ≡ next →
+    listed first (xs ++ ys) ≡ listed first xs ++ listed next ys
 listed-append first next [] ys e = let same : first ≡ next = omega arith in ap (λ k. listed k ys) same
 listed-append first next (None ∷ xs) ys e = listed-append (suc first) next xs ys (omega arith)
 listed-append {T} first next (Some p ∷ xs) ys e =

@@ -1,16 +1,17 @@
 -- Numbers of leaves that have a piece.
-use Rattle.std.proofs.Common.{◌≡◌, ℕ, zero, suc, ◌+◌, ◌<◌, ◌≤◌, Bool, true, false, ◌&&◌, nat_le, nat_lt, cond, List, [], ◌∷◌, ◌++◌, length, filter, Option, Some, None, slice_get, slice_index_or, refl, sym, ap, subst, ◌∙◌, arith}
+use Rattle.std.proofs.Common.{◌≡◌, ℕ, zero, suc, ◌<◌, Bool, true, false, cond, List, [], ◌∷◌, length, Option, Some, None, slice_get, slice_index_or, refl, sym, subst, ◌∙◌, arith}
 use Rattle.std.specs.List.{All}
 use Rattle.std.specs.Option.{option_to_list}
 use Rattle.std.proofs.lemmas.List.Elements.{All-head, All-tail, All-nil, All-cons, All-append}
 use Rattle.match_model.specs.Constructors.{MCtor}
 use Rattle.match_model.proofs.Basics.{untrue}
-use Rattle.pattern_matrix.specs.Sparse.{SparseLeaf, columns_from, head_has, leaf_parts, leaves_listed, IsLeafOf, AreParts}
-use Rattle.pattern_matrix.specs.Halving.{IsLeafSpan, AreLeafSpans, span_has, having, leaves_with}
+use Rattle.pattern_matrix.specs.Sparse.{SparseLeaf, head_has, leaf_parts, leaves_listed, IsLeafOf, AreParts}
+use Rattle.pattern_matrix.specs.Halving.{IsLeafSpan, AreLeafSpans, span_has, having}
 use Rattle.pattern_matrix.proofs.Opened.{at_get}
 
 -- the span at a number is that of the leaf there
-span_at : {T : Type 0} (pieces : List MCtor) (leaves : List (SparseLeaf T)) (spans : List (ℕ × ℕ)) → AreLeafSpans pieces leaves spans → (k : ℕ) (s : ℕ × ℕ) → slice_get spans k ≡ Some s →
+span_at : {T : Type 0} (pieces : List MCtor) (leaves : List (SparseLeaf T)) (spans : List (ℕ × ℕ)) → AreLeafSpans pieces leaves spans →
+    (k : ℕ) (s : ℕ × ℕ) → slice_get spans k ≡ Some s →
     (l : SparseLeaf T) × (slice_get leaves k ≡ Some l) × IsLeafSpan pieces l s
 span_at pieces [] [] are k s e = cc
 span_at pieces [] (x ∷ spans) are k s e = absurd are
@@ -31,7 +32,8 @@ module _ {T : Type 0} (pieces : List MCtor) (i : ℕ) (d : MCtor) (inside : i < 
   leaf_has : (k : ℕ) → Has k → (l : SparseLeaf T) × (slice_get leaves k ≡ Some l) × (head_has (slice_index_or pieces i d) l.head ≡ true)
   leaf_has k h = go (slice_get spans k) refl h
     where
-      go : (o : Option (ℕ × ℕ)) → slice_get spans k ≡ o → span_has i o ≡ true → (l : SparseLeaf T) × (slice_get leaves k ≡ Some l) × (head_has (slice_index_or pieces i d) l.head ≡ true)
+      go : (o : Option (ℕ × ℕ)) → slice_get spans k ≡ o → span_has i o ≡ true →
+          (l : SparseLeaf T) × (slice_get leaves k ≡ Some l) × (head_has (slice_index_or pieces i d) l.head ≡ true)
       go None e h = untrue h
       go (Some s) e h = let (l, g, is) = span_at pieces leaves spans are k s e in (l, g, is.each i d inside ∙ h)
 
@@ -49,8 +51,8 @@ module _ {T : Type 0} (pieces : List MCtor) (i : ℕ) (d : MCtor) (inside : i < 
     parts (k ∷ numbers) h =
         All-cons (AreParts count leaves) k numbers
         (λ l g. let (m, f, has) = leaf_has k (All-head Has k numbers h) in
-          let same : m ≡ l = cc in
-          at_get (λ l. head_has (slice_index_or pieces i d) l.head ≡ true → length (leaf_parts count l.head) ≡ count) leaves k l write g (subst (λ (x : SparseLeaf T). head_has (slice_index_or pieces i d) x.head ≡ true) same has))
+        let same : m ≡ l = cc in
+        at_get (λ l. head_has (slice_index_or pieces i d) l.head ≡ true → length (leaf_parts count l.head) ≡ count) leaves k l write g (subst (λ (x : SparseLeaf T). head_has (slice_index_or pieces i d) x.head ≡ true) same has))
         (parts numbers (All-tail Has k numbers h))
 
     -- and has the piece
@@ -59,7 +61,8 @@ module _ {T : Type 0} (pieces : List MCtor) (i : ℕ) (d : MCtor) (inside : i < 
     leaf_of (k ∷ numbers) h =
         All-append (IsLeafOf (slice_index_or pieces i d) count) (option_to_list (slice_get leaves k)) (leaves_listed leaves numbers) (one (leaf_has k (All-head Has k numbers h))) (leaf_of numbers (All-tail Has k numbers h))
       where
-        one : (l : SparseLeaf T) × (slice_get leaves k ≡ Some l) × (head_has (slice_index_or pieces i d) l.head ≡ true) → All (IsLeafOf (slice_index_or pieces i d) count) (option_to_list (slice_get leaves k))
+        one : (l : SparseLeaf T) × (slice_get leaves k ≡ Some l) × (head_has (slice_index_or pieces i d) l.head ≡ true) →
+            All (IsLeafOf (slice_index_or pieces i d) count) (option_to_list (slice_get leaves k))
         one (l, g, has) =
             subst (λ o. All (IsLeafOf (slice_index_or pieces i d) count) (option_to_list o)) (sym g)
             (All-cons (IsLeafOf (slice_index_or pieces i d) count) l []

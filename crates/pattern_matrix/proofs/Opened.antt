@@ -1,17 +1,17 @@
 -- The rows of a piece and the rows without a column, as the definitions have them.
-use Rattle.std.proofs.Common.{◌≡◌, ◌≢◌, ℕ, zero, suc, ◌+◌, ◌-◌, ◌<◌, ◌≤◌, subst, Bool, not, List, [], ◌∷◌, ◌++◌, map, length, cond, Option, Some, None, refl, ap, sym, ◌∙◌, inl, inr, true, false, arith, append_assoc, append-nil, slice_get, nat_eq, filter, IsTrue, get_or, drop, add-one}
+use Rattle.std.proofs.Common.{◌≡◌, ◌≢◌, ℕ, zero, suc, ◌+◌, ◌<◌, ◌≤◌, subst, Bool, not, List, [], ◌∷◌, ◌++◌, map, length, cond, Option, Some, None, refl, ap, sym, ◌∙◌, inl, inr, true, false, arith, append-nil, slice_get, nat_eq, get_or, drop, add-one}
 use Rattle.std.proofs.Math.Seq.{drop-cons}
-use Rattle.std.specs.List.{flat_map, All}
+use Rattle.std.specs.List.{All}
 use Rattle.std.specs.Option.{option_to_list}
 use Rattle.std.proofs.lemmas.Bool.{ne_eqb}
 use Rattle.std.proofs.lemmas.Bool.Decides.{eqb_tells}
 use Rattle.std.proofs.lemmas.List.{map-append}
 use Rattle.std.proofs.lemmas.Grind.{flat_map-append}
 use Rattle.std.proofs.lemmas.List.Elements.{All-head, All-tail, All-filter}
-use Rattle.match_model.specs.Constructors.{MCtor, WildCtor, OrCtor, has_piece}
-use Rattle.match_model.specs.ArenaPatterns.{MDePat, de_pat, de_pats_list}
+use Rattle.match_model.specs.Constructors.{MCtor, WildCtor, OrCtor}
+use Rattle.match_model.specs.ArenaPatterns.{MDePat, de_pat}
 use Rattle.match_model.specs.Places.{MStep}
-use Rattle.match_model.specs.Rows.{Head as MHead, is_wild, is_wild_ctor, wildcards, heads_of, specialised_heads, starts_wild, row_rest}
+use Rattle.match_model.specs.Rows.{Head as MHead, is_wild, specialised_heads, row_rest}
 use Rattle.match_model.specs.Matrices.{MRow, row_with, first_binds, first_wild, specialised_rows, default_rows}
 use Rattle.match_model.proofs.Basics.{nat_itself}
 use Rattle.pattern_matrix.specs.Sparse.{SparseRow, SparseLeaf, bare_head, bare_row, head_at, heads_at, row_view, row_views, leaf_row, leaf_view, leaf_views, columns_from, listed, without, AreHeadsBelow, AreBelow, leaf_parts, head_has, IsLeafOf, AreOthers, Lacks, leaves_listed}
@@ -35,12 +35,14 @@ listed_passed first c [] rest l = refl
 listed_passed first c (None ∷ hs) rest l = listed_passed (suc first) c hs rest (omega arith)
 listed_passed {T} first c (Some p ∷ hs) rest l = go (is_wild (Some p)) (listed_passed (suc first) c hs rest (omega arith))
   where
-    go : (b : Bool) → head_at (listed (suc first) hs ++ rest) c ≡ head_at rest c → head_at ((cond b [] ((first, p) ∷ []) ++ listed (suc first) hs) ++ rest) c ≡ head_at rest c
+    go : (b : Bool) → head_at (listed (suc first) hs ++ rest) c ≡ head_at rest c →
+        head_at ((cond b [] ((first, p) ∷ []) ++ listed (suc first) hs) ++ rest) c ≡ head_at rest c
     go true e = e
     go false e = passed (first, p) (listed (suc first) hs ++ rest) c (λ same. omega arith) ∙ e
 
 -- a head before the columns is passed over at all of them
-columns_passed : {T : Type 0} (x : ℕ × MDePat T) (heads : List (ℕ × MDePat T)) (start n : ℕ) → x.0 < start → heads_at (x ∷ heads) (columns_from start n) ≡ heads_at heads (columns_from start n)
+columns_passed : {T : Type 0} (x : ℕ × MDePat T) (heads : List (ℕ × MDePat T)) (start n : ℕ) → x.0 < start →
+    heads_at (x ∷ heads) (columns_from start n) ≡ heads_at heads (columns_from start n)
 columns_passed x heads start zero l = refl
 columns_passed x heads start (suc n) l =
     ap (λ h. h ∷ heads_at (x ∷ heads) (columns_from (suc start) n)) (passed x heads start (λ same. omega arith))
@@ -87,7 +89,8 @@ others_stand column first hs heads (c ∷ others) h =
     ∙ ap (λ xs. head_at heads c ∷ xs) (others_stand column first hs heads others (All-tail (λ d. (d < first) × (d ≢ column)) c others h))
 
 -- the heads at the other columns without those of one
-left_stand : {T : Type 0} (column : ℕ) (heads : List (ℕ × MDePat T)) (others : List ℕ) → Lacks column others → heads_at (without column heads) others ≡ heads_at heads others
+left_stand : {T : Type 0} (column : ℕ) (heads : List (ℕ × MDePat T)) (others : List ℕ) → Lacks column others →
+    heads_at (without column heads) others ≡ heads_at heads others
 left_stand column heads [] h = refl
 left_stand column heads (c ∷ others) h =
     ap (λ x. x ∷ heads_at (without column heads) others) (without_stand column c heads (All-head (λ d. d ≢ column) c others h))
@@ -98,7 +101,8 @@ pub without_below : {T : Type 0} (column first : ℕ) (heads : List (ℕ × MDeP
 without_below column first heads h = All-filter (λ x. not (nat_eq x.0 column)) (λ x. x.0 < first) heads h
 
 -- the one row of a leaf whose head has the piece
-pub special_one : {T : Type 0} (piece : MCtor) (n : ℕ) (h : MHead T) (hs : List (MHead T)) → head_has piece h ≡ true → specialised_heads piece n (bare_head h ∷ hs) ≡ (leaf_parts n h ++ hs) ∷ []
+pub special_one : {T : Type 0} (piece : MCtor) (n : ℕ) (h : MHead T) (hs : List (MHead T)) → head_has piece h ≡ true →
+    specialised_heads piece n (bare_head h ∷ hs) ≡ (leaf_parts n h ++ hs) ∷ []
 special_one piece n None hs e = refl
 special_one piece n (Some (de_pat WildCtor t uid at subs binds)) hs e = refl
 special_one piece n (Some (de_pat OrCtor t uid at subs binds)) hs e = cc
@@ -129,7 +133,8 @@ module _ {T : Type 0} (place : List MStep) (piece : MCtor) (column first count :
   opened_view l r is below =
       rw (special_one piece count l.head (heads_at r.heads others) is.has, opened_heads l r is.parts below, append-nil (r.chosen ++ l.chosen)) refl
 
-  one_opened : (rows : List (SparseRow T)) (l : SparseLeaf T) (o : Option (SparseRow T)) → ((r : SparseRow T) → o ≡ Some r → AreHeadsBelow first r.heads) → IsLeafOf piece count l →
+  one_opened : (rows : List (SparseRow T)) (l : SparseLeaf T) (o : Option (SparseRow T)) → ((r : SparseRow T) → o ≡ Some r → AreHeadsBelow first r.heads) →
+      IsLeafOf piece count l →
       row_views (columns_from first count ++ others) (map (opened_row column first count l) (option_to_list o)) ≡ map bare_row (specialised_rows place piece count (map (leaf_row others l) (option_to_list o)))
   one_opened rows l None below is = refl
   one_opened rows l (Some r) below is = opened_view l r is (below r refl)

@@ -1,6 +1,6 @@
 -- Columns that are open stay so.
-use Rattle.std.proofs.Common.{◌≡◌, ◌≢◌, ℕ, zero, suc, ◌+◌, ◌<◌, ◌≤◌, Bool, false, List, [], ◌∷◌, ◌++◌, map, length, Option, Some, None, slice_get, refl, sym, ap, subst, ◌∙◌, arith, append_assoc, length-append}
-use Rattle.std.specs.List.{All, Contains, flat_map}
+use Rattle.std.proofs.Common.{◌≡◌, ◌≢◌, ℕ, zero, suc, ◌+◌, ◌<◌, ◌≤◌, Bool, false, List, [], ◌∷◌, ◌++◌, map, length, Some, slice_get, refl, sym, ap, subst, ◌∙◌, arith, append_assoc, length-append}
+use Rattle.std.specs.List.{All, Contains}
 use Rattle.std.specs.Option.{option_to_list}
 use Rattle.std.proofs.lemmas.List.Elements.{All-head, All-tail, All-nil, All-cons, All-append, All-contains}
 use Rattle.std.proofs.lemmas.Grind.{flat_map-append}
@@ -8,8 +8,8 @@ use Rattle.match_model.specs.Contexts.{Open}
 use Rattle.match_model.specs.Rows.{is_wild}
 use Rattle.match_model.specs.ArenaPatterns.{MDePat}
 use Rattle.witness_laws.specs.Counting.{WantedRow}
-use Rattle.witness_laws.specs.Searching.{Submatrix, moved, put_second, moved_first}
-use Rattle.pattern_matrix.specs.Sparse.{SparseRow, columns_from, head_at, heads_at, row_view, AreBelow, AreHeadsBelow, AreOver, AreHeadsOver, AreOthers, Lacks}
+use Rattle.witness_laws.specs.Searching.{moved, put_second}
+use Rattle.pattern_matrix.specs.Sparse.{SparseRow, columns_from, head_at, row_view, AreBelow, AreHeadsBelow, AreOver, AreHeadsOver, AreOthers, Lacks}
 use Rattle.pattern_matrix.specs.Wanted.{wanted_views}
 use Rattle.pattern_matrix.specs.Opens.{places_at, AreDistinct, AreOpen, ColumnsStayOpen}
 use Rattle.pattern_matrix.proofs.Having.{got_some}
@@ -128,7 +128,8 @@ module _ {T : Type 0} (opens : List (Open T)) where
   one_place : (c : ℕ) (others : List ℕ) (o : Open T) → slice_get opens c ≡ Some o → places_at opens (c ∷ others) ≡ o ∷ places_at opens others
   one_place c others o e = ap (λ x. option_to_list x ++ places_at opens others) e
 
-  second_place : (c : ℕ) (o : Open T) → slice_get opens c ≡ Some o → (ys : List ℕ) → All (λ c. c < length opens) ys → places_at opens (put_second c ys) ≡ put_second o (places_at opens ys)
+  second_place : (c : ℕ) (o : Open T) → slice_get opens c ≡ Some o → (ys : List ℕ) → All (λ c. c < length opens) ys →
+      places_at opens (put_second c ys) ≡ put_second o (places_at opens ys)
   second_place c o e [] h = one_place c [] o e
   second_place c o e (y ∷ ys) h =
       let (p, g) = got_some opens y (All-head (λ c. c < length opens) y ys h) in
@@ -163,7 +164,8 @@ get_behind [] y ys (suc k) e = absurd (omega (arith, e))
 get_behind (x ∷ xs) y ys zero e = absurd (omega (arith, e))
 get_behind (x ∷ xs) y ys (suc k) e = get_behind xs y ys k (omega (arith, e))
 
-old_places : {T : Type 0} (opens parts : List (Open T)) (others : List ℕ) → All (λ c. c < length opens) others → places_at (opens ++ parts) others ≡ places_at opens others
+old_places : {T : Type 0} (opens parts : List (Open T)) (others : List ℕ) → All (λ c. c < length opens) others →
+    places_at (opens ++ parts) others ≡ places_at opens others
 old_places opens parts [] h = refl
 old_places opens parts (c ∷ others) h =
     ap (λ o. option_to_list o ++ places_at (opens ++ parts) others) (get_before opens parts c (All-head (λ c. c < length opens) c others h))

@@ -1,5 +1,5 @@
 -- Patterns taken apart, choice by choice.
-use Rattle.std.proofs.Common.{◌≡◌, ℕ, List, [], ◌∷◌, ◌++◌, map, length, nat_lt, cond, Some, refl, ap, sym, ◌∙◌, true, false, arith, append_assoc, append-nil}
+use Rattle.std.proofs.Common.{◌≡◌, ℕ, List, [], ◌∷◌, ◌++◌, map, length, nat_lt, Some, refl, ap, sym, ◌∙◌, true, false, arith, append_assoc, append-nil}
 use Rattle.std.proofs.lemmas.List.{map-append}
 use Rattle.match_model.specs.Constructors.{MCtor, OrCtor}
 use Rattle.match_model.specs.ArenaPatterns.{MBound, MDePat, MDePats, no_de_pats, more_de_pats, de_pats_of, de_pats_list, uid_of}
@@ -7,7 +7,7 @@ use Rattle.match_model.specs.Rows.{Choice, choices_of, all_choices_of, choice_am
 use Rattle.pattern_arena.specs.declared.pattern.DePat.{DePat, out-DePat}
 use Rattle.pattern_arena.specs.Trees.{tree, placed_ctor, placed_subs, plain_bound}
 use Rattle.pattern_arena.proofs.TreeFacts.{tree_out}
-use Rattle.pattern_matrix.specs.Sparse.{SparseLeaf, bare_head}
+use Rattle.pattern_matrix.specs.Sparse.{bare_head}
 use Rattle.pattern_matrix.specs.Spreading.{leaf_of, spread, spread_each}
 
 -- a pattern that is no or-pattern

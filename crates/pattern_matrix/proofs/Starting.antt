@@ -5,7 +5,7 @@ use Rattle.std.proofs.lemmas.List.Elements.{All-nil, All-cons}
 use Rattle.match_model.specs.ArenaPatterns.{MDePat, MDeArm}
 use Rattle.match_model.specs.Rows.{is_wild}
 use Rattle.match_model.specs.Matrices.{first_rows}
-use Rattle.pattern_matrix.specs.Sparse.{SparseRow, bare_head, bare_row, head_at, row_view, row_views, AreHeadsBelow, AreBelow}
+use Rattle.pattern_matrix.specs.Sparse.{bare_row, head_at, row_view, row_views, AreHeadsBelow, AreBelow}
 use Rattle.pattern_matrix.specs.Starting.{starting_row, starting_rows}
 
 head_stands : {T : Type 0} (p : MDePat T) (b : Bool) → is_wild (Some p) ≡ b → head_at (cond b [] ((0, p) ∷ [])) 0 ≡ cond b None (Some p)

@@ -1,9 +1,8 @@
 -- What stands at the first place of a submatrix whose rows list their heads.
-use Rattle.std.proofs.Common.{◌≡◌, ◌↔◌, ◌≢◌, ℕ, zero, suc, ◌<◌, Bool, true, false, ◌&&◌, ◌||◌, cond, List, [], ◌∷◌, ◌++◌, map, length, Option, Some, None, slice_get, nat_eq, refl, sym, ap, subst, ◌∙◌, inl, inr, arith}
-use Rattle.std.specs.List.{All, list_all, list_any, flat_map, filter_map, Contains}
+use Rattle.std.proofs.Common.{◌≡◌, ◌↔◌, ℕ, ◌<◌, Bool, true, false, ◌&&◌, ◌||◌, cond, List, [], ◌∷◌, ◌++◌, map, length, Some, None, nat_eq, refl, sym, ap, ◌∙◌, arith}
+use Rattle.std.specs.List.{All, list_all, list_any, Contains}
 use Rattle.std.specs.Option.{option_to_list}
 use Rattle.std.proofs.lemmas.List.Elements.{All-head, All-tail, filter_map-append}
-use Rattle.std.proofs.lemmas.List.Folds.{list_all-append}
 use Rattle.match_model.specs.Constructors.{MCtor, WildCtor}
 use Rattle.match_model.specs.ArenaPatterns.{MDePat, de_pat}
 use Rattle.match_model.specs.Rows.{Head as MHead, is_wild, starts_wild, first_ctor, column_of}
@@ -13,7 +12,7 @@ use Rattle.witness_laws.specs.Searching.{heads_in, apart, first_ctors}
 use Rattle.pattern_matrix.specs.Sparse.{SparseRow, SparseLeaf, bare_head, head_at, heads_at, leaf_row, AreHeadsOver, AreOver}
 use Rattle.pattern_matrix.specs.Spreading.{all_apart}
 use Rattle.pattern_matrix.specs.Halving.{leaf_ctors}
-use Rattle.pattern_matrix.specs.Wanted.{wanted_views, bare_wanted, is_leaf_wanted, of_leaf, wanted_leaves}
+use Rattle.pattern_matrix.specs.Wanted.{wanted_views, bare_wanted, is_leaf_wanted, wanted_leaves}
 use Rattle.pattern_matrix.proofs.Apart.{all_within}
 use Rattle.pattern_matrix.proofs.BareCounts.{bare_wild, all_wild_bare}
 use Rattle.pattern_matrix.proofs.BareWitnesses.{column_bare}
@@ -30,7 +29,8 @@ ctors_bare rows = ap column_of (heads_in_bare rows) ∙ column_bare (heads_in ro
 -- ---- leaves
 
 module _ {T : Type 0} (others : List ℕ) (wanted : List Bool) (rows : List (SparseRow T)) where
-  leaves_ctors : (leaves : List (SparseLeaf T)) → All (λ l. l.row < length rows) leaves → first_ctors (wanted_leaves others wanted false rows leaves) ≡ leaf_ctors leaves
+  leaves_ctors : (leaves : List (SparseLeaf T)) → All (λ l. l.row < length rows) leaves →
+      first_ctors (wanted_leaves others wanted false rows leaves) ≡ leaf_ctors leaves
   leaves_ctors [] h = refl
   leaves_ctors (l ∷ leaves) h =
       let some = got_some rows l.row (All-head (λ x. x.row < length rows) l leaves h) in
@@ -41,7 +41,8 @@ module _ {T : Type 0} (others : List ℕ) (wanted : List Bool) (rows : List (Spa
       ∙ ap (λ cs. cs ++ column_of more) (one_ctor first_ctor hs (first_ctor (bare_head l.head ∷ [])) (head_ctor (bare_head l.head) (heads_at some.0.heads others)))
       ∙ ap (λ cs. option_to_list (first_ctor (bare_head l.head ∷ [])) ++ cs) (leaves_ctors leaves (All-tail (λ x. x.row < length rows) l leaves h))
 
-  leaves_wild : (leaves : List (SparseLeaf T)) → All (λ l. l.row < length rows) leaves → list_all starts_wild (heads_in (wanted_leaves others wanted false rows leaves)) ≡ list_all (λ l. is_wild l.head) leaves
+  leaves_wild : (leaves : List (SparseLeaf T)) → All (λ l. l.row < length rows) leaves →
+      list_all starts_wild (heads_in (wanted_leaves others wanted false rows leaves)) ≡ list_all (λ l. is_wild l.head) leaves
   leaves_wild [] h = refl
   leaves_wild (l ∷ leaves) h =
       let some = got_some rows l.row (All-head (λ x. x.row < length rows) l leaves h) in
@@ -97,17 +98,20 @@ none_listed {T} (l ∷ leaves) = go (is_wild l.head) refl (none_listed leaves)
 -- ---- a head that is listed
 
 -- one of the heads stands at the column, and none is a wildcard
-head_stands : {T : Type 0} (columns : List ℕ) (column : ℕ) (heads : List (ℕ × MDePat T)) → AreHeadsOver columns heads → list_any (λ h. nat_eq h.0 column) heads ≡ true → is_wild (head_at heads column) ≡ false
+head_stands : {T : Type 0} (columns : List ℕ) (column : ℕ) (heads : List (ℕ × MDePat T)) → AreHeadsOver columns heads →
+    list_any (λ h. nat_eq h.0 column) heads ≡ true → is_wild (head_at heads column) ≡ false
 head_stands columns column [] over e = untrue e
 head_stands {T} columns column (x ∷ heads) over e =
     go (nat_eq x.0 column) e (head_stands columns column heads (All-tail (λ y. Contains columns y.0 × (is_wild (Some y.1) ≡ false)) x heads over))
   where
-    go : (b : Bool) → (b || list_any (λ (h : ℕ × MDePat T). nat_eq h.0 column) heads) ≡ true → (list_any (λ (h : ℕ × MDePat T). nat_eq h.0 column) heads ≡ true → is_wild (head_at heads column) ≡ false) →
+    go : (b : Bool) → (b || list_any (λ (h : ℕ × MDePat T). nat_eq h.0 column) heads) ≡ true →
+        (list_any (λ (h : ℕ × MDePat T). nat_eq h.0 column) heads ≡ true → is_wild (head_at heads column) ≡ false) →
         is_wild (cond b (bare_head (Some x.1)) (head_at heads column)) ≡ false
     go true e f = bare_wild (Some x.1) ∙ (All-head (λ y. Contains columns y.0 × (is_wild (Some y.1) ≡ false)) x heads over).1
     go false e f = f e
 
-pub some_listed : {T : Type 0} (column : ℕ) (others columns : List ℕ) (wanted : List Bool) (rows : List (SparseRow T)) → length wanted ≡ length rows → AreOver columns rows →
+pub some_listed : {T : Type 0} (column : ℕ) (others columns : List ℕ) (wanted : List Bool) (rows : List (SparseRow T)) → length wanted ≡ length rows →
+    AreOver columns rows →
     list_any (λ r. list_any (λ h. nat_eq h.0 column) r.heads) rows ≡ true → list_all starts_wild (heads_in (wanted_views (column ∷ others) wanted rows)) ≡ false
 some_listed column others columns wanted [] l over e = untrue e
 some_listed column others columns [] (r ∷ rows) l over e = absurd (omega (arith, l))
@@ -118,7 +122,8 @@ some_listed {T} column others columns (w ∷ wanted) (r ∷ rows) l over e =
     closed true = refl
     closed false = refl
 
-    go : (b : Bool) → list_any (λ (h : ℕ × MDePat T). nat_eq h.0 column) r.heads ≡ b → (b || list_any (λ (r : SparseRow T). list_any (λ h. nat_eq h.0 column) r.heads) rows) ≡ true →
+    go : (b : Bool) → list_any (λ (h : ℕ × MDePat T). nat_eq h.0 column) r.heads ≡ b →
+        (b || list_any (λ (r : SparseRow T). list_any (λ h. nat_eq h.0 column) r.heads) rows) ≡ true →
         (list_any (λ (r : SparseRow T). list_any (λ h. nat_eq h.0 column) r.heads) rows ≡ true → list_all starts_wild (heads_in (wanted_views (column ∷ others) wanted rows)) ≡ false) →
         (is_wild (head_at r.heads column) && list_all starts_wild (heads_in (wanted_views (column ∷ others) wanted rows))) ≡ false
     go true b e f = ap (λ x. x && list_all starts_wild (heads_in (wanted_views (column ∷ others) wanted rows))) (head_stands columns column r.heads (All-head (λ x. AreHeadsOver columns x.heads) r rows over) b)

@@ -1,5 +1,5 @@
 -- The steps of a submatrix do to its rows, made bare, what they do to listed rows.
-use Rattle.std.proofs.Common.{◌≡◌, ◌<◌, ◌+◌, ℕ, zero, suc, Bool, true, false, not, ◌&&◌, cond, List, [], ◌∷◌, ◌++◌, map, filter, length, Option, Some, None, slice_get, slice_index_or, refl, sym, ap, ◌∙◌, arith, append-nil}
+use Rattle.std.proofs.Common.{◌≡◌, ◌+◌, ℕ, zero, suc, Bool, true, false, not, ◌&&◌, cond, List, [], ◌∷◌, ◌++◌, map, filter, length, Option, Some, None, slice_get, slice_index_or, refl, sym, ap, ◌∙◌, arith, append-nil}
 use Rattle.std.specs.List.{All, flat_map}
 use Rattle.std.specs.Option.{option_to_list}
 use Rattle.std.proofs.lemmas.List.{map-append}
@@ -9,7 +9,7 @@ use Rattle.match_model.specs.Constructors.{MCtor, WildCtor, OrCtor, has_piece}
 use Rattle.match_model.specs.ArenaPatterns.{de_pat, de_pats_list}
 use Rattle.match_model.specs.Rows.{Head as MHead, Choice, choices_of, is_wild, starts_wild, wildcards, heads_of}
 use Rattle.match_model.specs.Matrices.{MRow}
-use Rattle.match_model.specs.Steps.{Replacement, expand_head, specialise_head, default_head, own_binds, with_others, replacements_at, row_replaced}
+use Rattle.match_model.specs.Steps.{Replacement, expand_head, specialise_head, default_head, with_others, replacements_at, row_replaced}
 use Rattle.witness_laws.specs.Counting.{WantedRow, wanted_at}
 use Rattle.witness_laws.specs.Searching.{apart, settled}
 use Rattle.pattern_matrix.specs.Sparse.{SparseRow, SparseLeaf, bare_head, bare_row, head_at, heads_at, row_view, leaf_row, columns_from, AreHeadsBelow, AreBelow, AreOthers, Lacks, head_has, leaf_parts}
@@ -144,7 +144,8 @@ settle_leaf {T} others wanted rows l = go (slice_get rows l.row)
     go None = refl
     go (Some r) = ap (λ b. record { row = leaf_row others l r; wanted = b } ∷ []) flag
 
-settle_leaves : {T : Type 0} (others : List ℕ) (wanted : List Bool) (rows : List (SparseRow T)) (leaves : List (SparseLeaf T)) → settled (wanted_leaves others wanted false rows leaves) ≡ wanted_leaves others wanted true rows leaves
+settle_leaves : {T : Type 0} (others : List ℕ) (wanted : List Bool) (rows : List (SparseRow T)) (leaves : List (SparseLeaf T)) →
+    settled (wanted_leaves others wanted false rows leaves) ≡ wanted_leaves others wanted true rows leaves
 settle_leaves others wanted rows [] = refl
 settle_leaves {T} others wanted rows (l ∷ leaves) =
     map-append (λ (x : WantedRow T). record { row = x.row; wanted = x.wanted && not (starts_wild x.row.heads) }) (of_leaf wanted false rows (leaf_row others) l) (wanted_leaves others wanted false rows leaves)
@@ -218,7 +219,8 @@ module _ {T : Type 0} (piece : MCtor) (column first count : ℕ) (others : List 
       ∙ ap (λ xs. cond (head_has piece l.head) (opened_of l) [] ++ xs) (enter_leaves leaves (All-tail P l leaves parts))
       ∙ join (head_has piece l.head) l kept
     where
-      join : (b : Bool) (l : SparseLeaf T) (kept : List (SparseLeaf T)) → cond b (opened_of l) [] ++ flat_map opened_of kept ≡ flat_map opened_of (cond b (l ∷ kept) kept)
+      join : (b : Bool) (l : SparseLeaf T) (kept : List (SparseLeaf T)) →
+          cond b (opened_of l) [] ++ flat_map opened_of kept ≡ flat_map opened_of (cond b (l ∷ kept) kept)
       join true l kept = refl
       join false l kept = refl
 
@@ -246,7 +248,8 @@ module _ {T : Type 0} (column : ℕ) (others : List ℕ) (lacks : Lacks column o
   abbrev dropped_of : SparseLeaf T → List (WantedRow T)
   dropped_of l = of_leaf wanted false rows (λ l r. row_view others (dropped_row column l r)) l
 
-  drop_leaf : (l : SparseLeaf T) (b : Bool) → is_wild l.head ≡ b → map bare_wanted (default (of_leaf wanted false rows (leaf_row others) l)) ≡ cond b (dropped_of l) []
+  drop_leaf : (l : SparseLeaf T) (b : Bool) → is_wild l.head ≡ b →
+      map bare_wanted (default (of_leaf wanted false rows (leaf_row others) l)) ≡ cond b (dropped_of l) []
   drop_leaf l b wild = go (slice_get rows l.row)
     where
       w : Bool
@@ -281,7 +284,8 @@ module _ {T : Type 0} (column : ℕ) (others : List ℕ) (lacks : Lacks column o
       ∙ ap (λ xs. cond (is_wild l.head) (dropped_of l) [] ++ xs) (drop_leaves leaves)
       ∙ join (is_wild l.head) l kept
     where
-      join : (b : Bool) (l : SparseLeaf T) (kept : List (SparseLeaf T)) → cond b (dropped_of l) [] ++ flat_map dropped_of kept ≡ flat_map dropped_of (cond b (l ∷ kept) kept)
+      join : (b : Bool) (l : SparseLeaf T) (kept : List (SparseLeaf T)) →
+          cond b (dropped_of l) [] ++ flat_map dropped_of kept ≡ flat_map dropped_of (cond b (l ∷ kept) kept)
       join true l kept = refl
       join false l kept = refl
 

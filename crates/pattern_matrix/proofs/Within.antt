@@ -1,13 +1,13 @@
 -- At which columns the heads stand that the steps list.
-use Rattle.std.proofs.Common.{◌≡◌, ◌≢◌, ℕ, zero, suc, ◌+◌, ◌<◌, ◌≤◌, Bool, true, false, not, List, [], ◌∷◌, ◌++◌, map, length, cond, Option, Some, None, slice_get, nat_eq, refl, ap, sym, subst, ◌∙◌, inl, inr, arith}
+use Rattle.std.proofs.Common.{◌≡◌, ◌≢◌, ℕ, zero, suc, ◌+◌, ◌<◌, Bool, true, false, List, [], ◌∷◌, ◌++◌, map, length, cond, Option, Some, None, slice_get, refl, sym, subst, inl, inr, arith}
 use Rattle.std.specs.List.{flat_map, All, Contains}
 use Rattle.std.specs.Option.{option_to_list}
 use Rattle.std.proofs.lemmas.Bool.Decides.{eqb_tells}
-use Rattle.std.proofs.lemmas.List.Elements.{All-head, All-tail, All-nil, All-cons, All-append, All-contains, Contains-append_left, Contains-append_right}
+use Rattle.std.proofs.lemmas.List.Elements.{All-head, All-tail, All-nil, All-cons, All-append, Contains-append_left, Contains-append_right}
 use Rattle.match_model.specs.ArenaPatterns.{MDePat, MDeArm}
 use Rattle.match_model.specs.Rows.{Head as MHead, is_wild}
 use Rattle.pattern_matrix.specs.Sparse.{SparseRow, SparseLeaf, columns_from, listed, without, AreHeadsBelow, AreBelow, AreHeadsOver, AreOver, leaf_parts, leaves_listed, AreParts}
-use Rattle.pattern_matrix.specs.Opening.{opened_row, opened_leaf, opened_rows, dropped_row, dropped_leaf, dropped_rows}
+use Rattle.pattern_matrix.specs.Opening.{opened_row, opened_rows, dropped_row, dropped_leaf, dropped_rows}
 use Rattle.pattern_matrix.specs.Starting.{starting_row, starting_rows}
 use Rattle.pattern_matrix.proofs.Opened.{at_get, more_below, without_below}
 
@@ -28,7 +28,8 @@ all_more P Q (x ∷ xs) f h = All-cons Q x xs (f x (All-head P x xs h)) (all_mor
 
 -- ---- heads
 
-pub more_over : {T : Type 0} (cs ds : List ℕ) (heads : List (ℕ × MDePat T)) → ((c : ℕ) → Contains cs c → Contains ds c) → AreHeadsOver cs heads → AreHeadsOver ds heads
+pub more_over : {T : Type 0} (cs ds : List ℕ) (heads : List (ℕ × MDePat T)) → ((c : ℕ) → Contains cs c → Contains ds c) → AreHeadsOver cs heads →
+    AreHeadsOver ds heads
 more_over cs ds heads f h = all_more (λ x. Contains cs x.0 × (is_wild (Some x.1) ≡ false)) (λ x. Contains ds x.0 × (is_wild (Some x.1) ≡ false)) heads (λ x k. (f x.0 k.0, k.1)) h
 
 -- the listed heads stand at the columns from the first on, and are no wildcards
@@ -43,7 +44,8 @@ listed_over {T} first (Some p ∷ hs) = go (is_wild (Some p)) refl (more_over (c
     go false e h = All-cons (λ x. Contains (first ∷ columns_from (suc first) (length hs)) x.0 × (is_wild (Some x.1) ≡ false)) (first, p) (listed (suc first) hs) (contains_here first (columns_from (suc first) (length hs)), e) h
 
 -- the other heads stand at the other columns
-pub without_over : {T : Type 0} (column : ℕ) (others : List ℕ) (heads : List (ℕ × MDePat T)) → AreHeadsOver (column ∷ others) heads → AreHeadsOver others (without column heads)
+pub without_over : {T : Type 0} (column : ℕ) (others : List ℕ) (heads : List (ℕ × MDePat T)) → AreHeadsOver (column ∷ others) heads →
+    AreHeadsOver others (without column heads)
 without_over {T} column others [] h = All-nil (λ (x : ℕ × MDePat T). Contains others x.0 × (is_wild (Some x.1) ≡ false))
 without_over {T} column others (x ∷ heads) h =
     let one = All-head (λ y. Contains (column ∷ others) y.0 × (is_wild (Some y.1) ≡ false)) x heads h in
@@ -58,7 +60,8 @@ listed_below first [] = All-nil (λ x. x.0 < first + 0)
 listed_below first (None ∷ hs) = more_below (suc first + length hs) (first + suc (length hs)) (listed (suc first) hs) (omega arith) (listed_below (suc first) hs)
 listed_below {T} first (Some p ∷ hs) = go (is_wild (Some p)) (more_below (suc first + length hs) (first + suc (length hs)) (listed (suc first) hs) (omega arith) (listed_below (suc first) hs))
   where
-    go : (b : Bool) → AreHeadsBelow (first + suc (length hs)) (listed (suc first) hs) → AreHeadsBelow (first + suc (length hs)) (cond b [] ((first, p) ∷ []) ++ listed (suc first) hs)
+    go : (b : Bool) → AreHeadsBelow (first + suc (length hs)) (listed (suc first) hs) →
+        AreHeadsBelow (first + suc (length hs)) (cond b [] ((first, p) ∷ []) ++ listed (suc first) hs)
     go true h = h
     go false h = All-cons (λ x. x.0 < first + suc (length hs)) (first, p) (listed (suc first) hs) (omega arith) h
 
@@ -67,7 +70,8 @@ listed_below {T} first (Some p ∷ hs) = go (is_wild (Some p)) (more_below (suc 
 -- what holds of the rows of each leaf holds of the rows of all
 each_leaf : {T : Type 0} (P : SparseRow T → Type 0) (Q : SparseRow T → Type 0) (R : SparseLeaf T → Type 0) (f : SparseLeaf T → SparseRow T → SparseRow T) →
     ((l : SparseLeaf T) (r : SparseRow T) → R l → P r → Q (f l r)) →
-    (rows : List (SparseRow T)) (leaves : List (SparseLeaf T)) → All P rows → All R leaves → All Q (flat_map (λ l. map (f l) (option_to_list (slice_get rows l.row))) leaves)
+    (rows : List (SparseRow T)) (leaves : List (SparseLeaf T)) → All P rows → All R leaves →
+    All Q (flat_map (λ l. map (f l) (option_to_list (slice_get rows l.row))) leaves)
 each_leaf P Q R f k rows [] h are = All-nil Q
 each_leaf {T} P Q R f k rows (l ∷ leaves) h are =
     All-append Q (map (f l) (option_to_list (slice_get rows l.row))) (flat_map (λ x. map (f x) (option_to_list (slice_get rows x.row))) leaves)
@@ -78,18 +82,21 @@ each_leaf {T} P Q R f k rows (l ∷ leaves) h are =
     go (Some r) g = All-cons Q (f l r) [] (k l r (All-head R l leaves are) (g r refl)) (All-nil Q)
 
 -- the leaves with these numbers write so many parts
-parts_listed : {T : Type 0} (count : ℕ) (leaves : List (SparseLeaf T)) (numbers : List ℕ) → All (AreParts count leaves) numbers → All (λ l. length (leaf_parts count l.head) ≡ count) (leaves_listed leaves numbers)
+parts_listed : {T : Type 0} (count : ℕ) (leaves : List (SparseLeaf T)) (numbers : List ℕ) → All (AreParts count leaves) numbers →
+    All (λ l. length (leaf_parts count l.head) ≡ count) (leaves_listed leaves numbers)
 parts_listed {T} count leaves [] h = All-nil (λ (l : SparseLeaf T). length (leaf_parts count l.head) ≡ count)
 parts_listed {T} count leaves (k ∷ numbers) h =
     All-append (λ l. length (leaf_parts count l.head) ≡ count) (option_to_list (slice_get leaves k)) (leaves_listed leaves numbers)
     (go (slice_get leaves k) (All-head (AreParts count leaves) k numbers h)) (parts_listed count leaves numbers (All-tail (AreParts count leaves) k numbers h))
   where
-    go : (o : Option (SparseLeaf T)) → ((l : SparseLeaf T) → o ≡ Some l → length (leaf_parts count l.head) ≡ count) → All (λ l. length (leaf_parts count l.head) ≡ count) (option_to_list o)
+    go : (o : Option (SparseLeaf T)) → ((l : SparseLeaf T) → o ≡ Some l → length (leaf_parts count l.head) ≡ count) →
+        All (λ l. length (leaf_parts count l.head) ≡ count) (option_to_list o)
     go None f = All-nil (λ (l : SparseLeaf T). length (leaf_parts count l.head) ≡ count)
     go (Some l) f = All-cons (λ (x : SparseLeaf T). length (leaf_parts count x.head) ≡ count) l [] (f l refl) (All-nil (λ (x : SparseLeaf T). length (leaf_parts count x.head) ≡ count))
 
 -- the heads of one row that is opened
-pub row_opened_over : {T : Type 0} (column first count : ℕ) (others : List ℕ) (l : SparseLeaf T) (r : SparseRow T) → length (leaf_parts count l.head) ≡ count → AreHeadsOver (column ∷ others) r.heads →
+pub row_opened_over : {T : Type 0} (column first count : ℕ) (others : List ℕ) (l : SparseLeaf T) (r : SparseRow T) →
+    length (leaf_parts count l.head) ≡ count → AreHeadsOver (column ∷ others) r.heads →
     AreHeadsOver (columns_from first count ++ others) (opened_row column first count l r).heads
 row_opened_over column first count others l r e h =
     let hs = leaf_parts count l.head in
@@ -98,7 +105,8 @@ row_opened_over column first count others l r e h =
     (more_over cs (cs ++ others) (listed first hs) (Contains-append_left cs others) (subst (λ n. AreHeadsOver (columns_from first n) (listed first hs)) e (listed_over first hs)))
     (more_over others (cs ++ others) (without column r.heads) (Contains-append_right cs others) (without_over column others r.heads h))
 
-pub row_opened_below : {T : Type 0} (column first count : ℕ) (l : SparseLeaf T) (r : SparseRow T) → length (leaf_parts count l.head) ≡ count → AreHeadsBelow first r.heads →
+pub row_opened_below : {T : Type 0} (column first count : ℕ) (l : SparseLeaf T) (r : SparseRow T) → length (leaf_parts count l.head) ≡ count →
+    AreHeadsBelow first r.heads →
     AreHeadsBelow (first + count) (opened_row column first count l r).heads
 row_opened_below column first count l r e h =
     let hs = leaf_parts count l.head in
@@ -106,13 +114,15 @@ row_opened_below column first count l r e h =
     (subst (λ n. AreHeadsBelow (first + n) (listed first hs)) e (listed_below first hs))
     (more_below first (first + count) (without column r.heads) (omega arith) (without_below column first r.heads h))
 
-pub opened_over : {T : Type 0} (column first count : ℕ) (others : List ℕ) (rows : List (SparseRow T)) (leaves : List (SparseLeaf T)) (numbers : List ℕ) → All (AreParts count leaves) numbers →
+pub opened_over : {T : Type 0} (column first count : ℕ) (others : List ℕ) (rows : List (SparseRow T)) (leaves : List (SparseLeaf T)) (numbers : List ℕ) →
+    All (AreParts count leaves) numbers →
     AreOver (column ∷ others) rows → AreOver (columns_from first count ++ others) (opened_rows column first count rows (leaves_listed leaves numbers))
 opened_over {T} column first count others rows leaves numbers parts over =
     each_leaf (λ r. AreHeadsOver (column ∷ others) r.heads) (λ r. AreHeadsOver (columns_from first count ++ others) r.heads) (λ l. length (leaf_parts count l.head) ≡ count) (opened_row column first count)
     (row_opened_over column first count others) rows (leaves_listed leaves numbers) over (parts_listed count leaves numbers parts)
 
-pub opened_below : {T : Type 0} (column first count : ℕ) (rows : List (SparseRow T)) (leaves : List (SparseLeaf T)) (numbers : List ℕ) → All (AreParts count leaves) numbers →
+pub opened_below : {T : Type 0} (column first count : ℕ) (rows : List (SparseRow T)) (leaves : List (SparseLeaf T)) (numbers : List ℕ) →
+    All (AreParts count leaves) numbers →
     AreBelow first rows → AreBelow (first + count) (opened_rows column first count rows (leaves_listed leaves numbers))
 opened_below {T} column first count rows leaves numbers parts below =
     each_leaf (λ r. AreHeadsBelow first r.heads) (λ r. AreHeadsBelow (first + count) r.heads) (λ l. length (leaf_parts count l.head) ≡ count) (opened_row column first count)
@@ -131,11 +141,13 @@ each_dropped {T} P Q column k rows (l ∷ leaves) h =
     go true None g = All-nil Q
     go true (Some r) g = All-cons Q (dropped_row column l r) [] (k l r (g r refl)) (All-nil Q)
 
-pub dropped_over : {T : Type 0} (column : ℕ) (others : List ℕ) (rows : List (SparseRow T)) (leaves : List (SparseLeaf T)) → AreOver (column ∷ others) rows → AreOver others (dropped_rows column rows leaves)
+pub dropped_over : {T : Type 0} (column : ℕ) (others : List ℕ) (rows : List (SparseRow T)) (leaves : List (SparseLeaf T)) → AreOver (column ∷ others) rows →
+    AreOver others (dropped_rows column rows leaves)
 dropped_over column others rows leaves over =
     each_dropped (λ r. AreHeadsOver (column ∷ others) r.heads) (λ r. AreHeadsOver others r.heads) column (λ l r h. without_over column others r.heads h) rows leaves over
 
-pub dropped_below : {T : Type 0} (column n : ℕ) (rows : List (SparseRow T)) (leaves : List (SparseLeaf T)) → AreBelow n rows → AreBelow n (dropped_rows column rows leaves)
+pub dropped_below : {T : Type 0} (column n : ℕ) (rows : List (SparseRow T)) (leaves : List (SparseLeaf T)) → AreBelow n rows →
+    AreBelow n (dropped_rows column rows leaves)
 dropped_below column n rows leaves below =
     each_dropped (λ r. AreHeadsBelow n r.heads) (λ r. AreHeadsBelow n r.heads) column (λ l r h. without_below column n r.heads h) rows leaves below
 

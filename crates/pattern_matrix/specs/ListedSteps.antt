@@ -1,6 +1,6 @@
 -- What the steps of a submatrix do, told by rows that list their heads.
 use Rattle.std.specs.Prelude.{◌≡◌, ◌⊎◌, ◌↔◌, ◌<◌, ◌+◌, ℕ, Bool, true, false, List, [], ◌∷◌, ◌++◌, map, filter, length, nat_eq, replicate, slice_get, slice_index_or, IsTrue}
-use Rattle.std.specs.List.{All, list_all, list_any, Contains}
+use Rattle.std.specs.List.{All, list_all, list_any}
 use Rattle.match_model.specs.Values.{MValue}
 use Rattle.match_model.specs.Witness.{MWitness}
 use Rattle.match_model.specs.WitnessList.{Witnesses}
@@ -42,7 +42,8 @@ AlikeRowsHaveTheWitnesses {T} IsValue cx =
 -- the leaves of well-typed rows are well typed; then their constructors are heads of the type's set, and each that has a piece
 -- of it writes as many parts as the piece has
 pub record LeavesAreTyped {T : Type 0} (IsType : T → Type 0) (cx : Context T) : Type 0 where
-  pub typed : (o : Open T) (places : List (Open T)) (column : ℕ) (others : List ℕ) (rows : List (SparseRow T)) → AreViewsTyped cx (o ∷ places) (column ∷ others) rows →
+  pub typed : (o : Open T) (places : List (Open T)) (column : ℕ) (others : List ℕ) (rows : List (SparseRow T)) →
+      AreViewsTyped cx (o ∷ places) (column ∷ others) rows →
       AreLeavesTyped cx o.type (all_apart column 0 rows)
   pub sharp : (t : T) (leaves : List (SparseLeaf T)) → AreLeavesTyped cx t leaves → All (λ c. IsTrue (is_sharp_head (cx.set_of t) c)) (leaf_ctors leaves)
   pub parts : (t : T) (piece : MCtor) → IsType t → IsTrue (belongs (cx.set_of t) piece) → (leaves : List (SparseLeaf T)) → AreLeavesTyped cx t leaves →
@@ -52,14 +53,18 @@ pub record LeavesAreTyped {T : Type 0} (IsType : T → Type 0) (cx : Context T) 
 -- many parts these do. The numbers that halving finds for the piece are such
 pub record NumbersHaveThePiece (T : Type 0) : Type 0 where
   pub found : (i : ℕ) (spans : List (ℕ × ℕ)) → All (λ k. span_has i (slice_get spans k) ≡ true) (leaves_with spans i)
-  pub below : (pieces : List MCtor) (i : ℕ) (d : MCtor) → i < length pieces → (leaves : List (SparseLeaf T)) (spans : List (ℕ × ℕ)) → AreLeafSpans pieces leaves spans →
+  pub below : (pieces : List MCtor) (i : ℕ) (d : MCtor) → i < length pieces → (leaves : List (SparseLeaf T)) (spans : List (ℕ × ℕ)) →
+      AreLeafSpans pieces leaves spans →
       (numbers : List ℕ) → All (λ k. span_has i (slice_get spans k) ≡ true) numbers → All (λ k. k < length leaves) numbers
-  pub parts : (pieces : List MCtor) (i : ℕ) (d : MCtor) → i < length pieces → (leaves : List (SparseLeaf T)) (spans : List (ℕ × ℕ)) → AreLeafSpans pieces leaves spans →
+  pub parts : (pieces : List MCtor) (i : ℕ) (d : MCtor) → i < length pieces → (leaves : List (SparseLeaf T)) (spans : List (ℕ × ℕ)) →
+      AreLeafSpans pieces leaves spans →
       (count : ℕ) → All (λ l. head_has (slice_index_or pieces i d) l.head ≡ true → length (leaf_parts count l.head) ≡ count) leaves →
       (numbers : List ℕ) → All (λ k. span_has i (slice_get spans k) ≡ true) numbers → All (AreParts count leaves) numbers
-  pub leaf_of : (pieces : List MCtor) (i : ℕ) (d : MCtor) → i < length pieces → (leaves : List (SparseLeaf T)) (spans : List (ℕ × ℕ)) → AreLeafSpans pieces leaves spans →
+  pub leaf_of : (pieces : List MCtor) (i : ℕ) (d : MCtor) → i < length pieces → (leaves : List (SparseLeaf T)) (spans : List (ℕ × ℕ)) →
+      AreLeafSpans pieces leaves spans →
       (count : ℕ) → All (λ l. head_has (slice_index_or pieces i d) l.head ≡ true → length (leaf_parts count l.head) ≡ count) leaves →
-      (numbers : List ℕ) → All (λ k. span_has i (slice_get spans k) ≡ true) numbers → All (IsLeafOf (slice_index_or pieces i d) count) (leaves_listed leaves numbers)
+      (numbers : List ℕ) → All (λ k. span_has i (slice_get spans k) ≡ true) numbers →
+      All (IsLeafOf (slice_index_or pieces i d) count) (leaves_listed leaves numbers)
 
 -- the steps of a submatrix whose rows list their heads, its first column being this one: what is left of it, made bare, has
 -- the rows of the leaves
@@ -74,26 +79,31 @@ pub record StepsAreListed (T : Type 0) : Type 0 where
       list_any (λ r. list_any (λ h. nat_eq h.0 column) r.heads) rows ≡ true →
       list_all starts_wild (heads_in (wanted_views (column ∷ others) wanted rows)) ≡ false
   -- the rows without the column
-  pub drops : (places : List (Open T)) (column : ℕ) (others : List ℕ) (wanted : List Bool) (rows : List (SparseRow T)) → length wanted ≡ length rows → Lacks column others →
+  pub drops : (places : List (Open T)) (column : ℕ) (others : List ℕ) (wanted : List Bool) (rows : List (SparseRow T)) → length wanted ≡ length rows →
+      Lacks column others →
       bare_submatrix (left_over places (apart (wanted_views (column ∷ others) wanted rows)))
       ≡ record { places = places; rows = wanted_dropped others column wanted rows (filter (λ l. is_wild l.head) (all_apart column 0 rows)) }
   -- the rows of a piece
-  pub enters : (cx : Context T) (o : Open T) (places : List (Open T)) (piece : MCtor) (column first : ℕ) (others : List ℕ) (wanted : List Bool) (rows : List (SparseRow T)) →
+  pub enters : (cx : Context T) (o : Open T) (places : List (Open T)) (piece : MCtor) (column first : ℕ) (others : List ℕ)
+      (wanted : List Bool) (rows : List (SparseRow T)) →
       length wanted ≡ length rows → AreOthers column first others → AreBelow first rows →
       All (λ l. head_has piece l.head ≡ true → length (leaf_parts (cx.arity piece o.type) l.head) ≡ cx.arity piece o.type) (all_apart column 0 rows) →
       bare_submatrix (entered cx o places (apart (wanted_views (column ∷ others) wanted rows)) piece)
       ≡ record {
         places = parts_open cx o piece ++ places;
-        rows = wanted_opened (columns_from first (cx.arity piece o.type) ++ others) column first (cx.arity piece o.type) wanted false rows (filter (λ l. head_has piece l.head) (all_apart column 0 rows));
+        rows = wanted_opened (columns_from first (cx.arity piece o.type) ++ others) column first (cx.arity piece o.type) wanted false rows
+            (filter (λ l. head_has piece l.head) (all_apart column 0 rows));
       }
   -- and where wildcards are looked for elsewhere
-  pub settles : (cx : Context T) (o : Open T) (places : List (Open T)) (piece : MCtor) (column first : ℕ) (others : List ℕ) (wanted : List Bool) (rows : List (SparseRow T)) →
+  pub settles : (cx : Context T) (o : Open T) (places : List (Open T)) (piece : MCtor) (column first : ℕ) (others : List ℕ)
+      (wanted : List Bool) (rows : List (SparseRow T)) →
       length wanted ≡ length rows → AreOthers column first others → AreBelow first rows →
       All (λ l. head_has piece l.head ≡ true → length (leaf_parts (cx.arity piece o.type) l.head) ≡ cx.arity piece o.type) (all_apart column 0 rows) →
       bare_submatrix (entered cx o places (settled (apart (wanted_views (column ∷ others) wanted rows))) piece)
       ≡ record {
         places = parts_open cx o piece ++ places;
-        rows = wanted_opened (columns_from first (cx.arity piece o.type) ++ others) column first (cx.arity piece o.type) wanted true rows (filter (λ l. head_has piece l.head) (all_apart column 0 rows));
+        rows = wanted_opened (columns_from first (cx.arity piece o.type) ++ others) column first (cx.arity piece o.type) wanted true rows
+            (filter (λ l. head_has piece l.head) (all_apart column 0 rows));
       }
 
 -- the row behind all arms
@@ -102,7 +112,8 @@ behind_row arm = record { heads = []; arm = arm; guarded = false; chosen = [] }
 
 -- the rows over columns, one by one
 pub record ViewsAreListed (T : Type 0) : Type 0 where
-  pub heads : (columns : List ℕ) (wanted : List Bool) (rows : List (SparseRow T)) → length wanted ≡ length rows → heads_in (wanted_views columns wanted rows) ≡ all_heads (row_views columns rows)
+  pub heads : (columns : List ℕ) (wanted : List Bool) (rows : List (SparseRow T)) → length wanted ≡ length rows →
+      heads_in (wanted_views columns wanted rows) ≡ all_heads (row_views columns rows)
   pub push : (columns : List ℕ) (wanted : List Bool) (rows : List (SparseRow T)) (w : Bool) (r : SparseRow T) → length wanted ≡ length rows →
       wanted_views columns (wanted ++ w ∷ []) (rows ++ r ∷ []) ≡ wanted_views columns wanted rows ++ record { row = row_view columns r; wanted = w } ∷ []
   pub long : (columns : List ℕ) (r : SparseRow T) → length (row_view columns r).heads ≡ length columns

@@ -1,5 +1,5 @@
 -- What becomes of a row when a piece of a column is entered, or the column is dropped.
-use Rattle.std.specs.Prelude.{ℕ, List, [], ◌∷◌, ◌++◌, map, cond, slice_get, Some, None}
+use Rattle.std.specs.Prelude.{ℕ, List, [], ◌++◌, map, cond, slice_get, Some}
 use Rattle.std.specs.List.{flat_map}
 use Rattle.std.specs.Option.{option_to_list}
 use Rattle.match_model.specs.Constructors.{MCtor}

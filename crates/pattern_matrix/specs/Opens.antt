@@ -1,5 +1,5 @@
 -- Open columns and their places, by numbers.
-use Rattle.std.specs.Prelude.{◌≡◌, ⊤, ◌<◌, ◌≤◌, ◌+◌, ℕ, Bool, List, [], ◌∷◌, ◌++◌, length, Some, slice_get}
+use Rattle.std.specs.Prelude.{◌≡◌, ⊤, ◌<◌, ◌+◌, ℕ, Bool, List, [], ◌∷◌, ◌++◌, length, Some, slice_get}
 use Rattle.std.specs.List.{All, Contains, flat_map}
 use Rattle.std.specs.Option.{option_to_list}
 use Rattle.match_model.specs.Contexts.{Open}
@@ -33,10 +33,13 @@ pub record ColumnsStayOpen (T : Type 0) : Type 0 where
   pub over : (i : ℕ) (columns : List ℕ) (rows : List (SparseRow T)) → AreOver columns rows → AreOver (moved i columns) rows
   -- a submatrix with another place first has the rows over another column first
   pub rows : (i : ℕ) (columns : List ℕ) (places : List (Open T)) (wanted : List Bool) (rows : List (SparseRow T)) →
-      moved_first i (record { places = places; rows = wanted_views columns wanted rows }) ≡ record { places = moved i places; rows = wanted_views (moved i columns) wanted rows }
-  pub places : (i : ℕ) (opens : List (Open T)) (columns : List ℕ) → All (λ c. c < length opens) columns → places_at opens (moved i columns) ≡ moved i (places_at opens columns)
+      moved_first i (record { places = places; rows = wanted_views columns wanted rows })
+      ≡ record { places = moved i places; rows = wanted_views (moved i columns) wanted rows }
+  pub places : (i : ℕ) (opens : List (Open T)) (columns : List ℕ) → All (λ c. c < length opens) columns →
+      places_at opens (moved i columns) ≡ moved i (places_at opens columns)
   -- the places of a column and of others, and those of parts and of others
-  pub place : (opens : List (Open T)) (column : ℕ) (others : List ℕ) (o : Open T) → slice_get opens column ≡ Some o → places_at opens (column ∷ others) ≡ o ∷ places_at opens others
+  pub place : (opens : List (Open T)) (column : ℕ) (others : List ℕ) (o : Open T) → slice_get opens column ≡ Some o →
+      places_at opens (column ∷ others) ≡ o ∷ places_at opens others
   pub part_places : (opens parts : List (Open T)) (others : List ℕ) → All (λ c. c < length opens) others →
       places_at (opens ++ parts) (columns_from (length opens) (length parts) ++ others) ≡ parts ++ places_at opens others
   pub long : (opens : List (Open T)) (columns : List ℕ) → All (λ c. c < length opens) columns → length (places_at opens columns) ≡ length columns

@@ -1,6 +1,6 @@
 -- What is still to be looked at of a column.
 use Rattle.std.specs.Prelude.{ℕ, ◌-◌, List, map, reverse}
-use Rattle.std.specs.List.{All, flat_map}
+use Rattle.std.specs.List.{flat_map}
 use Rattle.constructor_sets.specs.declared.piece.Span.{Span}
 use Rattle.constructor_sets.specs.Spans.{plain_span}
 use Rattle.pattern_matrix.specs.declared.halving.Part.{Part}

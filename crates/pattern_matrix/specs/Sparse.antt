@@ -1,6 +1,6 @@
 -- Rows that list only their heads that are no wildcards, and the rows of the definitions that they stand for.
-use Rattle.std.specs.Prelude.{◌≡◌, ◌≢◌, ℕ, zero, suc, ◌<◌, true, false, Bool, not, cond, nat_eq, List, [], ◌∷◌, ◌++◌, map, filter, length, Option, Some, None, slice_get}
-use Rattle.std.specs.List.{All, Contains, flat_map, filter_map}
+use Rattle.std.specs.Prelude.{◌≡◌, ◌≢◌, ℕ, zero, suc, ◌<◌, true, false, Bool, not, cond, nat_eq, List, [], ◌∷◌, ◌++◌, map, filter, length, Some, None, slice_get}
+use Rattle.std.specs.List.{All, Contains, flat_map}
 use Rattle.std.specs.Option.{option_to_list}
 use Rattle.match_model.specs.Constructors.{MCtor, has_piece}
 use Rattle.match_model.specs.ArenaPatterns.{MDePat, de_pat, de_pats_list}

@@ -37,7 +37,8 @@ pub fn open_columns<C: PatCx>(
     requires ty { C.is_type cx.now column.now.ty }
     requires belongs { IsTrue (belongs ((C.context cx.now).set_of column.now.ty) (plain_ctor piece.now)) }
     requires held { HasFewItems (plain_ctor piece.now) }
-    ensures opened { OnOk result (plain_columns columns.new.items ≡ plain_columns columns.old.items ++ parts_open (C.context cx.now) (plain_column column.now) (plain_ctor piece.now)) }
+    ensures opened { OnOk result (plain_columns columns.new.items ≡ plain_columns columns.old.items
+        ++ parts_open (C.context cx.now) (plain_column column.now) (plain_ctor piece.now)) }
     ensures count { IfOk result (λ n. n ≡ (C.context cx.now).arity (plain_ctor piece.now) column.now.ty) }
 {
     let count = count_parts(cx, piece, column.ty);

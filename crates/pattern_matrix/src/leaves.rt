@@ -104,7 +104,8 @@ fn add_leaf<'a, T: Copy>(
     p: &'a DePat<'a, T>,
     chosen: &[u64],
 ) -> Result<(), NoMemory>
-    ensures { OnOk result (plain_leaves leaves.new.items ≡ plain_leaves leaves.old.items ++ (record { row = row; head = bare_head (Some (tree p.entry.now)); chosen = chosen.now }) ∷ []) }
+    ensures { OnOk result (plain_leaves leaves.new.items ≡ plain_leaves leaves.old.items
+        ++ (record { row = row; head = bare_head (Some (tree p.entry.now)); chosen = chosen.now }) ∷ []) }
 {
     let chosen = SmallVec::from_slice(alloc, chosen)?;
     leaves.push(Leaf {
@@ -152,7 +153,8 @@ pub fn leaves_at<'a, T: Copy>(
 ) -> Result<Vec<Leaf<'a, T>>, NoMemory>
     ensures leaves { IfOk result (λ v. plain_leaves v.items ≡ all_apart column 0 (plain_rows rows.now)) }
     ensures rows { IfOk result (λ v. (place : List MStep) (others : List ℕ)
-        → leaf_views others (plain_rows rows.now) (plain_leaves v.items) ≡ map bare_row (expand_rows place (row_views (column ∷ others) (plain_rows rows.now)))) }
+        → leaf_views others (plain_rows rows.now) (plain_leaves v.items)
+        ≡ map bare_row (expand_rows place (row_views (column ∷ others) (plain_rows rows.now)))) }
     ensures within { IfOk result (λ v. All (λ l. l.row < length rows.now) v.items) }
 {
     let leaves = row_leaves(alloc, rows, column)?;

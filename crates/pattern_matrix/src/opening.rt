@@ -26,7 +26,8 @@ pub(crate) fn add_head<'a, T: Copy>(
     column: usize,
     pat: &'a DePat<'a, T>,
 ) -> Result<(), NoMemory>
-    ensures { OnOk result (plain_heads heads.new.items ≡ plain_heads heads.old.items ++ cond (is_wild (Some (tree pat.entry.now))) [] ((column, tree pat.entry.now) ∷ [])) }
+    ensures { OnOk result (plain_heads heads.new.items ≡ plain_heads heads.old.items
+        ++ cond (is_wild (Some (tree pat.entry.now))) [] ((column, tree pat.entry.now) ∷ [])) }
 {
     if !is_wild(&pat.ctor) {
         heads.push(Head { column, pat })?;
@@ -60,7 +61,8 @@ fn add_items<'a, T: Copy>(
     count: usize,
 ) -> Result<(), NoMemory>
     requires { first + (length subs.now + (count - (front + back))) < 2 ^ 64 }
-    ensures { OnOk result (plain_heads heads.new.items ≡ plain_heads heads.old.items ++ listed first (pattern_parts count (RowCtor (LongerShape front back)) subs.entry.now)) }
+    ensures { OnOk result (plain_heads heads.new.items ≡ plain_heads heads.old.items
+        ++ listed first (pattern_parts count (RowCtor (LongerShape front back)) subs.entry.now)) }
 {
     let cut = subs.len().min(front as usize);
     let (start, end) = subs.split_at(cut);
@@ -82,7 +84,8 @@ fn add_parts<'a, T: Copy>(
 ) -> Result<(), NoMemory>
     requires fits { first + count < 2 ^ 64 }
     requires parts { length (pattern_parts count (placed_ctor p.now) (placed_subs p.now)) ≡ count }
-    ensures { OnOk result (plain_heads heads.new.items ≡ plain_heads heads.old.items ++ listed first (pattern_parts count (placed_ctor p.entry.now) (placed_subs p.entry.now))) }
+    ensures { OnOk result (plain_heads heads.new.items ≡ plain_heads heads.old.items
+        ++ listed first (pattern_parts count (placed_ctor p.entry.now) (placed_subs p.entry.now))) }
 {
     match p.ctor {
         Ctor::Wild => Ok(()),
@@ -177,7 +180,8 @@ fn add_opened<'a, T: Copy>(
     requires within { leaf.now.row < length rows.now }
     requires fits { first + count < 2 ^ 64 }
     requires parts { length (leaf_parts count (plain_leaf leaf.now).head) ≡ count }
-    ensures { OnOk result (plain_rows opened.new.items ≡ plain_rows opened.old.items ++ opened_leaf column first count (plain_rows rows.now) (plain_leaf leaf.now)) }
+    ensures { OnOk result (plain_rows opened.new.items ≡ plain_rows opened.old.items
+        ++ opened_leaf column first count (plain_rows rows.now) (plain_leaf leaf.now)) }
 {
     let new = opened_row(alloc, &rows[leaf.row], leaf, column, first, count)?;
     opened.push(new)?;
@@ -202,12 +206,14 @@ pub fn piece_rows<'a, T: Copy>(
     requires within { All (λ l. l.row < length rows.now) leaves.now }
     requires parts { All (λ k. AreParts count (plain_leaves leaves.now) k) numbers.now }
     requires fits { first + count < 2 ^ 64 }
-    ensures opened { IfOk result (λ v. plain_rows v.items ≡ opened_rows column first count (plain_rows rows.now) (leaves_listed (plain_leaves leaves.now) numbers.now)) }
-    ensures rows { IfOk result (λ v. (place : List MStep) (piece : MCtor) (others : List ℕ) → AreBelow first (plain_rows rows.now) → AreOthers column first others
-        → All (IsLeafOf piece count) (leaves_listed (plain_leaves leaves.now) numbers.now)
+    ensures opened { IfOk result (λ v. plain_rows v.items
+        ≡ opened_rows column first count (plain_rows rows.now) (leaves_listed (plain_leaves leaves.now) numbers.now)) }
+    ensures rows { IfOk result (λ v. (place : List MStep) (piece : MCtor) (others : List ℕ) → AreBelow first (plain_rows rows.now)
+        → AreOthers column first others → All (IsLeafOf piece count) (leaves_listed (plain_leaves leaves.now) numbers.now)
         → row_views (columns_from first count ++ others) (plain_rows v.items)
         ≡ map bare_row (specialised_rows place piece count (leaf_views others (plain_rows rows.now) (leaves_listed (plain_leaves leaves.now) numbers.now)))) }
-    ensures over { IfOk result (λ v. (others : List ℕ) → AreOver (column ∷ others) (plain_rows rows.now) → AreOver (columns_from first count ++ others) (plain_rows v.items)) }
+    ensures over { IfOk result (λ v. (others : List ℕ) → AreOver (column ∷ others) (plain_rows rows.now)
+        → AreOver (columns_from first count ++ others) (plain_rows v.items)) }
     ensures within { IfOk result (λ v. AreBelow first (plain_rows rows.now) → AreBelow (first + count) (plain_rows v.items)) }
 {
     let opened = opened_rows(alloc, rows, leaves, numbers, column, first, count)?;
@@ -228,7 +234,8 @@ fn opened_rows<'a, T: Copy>(
     requires within { All (λ l. l.row < length rows.now) leaves.now }
     requires parts { All (λ k. AreParts count (plain_leaves leaves.now) k) numbers.now }
     requires fits { first + count < 2 ^ 64 }
-    ensures { IfOk result (λ v. plain_rows v.items ≡ opened_rows column first count (plain_rows rows.now) (leaves_listed (plain_leaves leaves.now) numbers.now)) }
+    ensures { IfOk result (λ v. plain_rows v.items
+        ≡ opened_rows column first count (plain_rows rows.now) (leaves_listed (plain_leaves leaves.now) numbers.now)) }
 {
     let mut opened = Vec::with_capacity(alloc, numbers.len())?;
     for k in numbers {

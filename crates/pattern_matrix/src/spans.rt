@@ -24,7 +24,8 @@ fn add_ctor<'a, T: Copy>(
     ctors: &mut Vec<Ctor<'a>>,
     head: Option<&'a DePat<'a, T>>,
 ) -> Result<(), NoMemory>
-    ensures { OnOk result (plain_ctors ctors.new.items ≡ plain_ctors ctors.old.items ++ option_to_list (first_ctor (bare_head (plain_pattern head.entry) ∷ []))) }
+    ensures { OnOk result (plain_ctors ctors.new.items ≡ plain_ctors ctors.old.items
+        ++ option_to_list (first_ctor (bare_head (plain_pattern head.entry) ∷ []))) }
 {
     match head {
         None => Ok(()),
@@ -71,7 +72,13 @@ fn next_span<'a, T: Copy>(
     ensures other { is_wild (plain_pattern head.entry) ≡ false → (slice_get (plain_spans spans.now) used ≡ Some (plain_span result.0)) × (result.1 ≡ used + 1) }
 {
     if is_wild_leaf(head) {
-        (Span { first: 0, end: count }, used)
+        (
+            Span {
+                first: 0,
+                end: count,
+            },
+            used,
+        )
     } else {
         (spans[used], used + 1)
     }

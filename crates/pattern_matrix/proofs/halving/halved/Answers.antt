@@ -1,10 +1,10 @@
-use Rattle.std.proofs.Common.{◌≡◌, ◌+◌, ◌-◌, ◌/◌, ◌∷◌, [], ◌++◌, ◌∙◌, ap, sym, subst, arith, append_assoc}
+use Rattle.std.proofs.Common.{◌≡◌, ◌+◌, ◌-◌, ◌/◌, ◌++◌, ◌∙◌, ap, sym, subst, arith, append_assoc}
 use Rattle.std.specs.List.{All}
 use Rattle.std.proofs.lemmas.List.Elements.{All-push}
 use Rattle.pattern_matrix.specs.declared.halving.Part.{Part}
 use Rattle.pattern_matrix.specs.Sparse.{columns_from}
 use Rattle.pattern_matrix.specs.Halving.{IsPart, meeting}
-use Rattle.pattern_matrix.specs.Parts.{plain_spans, IsFull, pieces_in, pieces_left}
+use Rattle.pattern_matrix.specs.Parts.{plain_spans, IsFull, pieces_left}
 use Rattle.pattern_matrix.proofs.Halves.{half, split_pieces, left-push}
 use Rattle.pattern_matrix.proofs.halving.halved.Goals as goal
 

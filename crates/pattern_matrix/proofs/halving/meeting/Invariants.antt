@@ -1,4 +1,4 @@
-use Rattle.std.proofs.Common.{◌≡◌, ◌++◌, take}
+use Rattle.std.proofs.Common.{◌≡◌, take}
 use Rattle.pattern_matrix.specs.Parts.{plain_spans}
 use Rattle.pattern_matrix.specs.Halving.{meeting}
 use Rattle.pattern_matrix.proofs.halving.meeting.Given as goal

@@ -1,7 +1,6 @@
-use Rattle.std.proofs.Common.{◌≡◌, ◌+◌, ◌-◌, ◌++◌, map, take, drop, min, length, Some, arith, append_assoc, List, ap, sym, ◌∙◌}
+use Rattle.std.proofs.Common.{◌≡◌, ◌+◌, ◌-◌, ◌++◌, map, take, min, length, Some, arith, append_assoc, List, ap, sym, ◌∙◌}
 use Rattle.pattern_arena.specs.declared.pattern.DePat.{DePat}
 use Rattle.pattern_arena.specs.Trees.{tree}
-use Rattle.match_model.specs.Rows.{Head as MHead}
 use Rattle.pattern_matrix.specs.Sparse.{listed}
 use Rattle.pattern_matrix.specs.Views.{plain_heads}
 use Rattle.pattern_matrix.proofs.Listing.{items-listed}

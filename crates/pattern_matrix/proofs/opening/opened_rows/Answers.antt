@@ -1,4 +1,4 @@
-use Rattle.std.proofs.Common.{◌≡◌, ◌<◌, ◌∙◌, ◌++◌, ap, sym, get_or, append_assoc, drop, ◌+◌}
+use Rattle.std.proofs.Common.{◌∙◌, ◌++◌, ap, sym, get_or, append_assoc, drop, ◌+◌}
 use Rattle.pattern_matrix.specs.Sparse.{leaves_listed}
 use Rattle.pattern_matrix.specs.Views.{plain_rows, plain_leaf, plain_leaves}
 use Rattle.pattern_matrix.specs.Opening.{opened_leaf, opened_rows}

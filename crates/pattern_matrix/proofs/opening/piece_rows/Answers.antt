@@ -1,4 +1,4 @@
-use Rattle.std.proofs.Common.{◌+◌, ◌∷◌, ◌∙◌, ◌++◌, ap, subst, sym}
+use Rattle.std.proofs.Common.{◌+◌, ◌∙◌, ◌++◌, ap, subst, sym}
 use Rattle.pattern_matrix.specs.Sparse.{row_views, columns_from, leaves_listed, AreOver, AreBelow}
 use Rattle.pattern_matrix.specs.Views.{plain_rows, plain_leaves}
 use Rattle.pattern_matrix.proofs.Opened.{opened_views}

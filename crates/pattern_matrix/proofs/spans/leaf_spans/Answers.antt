@@ -18,6 +18,6 @@ loop-leaf-preserved g c =
     let span = c.next_span-next.result.0 in
     let next = c.next_span-next.ensures in
     let more =
-        span_more plain_leaf pieces leaves i c.leaf-item.result (plain_spans c.args.spans.now) c.loop-leaf.used c.next_span-next.result.1 (plain_span span) (plain_spans found) c.loop-leaf-test.true c.leaf-item.is c.loop-leaf.invariant
-        (λ e. let w = next.wild e in (w.0 ∙ ap (λ n. (0, n)) (sym (length-map c.args.pieces.now plain_ctor)), w.1)) next.other in
+    span_more plain_leaf pieces leaves i c.leaf-item.result (plain_spans c.args.spans.now) c.loop-leaf.used c.next_span-next.result.1 (plain_span span) (plain_spans found) c.loop-leaf-test.true c.leaf-item.is c.loop-leaf.invariant
+    (λ e. let w = next.wild e in (w.0 ∙ ap (λ n. (0, n)) (sym (length-map c.args.pieces.now plain_ctor)), w.1)) next.other in
     (more.0, subst (AreLeafSpans pieces (plain_leaves (take (i + 1) leaves))) (sym (spans_pushed c.push.new.self.items found span c.in_ok-push.ensures.items)) more.1)
