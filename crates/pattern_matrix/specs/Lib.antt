@@ -1,0 +1,13 @@
+pub mod Sparse
+pub mod Views
+pub mod Spreading
+pub mod Opening
+pub mod Columns
+pub mod Starting
+pub mod Halving
+pub mod Parts
+pub mod Laws
+pub mod Wanted
+pub mod Typing
+pub mod Opens
+pub mod ListedSteps
