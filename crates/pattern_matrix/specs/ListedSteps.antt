@@ -119,7 +119,7 @@ pub record ViewsAreListed (T : Type 0) : Type 0 where
   pub long : (columns : List ℕ) (r : SparseRow T) → length (row_view columns r).heads ≡ length columns
   -- a row that lists nothing has wildcards alone
   pub bare : (columns : List ℕ) (r : SparseRow T) → r.heads ≡ [] → list_all is_wild (row_view columns r).heads ≡ true
-  -- as many rows are opened, or dropped, as there are leaves
+  -- as many rows are opened as there are leaves
   pub opened : (column first count : ℕ) (rows : List (SparseRow T)) (leaves : List (SparseLeaf T)) → All (λ l. l.row < length rows) leaves →
       length (opened_rows column first count rows leaves) ≡ length leaves
   pub listed : (leaves : List (SparseLeaf T)) (numbers : List ℕ) → All (λ k. k < length leaves) numbers → length (leaves_listed leaves numbers) ≡ length numbers

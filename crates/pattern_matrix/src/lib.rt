@@ -9,6 +9,8 @@ mod leaves;
 mod opening;
 mod rows;
 mod spans;
+#[cfg(test)]
+mod tests;
 
 pub use columns::open_columns;
 pub use first::first_rows;

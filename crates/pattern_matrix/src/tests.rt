@@ -1,0 +1,106 @@
+// A match over flags is taken apart at its column.
+use crate::laws::{
+    alike_rows_have_the_witnesses, bare_rows_are_alike, bare_submatrices_are_alike,
+    columns_stay_open, leaves_are_typed, leaves_have_the_column, numbers_have_the_piece,
+    piece_has_its_leaves, steps_are_listed, views_are_listed,
+};
+use crate::{
+    Column, Leaf, all_parts, first_rows, leaf_ctors, leaf_spans, leaves_at, next_piece,
+    open_columns, piece_rows, wild_rows,
+};
+use constructor_sets::Span;
+use pat_context::toy::{Toy, ToyTy};
+use pat_context::{Ctor, Validity};
+use pattern_arena::{CheckedArm, CheckedMatch, DePat};
+use std::test::Fail;
+
+// A pattern of a flag.
+fn flag<'a>(ctor: Ctor<'a>, uid: u64) -> DePat<'a, ToyTy> {
+    DePat {
+        ctor,
+        ty: ToyTy::Flag,
+        uid,
+        at: uid,
+        subs: &[],
+        binds: &[],
+    }
+}
+
+#[test]
+fn an_or_pattern_is_taken_apart(rt: HostRuntime) -> Result<(), Fail> {
+    let alloc = rt.alloc();
+    let choices = [flag(Ctor::Flag(true), 3), flag(Ctor::Flag(false), 4)];
+    let either = DePat {
+        subs: &choices,
+        ..flag(Ctor::Or, 2)
+    };
+    let first = CheckedArm {
+        pat: either,
+        guarded: true,
+    };
+    let second = CheckedArm {
+        pat: flag(Ctor::Wild, 5),
+        guarded: false,
+    };
+    let arms = [first, second];
+    let m = CheckedMatch {
+        ty: ToyTy::Flag,
+        validity: Validity::Sure,
+        arms: &arms,
+    };
+    let rows = first_rows(alloc, &m)?;
+    assert_eq!(rt; rows.len(), 2);
+    let leaves = leaves_at(alloc, &rows, 0)?;
+    assert_eq!(rt; leaves.len(), 3);
+    let ctors = leaf_ctors(alloc, &leaves)?;
+    assert_eq!(rt; ctors.len(), 2);
+    let wild = wild_rows(alloc, &rows, &leaves, 0)?;
+    assert_eq!(rt; wild.len(), 1);
+    let none = piece_rows(alloc, &rows, &leaves, &[], 0, 1, 0)?;
+    assert_eq!(rt; none.len(), 0);
+    Ok(())
+}
+
+#[test]
+fn pieces_come_one_by_one(rt: HostRuntime) -> Result<(), Fail> {
+    let alloc = rt.alloc();
+    let spans = [
+        Span { first: 1, end: 2 },
+        Span { first: 0, end: 1 },
+        Span { first: 0, end: 2 },
+    ];
+    let mut todo = all_parts(alloc, &spans, 2)?;
+    let found = next_piece(alloc, &mut todo, &spans)?;
+    assert!(rt; found.is_some());
+    let leaves: [Leaf<ToyTy>; 0] = [];
+    let whole = leaf_spans(alloc, &[], &leaves, &[])?;
+    assert_eq!(rt; whole.len(), 0);
+    Ok(())
+}
+
+#[test]
+fn a_pair_has_two_columns(rt: HostRuntime) -> Result<(), Fail> {
+    let mut columns = Vec::new(rt.alloc());
+    let pair = Column {
+        ty: ToyTy::Pair,
+        validity: Validity::Sure,
+    };
+    let count = open_columns(&Toy, &mut columns, &pair, &Ctor::Single)?;
+    assert_eq!(rt; count, 2);
+    Ok(())
+}
+
+// A generic law is proved from its bounds alone, so each is called once at a type.
+#[test]
+fn generic_laws_hold_at_a_type(_rt: HostRuntime) {
+    bare_rows_are_alike::<u32>();
+    piece_has_its_leaves::<u32>();
+    leaves_have_the_column::<u32>();
+    bare_submatrices_are_alike(&Toy);
+    alike_rows_have_the_witnesses(&Toy);
+    leaves_are_typed(&Toy);
+    numbers_have_the_piece::<u32>();
+    steps_are_listed::<u32>();
+    columns_stay_open::<u32>();
+    views_are_listed::<u32>();
+}
