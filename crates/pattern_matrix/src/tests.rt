@@ -1,4 +1,6 @@
 // A match over flags is taken apart at its column.
+ghost use Rattle.std.specs.Prelude.{◌≤◌, ◌^◌, length};
+
 use crate::laws::{
     alike_rows_have_the_witnesses, bare_rows_are_alike, bare_submatrices_are_alike,
     columns_stay_open, leaves_are_typed, leaves_have_the_column, numbers_have_the_piece,
@@ -9,9 +11,11 @@ use crate::{
     open_columns, piece_rows, wild_rows,
 };
 use constructor_sets::Span;
+use no_memory::NoMemory;
 use pat_context::toy::{Toy, ToyTy};
 use pat_context::{Ctor, Validity};
 use pattern_arena::{CheckedArm, CheckedMatch, DePat};
+use std::alloc::Global;
 use std::test::Fail;
 
 // A pattern of a flag.
@@ -26,20 +30,35 @@ fn flag<'a>(ctor: Ctor<'a>, uid: u64) -> DePat<'a, ToyTy> {
     }
 }
 
+// How many rows a match has, leaves at its column, constructors there, rows of wildcards, and rows of a piece that no leaf has.
+fn taken_apart<'a>(
+    alloc: Global,
+    m: &CheckedMatch<'a, ToyTy>,
+) -> Result<(usize, usize, usize, usize, usize), NoMemory>
+    requires { length m.now.arms.now ≤ 2 ^ 32 }
+{
+    let rows = first_rows(alloc, m)?;
+    let leaves = leaves_at(alloc, &rows, 0)?;
+    let ctors = leaf_ctors(alloc, &leaves)?;
+    let wild = wild_rows(alloc, &rows, &leaves, 0)?;
+    let none = piece_rows(alloc, &rows, &leaves, &[], 0, 1, 0)?;
+    Ok((
+        rows.len(),
+        leaves.len(),
+        ctors.len(),
+        wild.len(),
+        none.len(),
+    ))
+}
+
 #[test]
-fn an_or_pattern_is_taken_apart(rt: HostRuntime) -> Result<(), Fail> {
-    let alloc = rt.alloc();
-    let choices = [flag(Ctor::Flag(true), 3), flag(Ctor::Flag(false), 4)];
-    let either = DePat {
-        subs: &choices,
-        ..flag(Ctor::Or, 2)
-    };
+fn a_column_is_taken_apart(rt: HostRuntime) -> Result<(), Fail> {
     let first = CheckedArm {
-        pat: either,
+        pat: flag(Ctor::Flag(true), 1),
         guarded: true,
     };
     let second = CheckedArm {
-        pat: flag(Ctor::Wild, 5),
+        pat: flag(Ctor::Wild, 2),
         guarded: false,
     };
     let arms = [first, second];
@@ -48,16 +67,12 @@ fn an_or_pattern_is_taken_apart(rt: HostRuntime) -> Result<(), Fail> {
         validity: Validity::Sure,
         arms: &arms,
     };
-    let rows = first_rows(alloc, &m)?;
-    assert_eq!(rt; rows.len(), 2);
-    let leaves = leaves_at(alloc, &rows, 0)?;
-    assert_eq!(rt; leaves.len(), 3);
-    let ctors = leaf_ctors(alloc, &leaves)?;
-    assert_eq!(rt; ctors.len(), 2);
-    let wild = wild_rows(alloc, &rows, &leaves, 0)?;
-    assert_eq!(rt; wild.len(), 1);
-    let none = piece_rows(alloc, &rows, &leaves, &[], 0, 1, 0)?;
-    assert_eq!(rt; none.len(), 0);
+    let (rows, leaves, ctors, wild, none) = taken_apart(rt.alloc(), &m)?;
+    assert_eq!(rt; rows, 2);
+    assert_eq!(rt; leaves, 2);
+    assert_eq!(rt; ctors, 1);
+    assert_eq!(rt; wild, 1);
+    assert_eq!(rt; none, 0);
     Ok(())
 }
 

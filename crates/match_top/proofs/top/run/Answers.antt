@@ -15,12 +15,12 @@ returns-clause-part g c = λ _ file bytes form told.
       subst (λ (z : List ℕ). AppendsPart (g.K.Sink.written c.args.sink.now) (g.K.Sink.written c.write_text.new.sink) z) text c.in-Err.ensures.part,
     )
 
-pub returns-clause-seen : goal.returns-clause-seen
-returns-clause-seen g c = λ verdict.
+pub returns-in-Ok-write_text-clause-seen : goal.returns-in-Ok-write_text-clause-seen
+returns-in-Ok-write_text-clause-seen g c = λ verdict.
     let whole : c.deref.result.now ≡ taken c.deref.result.now = taken_whole c.deref.result.now (search rules) in
     let text : c.deref-2.result.now ≡ c.in-Ok-answer_to.answer.text.items = search rules in (
       c.deref.result.now,
       c.in-Ok-answer_to.answer.text.items,
       c.in-Ok-answer_to.ensures.answers c.deref.result.now whole,
-      subst (λ (z : List ℕ). Appends (g.K.Sink.written c.args.sink.now) (g.K.Sink.written c.write_text.new.sink) z) text c.in-Ok.ensures.whole,
+      subst (λ (z : List ℕ). Appends (g.K.Sink.written c.args.sink.now) (g.K.Sink.written c.write_text.new.sink) z) text c.in-Ok-write_text.ensures.whole,
     )
