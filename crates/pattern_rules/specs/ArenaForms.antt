@@ -13,7 +13,8 @@ use Rattle.match_model.specs.ArenaPatterns.{MDePat, de_pat, MDePats, no_de_pats,
 use Rattle.match_model.specs.ArenaWays.{arena_ways, arena_alternatives}
 use Rattle.decl_syntax.specs.Items.{ArmTree}
 use Rattle.pattern_rules.specs.Settings.{Setting, program}
-use Rattle.pattern_rules.specs.Faults.{FunctionTree, scrutinee_type}
+use Rattle.decl_syntax.specs.Functions.{FunctionTree}
+use Rattle.pattern_rules.specs.Faults.{scrutinee_type}
 use Rattle.pattern_rules.specs.Resolved.{resolved}
 
 -- the offset of a pattern with this uid, if it is one of these two

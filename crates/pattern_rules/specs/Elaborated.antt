@@ -17,7 +17,8 @@ use Rattle.match_model.specs.ArenaPatterns.{WholePart, MBound, de_pat, MDePats, 
 use Rattle.match_model.specs.ArenaWays.{arena_ways}
 use Rattle.decl_syntax.specs.Items.{ArmTree}
 use Rattle.pattern_rules.specs.Settings.{Setting, program}
-use Rattle.pattern_rules.specs.Faults.{FunctionTree, BreaksNone, scrutinee_type}
+use Rattle.decl_syntax.specs.Functions.{FunctionTree}
+use Rattle.pattern_rules.specs.Faults.{BreaksNone, scrutinee_type}
 use Rattle.pattern_rules.specs.Resolved.{resolved}
 use Rattle.pattern_rules.specs.Builders.{Built, Maker, over, leaf, span, point, through_type, form, list_of}
 
