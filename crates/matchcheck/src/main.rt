@@ -4,10 +4,6 @@
 //! number of the status that comes back. It writes nothing else.
 #![tactic(auto)]
 
-ghost use Rattle.std.specs.Prelude.{◌≡◌, ◌≢◌};
-ghost use Rattle.std_io.specs.declared.io.kind.ErrorKind.TheVariants.{OutOfMemory};
-ghost use Rattle.match_top.specs.declared.statuses.Status.{Status};
-
 use match_io::{RealFiles, RealOut};
 use match_top::{Status, run};
 use std::alloc::Global;
@@ -16,7 +12,7 @@ use std::process::ExitCode;
 use std::rt::Env;
 use std::{env, io};
 
-// The words behind the program's name.
+// The words behind the program's name. `OutOfMemory` is want of memory, any other error a word that is no text.
 fn words<R: Env + AllocGlobal>(rt: &R) -> io::Result<Vec<String>> {
     let mut words = Vec::new(rt.alloc());
     for (i, word) in env::args(rt)?.enumerate() {
@@ -27,17 +23,6 @@ fn words<R: Env + AllocGlobal>(rt: &R) -> io::Result<Vec<String>> {
     Ok(words)
 }
 
-// The status where the words cannot be had: want of memory, or else a word that is no text.
-fn without_words(kind: ErrorKind) -> Status
-    ensures memory { kind ≡ OutOfMemory → result ≡ Status.NoMemory }
-    ensures words { kind ≢ OutOfMemory → result ≡ Status.Words }
-{
-    match kind {
-        ErrorKind::OutOfMemory => Status::NoMemory,
-        _ => Status::Words,
-    }
-}
-
 fn main(rt: HostRuntime) -> ExitCode {
     let status = match words(&rt) {
         Ok(words) => {
@@ -45,7 +30,8 @@ fn main(rt: HostRuntime) -> ExitCode {
             let mut out = RealOut::new(&rt);
             run(rt.alloc(), &words, &mut files, &mut out)
         }
-        Err(error) => without_words(error.kind()),
+        Err(error) if error.kind() == ErrorKind::OutOfMemory => Status::NoMemory,
+        Err(_) => Status::Words,
     };
     ExitCode::from(status.number())
 }
