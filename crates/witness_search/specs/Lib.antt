@@ -1,0 +1,6 @@
+pub mod Bares
+pub mod Opened
+pub mod Wells
+pub mod Found
+pub mod Cuts
+pub mod Starts
