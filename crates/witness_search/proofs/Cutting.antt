@@ -1,20 +1,19 @@
 -- What is found of the pieces that are gone through is found of all pieces of the place.
-use Rattle.std.proofs.Common.{◌≡◌, ◌<◌, ℕ, zero, suc, ◌+◌, Bool, true, false, ◌&&◌, ◌||◌, List, [], ◌∷◌, ◌++◌, map, filter_map, replicate, length, Some, slice_get, refl, sym, ap, subst, ◌∙◌, arith, IsTrue}
+use Rattle.std.proofs.Common.{◌≡◌, ◌<◌, ℕ, zero, suc, ◌+◌, Bool, true, false, ◌||◌, List, [], ◌∷◌, ◌++◌, map, filter_map, replicate, length, slice_get, refl, sym, ap, subst, ◌∙◌, arith, IsTrue}
 use Rattle.std.specs.List.{All, list_any}
 use Rattle.std.proofs.lemmas.List.Elements.{All-cons, All-nil, All-head, All-tail}
 use Rattle.match_model.specs.Values.{MValue}
 use Rattle.match_model.specs.Constructors.{MCtor, SingleCtor, PointCtor, LaterCtor, OtherTextCtor, VariantCtor, FlagCtor, NumbersCtor, TextCtor, RowCtor, WildCtor, OrCtor, MSet, SingleSet, PointSet, FlagSet, VariantSet, NumberSet, TextSet, RowSet, OpaqueSet, NothingSet, has_piece, belongs}
 use Rattle.match_model.specs.Contexts.{Context, Open}
-use Rattle.match_model.specs.PieceStates.{HasValue, is_present, named_in}
+use Rattle.match_model.specs.PieceStates.{is_present, named_in}
 use Rattle.match_model.specs.Rows.{Head, column_of, all_specialised, parts_open, part_open}
 use Rattle.match_model.specs.Matrices.{column_at}
-use Rattle.match_model.specs.WellTyped.{is_written}
 use Rattle.match_model.specs.Witness.{MWitness, AnyOf}
 use Rattle.match_model.specs.WitnessList.{Witnesses, PieceWitnesses, no_piece, with_value, without_value, wrapped}
 use Rattle.match_model.proofs.Basics.{untrue, both}
 use Rattle.match_model.proofs.OnePieces.{one_pieces}
 use Rattle.pat_context.specs.Laws.{HasFewItems}
-use Rattle.constructor_sets.specs.Columns.{IsState, IsColumnSplit, AreColumnPieces}
+use Rattle.constructor_sets.specs.Columns.{IsState, IsColumnSplit}
 use Rattle.constructor_sets.specs.declared.piece.PieceState.{PieceState}
 use Rattle.constructor_sets.specs.declared.piece.PieceState.TheVariants.{Present, Missing, Empty}
 use Rattle.constructor_sets.specs.Present.{is_sharp_head, present_piece, is_missing, AreFound}
@@ -24,7 +23,7 @@ use Rattle.pattern_matrix.specs.Halving.{AreLeafSpans}
 use Rattle.pattern_matrix.specs.Sparse.{SparseLeaf, columns_from}
 use Rattle.witness_search.specs.Bares.{wild_rests}
 use Rattle.witness_search.specs.Cuts.{IsCutOf, wrapped_behind}
-use Rattle.witness_search.specs.Found.{AreWrapped, AreOfPiece, AreOfPieces, AreSplitWitnesses, IsEnterable, AreNumbered, as_present}
+use Rattle.witness_search.specs.Found.{AreWrapped, AreOfPieces, IsEnterable, AreNumbered, as_present}
 use Rattle.witness_search.proofs.Missing.{missing_rows, in_front}
 
 -- ---- only the rest of all texts asks which texts are named

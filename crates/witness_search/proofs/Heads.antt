@@ -1,14 +1,10 @@
 -- Rows without names keep their types, and the heads of the matrix steps are those of the steps of rows of heads.
-use Rattle.std.proofs.Common.{◌≡◌, ◌<◌, ℕ, zero, suc, ◌+◌, Bool, true, false, ◌&&◌, ◌||◌, List, [], ◌∷◌, ◌++◌, map, length, cond, Option, Some, None, slice_get, filter, refl, sym, ap, subst, ◌∙◌, arith, IsTrue}
-use Rattle.std.specs.List.{All, flat_map, list_all, cons_option}
-use Rattle.std.specs.Option.{option_to_list}
-use Rattle.std.proofs.lemmas.List.{map-append}
-use Rattle.std.proofs.lemmas.List.Elements.{All-cons, All-nil, All-head, All-tail}
-use Rattle.match_model.specs.Values.{MValue}
+use Rattle.std.proofs.Common.{◌≡◌, ◌<◌, Bool, true, false, ◌&&◌, List, [], ◌∷◌, ◌++◌, map, length, cond, Option, Some, None, refl, sym, ap, subst, ◌∙◌, arith, IsTrue}
+use Rattle.std.specs.List.{All, list_all, cons_option}
+use Rattle.std.proofs.lemmas.List.Elements.{All-cons, All-nil}
 use Rattle.match_model.specs.Constructors.{MCtor, SingleCtor, PointCtor, LaterCtor, OtherTextCtor, VariantCtor, FlagCtor, NumbersCtor, TextCtor, RowCtor, WildCtor, OrCtor}
-use Rattle.match_model.specs.Contexts.{Context, Open}
-use Rattle.match_model.specs.ContextLaws.{PartsLaw}
-use Rattle.match_model.specs.ArenaPatterns.{MDePat, de_pat, MDePats, de_pats_list}
+use Rattle.match_model.specs.Contexts.{Context}
+use Rattle.match_model.specs.ArenaPatterns.{de_pat}
 use Rattle.match_model.specs.Places.{MStep}
 use Rattle.match_model.specs.Rows.{Head, is_wild, starts_wild, starts_or, row_rest, column_of, first_ctor}
 use Rattle.match_model.specs.Matrices.{MColumn, MRow, row_with, first_wild, first_binds, default_rows}
@@ -17,7 +13,7 @@ use Rattle.match_model.proofs.Basics.{untrue}
 use Rattle.constructor_sets.specs.Present.{is_sharp_head}
 use Rattle.witness_laws.specs.HeadRows.{AllTyped, all_heads}
 use Rattle.witness_laws.proofs.Places as places
-use Rattle.pattern_matrix.specs.Sparse.{SparseRow, bare_head, bare_row, head_at, heads_at}
+use Rattle.pattern_matrix.specs.Sparse.{bare_head, bare_row}
 use Rattle.witness_search.specs.Bares.{bares, wild_rests}
 use Rattle.witness_search.specs.Wells.{NoneOr}
 

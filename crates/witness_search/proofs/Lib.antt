@@ -9,4 +9,6 @@ pub mod Ends
 pub mod Steps
 pub mod Starting
 pub mod Going
+pub mod Walking
+pub mod Order
 mod FlagMatch

@@ -1,12 +1,12 @@
 -- The witnesses of a piece that no head has are those of the rows that are wild there, once for all such pieces.
-use Rattle.std.proofs.Common.{◌≡◌, ℕ, zero, suc, ◌+◌, Bool, true, false, ◌&&◌, ◌||◌, List, [], ◌∷◌, ◌++◌, map, filter_map, replicate, length, cond, Option, Some, None, refl, sym, ap, subst, ◌∙◌, arith, length-append}
-use Rattle.std.specs.List.{flat_map, list_all, list_any, cons_option}
+use Rattle.std.proofs.Common.{◌≡◌, ℕ, zero, suc, ◌+◌, Bool, true, false, ◌||◌, List, [], ◌∷◌, ◌++◌, map, replicate, length, cond, Some, None, refl, sym, ap, subst, ◌∙◌, arith, length-append}
+use Rattle.std.specs.List.{flat_map, list_all, cons_option}
 use Rattle.std.proofs.lemmas.List.{map-append}
 use Rattle.match_model.specs.Values.{MValue}
-use Rattle.match_model.specs.Constructors.{MCtor, WildCtor, OrCtor, has_piece}
+use Rattle.match_model.specs.Constructors.{MCtor, WildCtor, has_piece}
 use Rattle.match_model.specs.Contexts.{Context, Open}
-use Rattle.match_model.specs.ArenaPatterns.{MDePat, de_pat, MDePats, de_pats_list}
-use Rattle.match_model.specs.Rows.{Head, is_wild, expand_row, starts_wild, row_rest, first_ctor, column_of, wildcards, heads_of, specialised_heads, all_specialised, parts_open}
+use Rattle.match_model.specs.ArenaPatterns.{de_pat, de_pats_list}
+use Rattle.match_model.specs.Rows.{Head, expand_row, starts_wild, row_rest, first_ctor, column_of, wildcards, heads_of, specialised_heads, all_specialised}
 use Rattle.match_model.specs.Matrices.{MColumn}
 use Rattle.match_model.specs.PieceStates.{is_present}
 use Rattle.match_model.specs.Witness.{MWitness, AnyOf}

@@ -1,7 +1,7 @@
 -- Lists of code as plain lists.
-use Rattle.std.proofs.Common.{◌≡◌, ◌<◌, ℕ, zero, suc, ◌+◌, Vec, Global, vec_len, eqb, List, [], ◌∷◌, ◌++◌, map, length, reverse, refl, sym, ap, subst, ◌∙◌, arith}
+use Rattle.std.proofs.Common.{◌≡◌, ◌<◌, ℕ, Vec, Global, vec_len, eqb, List, [], ◌∷◌, ◌++◌, map, length, reverse, sym, ap, ◌∙◌, arith}
 use Rattle.std.specs.List.{All}
-use Rattle.std.proofs.lemmas.List.{map-append, length-map, reverse-append, length-reverse}
+use Rattle.std.proofs.lemmas.List.{length-map, reverse-append, length-reverse}
 use Rattle.std.proofs.lemmas.List.Elements.{All-cons, All-nil, All-head, All-tail}
 use Rattle.std.proofs.lemmas.Bool.Decides.{nat_tests}
 use Rattle.match_model.specs.Constructors.{MCtor}
@@ -52,7 +52,7 @@ within_code rows (l ∷ leaves) a =
     (within_code rows leaves (All-tail (λ x. x.row < length (plain_rows rows)) (plain_leaf l) (plain_leaves leaves) a))
 
 -- a length is nothing where a list is empty
-empty_test : {A B : Type 0} (f : A → B) (n : ℕ) (xs : List A) → n ≡ length xs → eqb n 0 ≡ is_empty_list (map f xs)
+pub empty_test : {A B : Type 0} (f : A → B) (n : ℕ) (xs : List A) → n ≡ length xs → eqb n 0 ≡ is_empty_list (map f xs)
 empty_test f n [] e = grind (arith, nat_tests)
 empty_test f n (x ∷ xs) e = grind (arith, nat_tests)
 

@@ -1,15 +1,15 @@
 -- The names that wildcards bind do not count for witnesses.
-use Rattle.std.proofs.Common.{◌≡◌, ℕ, Bool, true, false, ◌&&◌, ◌||◌, List, [], ◌∷◌, ◌++◌, map, filter_map, cond, Option, Some, None, refl, sym, ap, subst, ◌∙◌}
+use Rattle.std.proofs.Common.{◌≡◌, ℕ, Bool, true, false, ◌&&◌, ◌||◌, List, [], ◌∷◌, ◌++◌, map, cond, Some, None, refl, sym, ap, subst, ◌∙◌}
 use Rattle.std.specs.List.{flat_map, list_all, list_any, cons_option}
 use Rattle.std.proofs.lemmas.List.{map-append}
 use Rattle.match_model.specs.Values.{MValue}
-use Rattle.match_model.specs.Constructors.{MCtor, SingleCtor, PointCtor, LaterCtor, OtherTextCtor, VariantCtor, FlagCtor, NumbersCtor, TextCtor, RowCtor, WildCtor, OrCtor, has_piece}
+use Rattle.match_model.specs.Constructors.{MCtor, WildCtor, has_piece}
 use Rattle.match_model.specs.Contexts.{Context, Open}
-use Rattle.match_model.specs.ArenaPatterns.{MDePat, de_pat, MDePats, de_pats_list}
+use Rattle.match_model.specs.ArenaPatterns.{de_pat, de_pats_list}
 use Rattle.match_model.specs.Pieces.{ArePieces}
-use Rattle.match_model.specs.Rows.{Head, Choice, choices_of, is_wild, is_wild_ctor, expand_row, starts_wild, row_rest, first_ctor, column_of, wildcards, heads_of, specialised_heads, all_specialised, parts_open}
+use Rattle.match_model.specs.Rows.{Head, Choice, choices_of, is_wild, expand_row, starts_wild, row_rest, first_ctor, column_of, wildcards, heads_of, specialised_heads, all_specialised}
 use Rattle.match_model.specs.Witness.{MWitness}
-use Rattle.match_model.specs.WitnessList.{Witnesses, taken, covered, no_row, anything, by_pieces, PieceWitnesses, no_piece, with_value, without_value, are_wild, named_in}
+use Rattle.match_model.specs.WitnessList.{Witnesses, taken, covered, no_row, anything, by_pieces, PieceWitnesses, no_piece, with_value, without_value, are_wild}
 use Rattle.pattern_matrix.specs.Sparse.{bare_head}
 use Rattle.witness_search.specs.Bares.{bares}
 

@@ -1,13 +1,12 @@
 -- The rows that the search begins with.
-use Rattle.std.proofs.Common.{◌≡◌, ◌≢◌, ◌<◌, ℕ, zero, suc, Bool, true, false, cond, nat_eq, List, [], ◌∷◌, ◌++◌, map, length, Some, None, refl, sym, ap, subst, ◌∙◌, arith}
+use Rattle.std.proofs.Common.{◌≡◌, ◌≢◌, ◌<◌, ℕ, suc, Bool, true, false, cond, List, [], ◌∷◌, ◌++◌, map, length, Some, None, refl, sym, ap, subst, ◌∙◌, arith}
 use Rattle.std.specs.List.{flat_map, Contains, All}
-use Rattle.std.proofs.lemmas.List.{map-append}
-use Rattle.std.proofs.lemmas.List.Elements.{All-cons, All-nil, All-append}
+use Rattle.std.proofs.lemmas.List.Elements.{All-cons, All-nil}
 use Rattle.match_model.specs.Values.{MValue, Unseen}
 use Rattle.match_model.specs.Contexts.{Context, Open}
 use Rattle.match_model.specs.ContextLaws.{PartsLaw, ValuesLaw}
 use Rattle.match_model.specs.ArenaPatterns.{MDePat, MDeArm, MDeMatch}
-use Rattle.match_model.specs.Rows.{Head, is_wild}
+use Rattle.match_model.specs.Rows.{is_wild}
 use Rattle.match_model.specs.WellTyped.{IsTyped, IsWellTyped}
 use Rattle.match_model.specs.Witness.{MWitness}
 use Rattle.match_model.specs.WitnessList.{Witnesses, IsWitnessList, by_rows, row_of}

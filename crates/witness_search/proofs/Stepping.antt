@@ -1,17 +1,16 @@
 -- What the steps of the search keep, and what is found of the rows before from what is found of those behind.
-use Rattle.std.proofs.Common.{◌≡◌, ◌≢◌, ◌<◌, ◌≤◌, ℕ, zero, suc, ◌+◌, Bool, true, false, List, [], ◌∷◌, ◌++◌, map, replicate, length, filter, refl, sym, ap, subst, ◌∙◌, arith, length-append, IsTrue}
-use Rattle.std.specs.List.{All, flat_map, list_all, list_any}
+use Rattle.std.proofs.Common.{◌≡◌, ◌≢◌, ◌<◌, ◌≤◌, ℕ, zero, suc, ◌+◌, Bool, List, [], ◌∷◌, ◌++◌, map, length, refl, sym, ap, subst, ◌∙◌, arith, length-append, IsTrue}
+use Rattle.std.specs.List.{All, flat_map}
 use Rattle.std.proofs.lemmas.List.Elements.{All-cons, All-nil, All-head, All-tail, All-append}
 use Rattle.match_model.specs.Values.{MValue}
-use Rattle.match_model.specs.Constructors.{MCtor, belongs}
+use Rattle.match_model.specs.Constructors.{MCtor}
 use Rattle.match_model.specs.Contexts.{Context, Open}
 use Rattle.match_model.specs.ContextLaws.{PartsLaw}
 use Rattle.match_model.specs.Pieces.{ArePieces}
-use Rattle.match_model.specs.Rows.{Head, expand_row, starts_wild, row_rest, column_of, all_specialised, parts_open, part_open}
-use Rattle.match_model.specs.Matrices.{MRow, expand_rows, specialised_rows, default_rows, column_at}
+use Rattle.match_model.specs.Rows.{expand_row, row_rest, all_specialised, parts_open, part_open}
+use Rattle.match_model.specs.Matrices.{expand_rows, specialised_rows, default_rows, column_at}
 use Rattle.match_model.specs.Witness.{MWitness, AnyOf}
-use Rattle.match_model.specs.WitnessList.{Witnesses, anything, by_pieces, named_in}
-use Rattle.pat_context.specs.Laws.{HasFewItems}
+use Rattle.match_model.specs.WitnessList.{Witnesses, anything, by_pieces}
 use Rattle.constructor_sets.specs.Present.{is_sharp_head}
 use Rattle.witness_laws.specs.HeadRows.{cols, AllTyped, all_heads}
 use Rattle.witness_laws.proofs.MatrixHeads.{expand_all, special_all}

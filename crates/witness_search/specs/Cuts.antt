@@ -1,5 +1,5 @@
 -- What the pieces that are gone through tell.
-use Rattle.std.specs.Prelude.{◌≡◌, ℕ, Bool, List, [], ◌∷◌, ◌++◌, map, filter_map, replicate, length, Some, slice_get}
+use Rattle.std.specs.Prelude.{◌≡◌, ℕ, Bool, List, ◌∷◌, ◌++◌, map, filter_map, replicate, length, Some, slice_get}
 use Rattle.std.specs.List.{All}
 use Rattle.match_model.specs.Values.{MValue}
 use Rattle.match_model.specs.Constructors.{MCtor}

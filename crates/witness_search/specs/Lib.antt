@@ -4,3 +4,4 @@ pub mod Wells
 pub mod Found
 pub mod Cuts
 pub mod Starts
+pub mod Entries

@@ -1,8 +1,9 @@
-//! The witness list of a match.
+//! What is found of a match: its witness list, what of it is unreachable, and both from marks of what is reached.
 #![tactic(auto)]
 
 mod apart;
 mod cut;
+mod judge;
 mod opened;
 mod pieces;
 mod rows;
@@ -11,5 +12,8 @@ mod stacks;
 #[cfg(test)]
 mod tests;
 mod top;
+mod unreachable;
 
+pub use judge::judge_by;
 pub use top::{DEPTH, witness_list};
+pub use unreachable::{Marked, unreachable_list};

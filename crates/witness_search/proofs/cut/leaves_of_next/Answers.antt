@@ -1,4 +1,4 @@
-use Rattle.std.proofs.Common.{List, map, sym, subst, ap, ◌∙◌}
+use Rattle.std.proofs.Common.{List, sym, subst, ap, ◌∙◌}
 use Rattle.constructor_sets.specs.Columns.{plain_ctors}
 use Rattle.constructor_sets.specs.declared.piece.Span.{Span}
 use Rattle.pat_context.specs.Views.{plain_ctor}

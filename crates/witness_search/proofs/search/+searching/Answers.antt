@@ -1,34 +1,29 @@
-use Rattle.std.proofs.Common.{rules, ◌≡◌, ◌<◌, ◌++◌, ◌∷◌, [], List, Bool, ℕ, ◌+◌, suc, IsTrue, map, filter_map, drop, take, replicate, length, get_or, refl, sym, ap, subst, ◌∙◌, arith, append-nil, Vec, Global, true, false, vec_len, eqb}
+use Rattle.std.proofs.Common.{rules, ◌≡◌, ◌<◌, ◌++◌, ◌∷◌, [], List, Bool, ℕ, ◌+◌, suc, IsTrue, map, filter_map, drop, replicate, length, get_or, refl, sym, ap, subst, ◌∙◌, arith, append-nil, Vec, Global, true, false, vec_len, eqb}
 use Rattle.std.specs.List.{All}
 use Rattle.std.proofs.lemmas.Bool.Decides.{nat_tests}
 use Rattle.std.proofs.lemmas.List.{length-map, drop_all}
 use Rattle.std.proofs.lemmas.Result.{IfOk-weaker}
-use Rattle.match_model.specs.Constructors.{MCtor}
 use Rattle.match_model.specs.Witness.{MWitness, AnyOf}
 use Rattle.match_model.specs.WitnessList.{Witnesses, wrapped}
 use Rattle.pat_context.specs.declared.ctor.Ctor.{Ctor}
 use Rattle.pat_context.specs.Views.{plain_ctor}
 use Rattle.constructor_sets.specs.Columns.{plain_ctors, plain_piece}
-use Rattle.constructor_sets.specs.Present.{is_sharp_head, ArePresent, present_piece}
-use Rattle.constructor_sets.specs.Spans.{plain_span}
+use Rattle.constructor_sets.specs.Present.{is_sharp_head, present_piece}
 use Rattle.constructor_sets.specs.declared.piece.Piece.{Piece}
 use Rattle.constructor_sets.specs.declared.piece.Span.{Span}
 use Rattle.constructor_sets.specs.declared.piece.PieceState.{PieceState}
-use Rattle.constructor_sets.specs.declared.piece.PieceState.TheVariants.{Present, Missing, Empty}
+use Rattle.constructor_sets.specs.declared.piece.PieceState.TheVariants.{Missing}
 use Rattle.pattern_matrix.specs.Columns.{plain_column}
-use Rattle.pattern_matrix.specs.Halving.{AreLeafSpans}
-use Rattle.pattern_matrix.specs.Parts.{IsFull, pieces_left, plain_spans}
+use Rattle.pattern_matrix.specs.Parts.{IsFull, pieces_left}
 use Rattle.pattern_matrix.specs.Sparse.{columns_from}
 use Rattle.pattern_matrix.specs.Views.{plain_row, plain_rows, plain_leaves}
-use Rattle.pattern_matrix.specs.declared.rows.Leaf.{Leaf}
 use Rattle.pattern_matrix.specs.declared.rows.Row.{Row}
 use Rattle.witnesses.specs.declared.stack.Stack.{Stack}
 use Rattle.witnesses.specs.Views.{plain_stack, plain_names}
-use Rattle.witness_search.specs.Bares.{wild_rests}
-use Rattle.witness_search.specs.Cuts.{IsCut, IsNext, IsNextOf, IsLeft, IsLeftBehind, wrapped_behind}
-use Rattle.witness_search.specs.Found.{AreOfPiece, AreOfPieces, AreWrapped, AreSplitWitnesses, IsEnterable, ArePieceLeaves, AreNumbered}
+use Rattle.witness_search.specs.Cuts.{IsCut, wrapped_behind}
+use Rattle.witness_search.specs.Found.{AreOfPiece, AreOfPieces, AreWrapped, IsEnterable, AreNumbered}
 use Rattle.witness_search.specs.Opened.{places_of, numbers_of}
-use Rattle.witness_search.specs.Wells.{heads_over, apart_heads, IsWell, IsTakenApart}
+use Rattle.witness_search.specs.Wells.{heads_over, apart_heads, IsTakenApart}
 use Rattle.witness_search.specs.declared.opened.Opened.{Opened}
 use Rattle.witness_search.proofs.Ends.{bare_found, none_found, taken_found}
 use Rattle.witness_search.proofs.Going.{at_piece, next_at, left_behind, goes_on}

@@ -6,7 +6,7 @@ use Rattle.witnesses.specs.Views.{plain_stack}
 use Rattle.witness_search.specs.Opened.{places_of, numbers_of}
 use Rattle.witness_search.specs.Starts.{starting_rows}
 use Rattle.witness_search.specs.declared.opened.Opened.{Opened}
-use Rattle.witness_search.proofs.Starting.{first_open, first_well, first_back}
+use Rattle.witness_search.proofs.Starting.{first_well, first_back}
 use Rattle.witness_search.proofs.top.stacks_of_match.Goals as goal
 
 pub stacks_of-requires-clause-well : goal.stacks_of-requires-clause-well
