@@ -1,0 +1,159 @@
+-- A submatrix whose children were listed is looked at.
+use Rattle.std.proofs.Common.{◌≡◌, ◌⊎◌, inl, inr, ℕ, Bool, true, false, List, [], ◌∷◌, ◌++◌, map, length, ap, sym, subst, ◌∙◌, arith}
+use Rattle.std.specs.List.{list_all, Contains}
+use Rattle.match_model.specs.Values.{MValue}
+use Rattle.match_model.specs.Contexts.{Context, Open}
+use Rattle.match_model.specs.ContextLaws.{PartsLaw, ValuesLaw}
+use Rattle.match_model.specs.Rows.{starts_wild}
+use Rattle.match_model.proofs.Basics.{untrue}
+use Rattle.pat_context.specs.Parts.{AreValues}
+use Rattle.witness_laws.specs.Counting.{Question, WantedRow, counts}
+use Rattle.witness_laws.specs.ReachLaws.{SplitsHandOn}
+use Rattle.witness_laws.specs.Searching.{Submatrix, weight_of, heads_in, IsFit, Comes, SomeComes, IsSplit, StandFor, IsLookedAt, AreListed, apart as taken_apart}
+use Rattle.witness_laws.proofs.HandingOn.{contains-map, from-map, here, there, in_cons}
+use Rattle.witness_laws.proofs.Listing.{part_typed, part_made, part_weighs}
+use Rattle.witness_laws.proofs.SearchSteps.{values_long}
+use Rattle.witness_laws.proofs.Splitting.{splits_hand_on}
+use Rattle.usefulness.specs.Children.{bare_sub}
+use Rattle.usefulness.specs.Listing.{IsListedAs, AreAllListed}
+use Rattle.usefulness.proofs.BareRows.{fit_bare, comes_bare, comes_named, weight_bare}
+
+-- what stands for rows while less is marked does so while more is
+pub stand_later : {T : Type 0} (old now : Question → Bool) (n : ℕ) (rows kept : List (WantedRow T)) → ((q : Question) → old q ≡ true → now q ≡ true) → StandFor old n rows kept → StandFor now n rows kept
+stand_later old now n rows kept g s = record {
+  on = λ q vs l c. elim (s.on q vs l c) [ inl m ↦ inl (g q m) | inr e ↦ inr e ];
+  back = s.back;
+  part = s.part;
+}
+
+-- what was listed stays so while more is marked
+pub listed_later : {T : Type 0} (old now : Question → Bool) (left new : List (Submatrix T)) → ((q : Question) → old q ≡ true → now q ≡ true) → AreListed old left new → AreListed now left new
+listed_later old now left new g a = record {
+  each = λ n i. let (rows, s, h) = a.each n i in (rows, stand_later old now (length n.places) n.rows rows g s, h);
+  of_left = λ m i. let (n, j, e, s) = a.of_left m i in (n, j, e, stand_later old now (length n.places) n.rows m.rows g s);
+}
+
+in_left : {A : Type 0} (xs ys : List A) (z : A) → Contains xs z → Contains (xs ++ ys) z
+in_left [] ys z (k, l, e) = absurd (omega (arith, l))
+in_left (x ∷ xs) ys z c = in_cons x z xs (λ w. Contains (x ∷ (xs ++ ys)) w) (here x (xs ++ ys)) (λ w d. there x w (xs ++ ys) (in_left xs ys w d)) c
+
+in_right : {A : Type 0} (xs ys : List A) (z : A) → Contains ys z → Contains (xs ++ ys) z
+in_right [] ys z c = c
+in_right (x ∷ xs) ys z c = there x z (xs ++ ys) (in_right xs ys z c)
+
+in_either : {A : Type 0} (xs ys : List A) (z : A) → Contains (xs ++ ys) z → Contains xs z ⊎ Contains ys z
+in_either [] ys z c = inr c
+in_either (x ∷ xs) ys z c =
+    in_cons x z (xs ++ ys) (λ w. Contains (x ∷ xs) w ⊎ Contains ys w) (inl (here x xs))
+    (λ w d. elim (in_either xs ys w d) [ inl e ↦ inl (there x w xs e) | inr e ↦ inr e ]) c
+
+-- both lists of children were listed
+listed_both : {T : Type 0} (now : Question → Bool) (left more new others : List (Submatrix T)) → AreListed now left new → AreListed now more others → AreListed now (left ++ more) (new ++ others)
+listed_both {T} now left more new others a b = record {
+  each = λ n i. elim (in_either left more n i) [
+    | inl j ↦ let (rows, s, h) = a.each n j in (rows, s, kept_left (record { places = n.places; rows = rows }) rows h)
+    | inr j ↦ let (rows, s, h) = b.each n j in (rows, s, kept_right (record { places = n.places; rows = rows }) rows h)
+  ];
+  of_left = λ m i. elim (in_either new others m i) [
+    | inl j ↦ let (n, k, e, s) = a.of_left m j in (n, in_left left more n k, e, s)
+    | inr j ↦ let (n, k, e, s) = b.of_left m j in (n, in_right left more n k, e, s)
+  ];
+}
+  where
+    kept_left : (m : Submatrix T) (rows : List (WantedRow T)) → Contains new m ⊎ (rows ≡ []) → Contains (new ++ others) m ⊎ (rows ≡ [])
+    kept_left m rows (inl c) = inl (in_left new others m c)
+    kept_left m rows (inr e) = inr e
+
+    kept_right : (m : Submatrix T) (rows : List (WantedRow T)) → Contains others m ⊎ (rows ≡ []) → Contains (new ++ others) m ⊎ (rows ≡ [])
+    kept_right m rows (inl c) = inl (in_right new others m c)
+    kept_right m rows (inr e) = inr e
+
+module _ {T : Type 0} (IsValue : T → Bool → MValue → Type 0) where
+  -- at first none is listed
+  pub none_listed : (is_marked : Question → Bool) → AreAllListed {T = T} IsValue is_marked is_marked [] []
+  none_listed is_marked = record {
+    grow = λ q m. m;
+    right = λ q m. inl m;
+    listed = record { each = λ n (k, l, e). absurd (omega (arith, l)); of_left = λ m (k, l, e). absurd (omega (arith, l)) };
+  }
+
+  -- one more is
+  pub one_listed : (old now then : Question → Bool) (left new others : List (Submatrix T)) (s : Submatrix T) → AreAllListed IsValue old now left new → IsListedAs IsValue now then s others →
+      AreAllListed IsValue old then (left ++ s ∷ []) (new ++ others)
+  one_listed old now then left new others s a b = record {
+    grow = λ q m. b.grow q (a.grow q m);
+    right = λ q m. elim (b.right q m) [
+      | inl k ↦ elim (a.right q k) [
+        | inl o ↦ inl o
+        | inr (n, i, c) ↦ inr (n, in_left left (s ∷ []) n i, c)
+      ]
+      | inr c ↦ inr (s, in_right left (s ∷ []) s (here s []), c)
+    ];
+    listed = listed_both then left (s ∷ []) new others (listed_later now then left new b.grow a.listed) b.listed;
+  }
+
+module _ {T : Type 0} (IsType : T → Type 0) (IsValue : T → Bool → MValue → Type 0) (cx : Context T) where
+  pub stood_fit : (is_marked : Question → Bool) (n m : Submatrix T) → IsFit IsType IsValue cx n → m.places ≡ n.places → StandFor is_marked (length n.places) n.rows m.rows → IsFit IsType IsValue cx m
+  stood_fit is_marked n m f e d =
+      subst (λ ps. IsFit IsType IsValue cx (record { places = ps; rows = m.rows })) (sym e)
+      (record { types = f.types; typed = part_typed cx n.places (heads_in m.rows) (heads_in n.rows) d.part f.typed; made = part_made (heads_in m.rows) (heads_in n.rows) d.part f.made; some = f.some })
+
+  pub stood_back : (is_marked : Question → Bool) (n m : Submatrix T) → m.places ≡ n.places → StandFor is_marked (length n.places) n.rows m.rows → (q : Question) → Comes IsValue q m → Comes IsValue q n
+  stood_back is_marked n m e d q (vs, a, c) =
+      let b = subst (λ ps. AreValues IsValue ps vs) e a in (vs, b, d.back q vs (values_long IsValue n.places vs b) c)
+
+module _ {T : Type 0} (IsType : T → Type 0) (IsValue : T → Bool → MValue → Type 0) (cx : Context T) (values : ValuesLaw IsType IsValue cx) (law : PartsLaw IsType IsValue cx) where
+  -- what is left of a submatrix that fits, fits without names
+  pub left_fit : (o : Open T) (places : List (Open T)) (rows : List (WantedRow T)) (left : List (Submatrix T)) → IsFit IsType IsValue cx (record { places = o ∷ places; rows = rows }) →
+      IsSplit IsValue cx o places (taken_apart rows) left → (n : Submatrix T) → Contains left n → IsFit IsType IsValue cx (bare_sub n)
+  left_fit o places rows left f p n i =
+      let handed : SplitsHandOn IsType IsValue cx = splits_hand_on IsType IsValue cx values law in
+      fit_bare IsType IsValue cx n (handed.fit o places rows left f p n i)
+
+  -- a submatrix whose first place was taken apart, and of which everything that is left was listed without names
+  pub looked : (old now : Question → Bool) (o : Open T) (places : List (Open T)) (rows : List (WantedRow T)) (left new : List (Submatrix T)) →
+      IsFit IsType IsValue cx (record { places = o ∷ places; rows = rows }) → list_all starts_wild (heads_in rows) ≡ false → IsSplit IsValue cx o places (taken_apart rows) left →
+      AreAllListed IsValue old now (map bare_sub left) new →
+      IsLookedAt IsType IsValue cx old now (record { places = o ∷ places; rows = rows }) new
+  looked old now o places rows left new f w p a =
+      let handed : SplitsHandOn IsType IsValue cx = splits_hand_on IsType IsValue cx values law in
+      record {
+        grow = a.grow;
+        right = λ q e. elim (a.right q e) [
+          | inl m ↦ inl m
+          | inr (m, i, c) ↦
+              let (n, j, k) = from-map bare_sub left m i in
+              inr (handed.back o places rows left f p n j q (comes_named IsType IsValue cx q n (subst (Comes IsValue q) (sym k) c)))
+        ];
+        fit = λ m i.
+            let (b, j, e, d) = a.listed.of_left m i in
+            let (n, k, g) = from-map bare_sub left b j in
+            stood_fit IsType IsValue cx now b m (subst (IsFit IsType IsValue cx) g (fit_bare IsType IsValue cx n (handed.fit o places rows left f p n k))) e d;
+        lighter = λ m i.
+            let (b, j, e, d) = a.listed.of_left m i in
+            let (n, k, g) = from-map bare_sub left b j in
+            let lighter = handed.falls o places rows left f p w n k in
+            let same = ap weight_of (sym g) ∙ weight_bare n in
+            let part = part_weighs m.rows b.rows d.part in
+            omega (arith, lighter, same, part);
+        back = λ m i q c.
+            let (b, j, e, d) = a.listed.of_left m i in
+            let (n, k, g) = from-map bare_sub left b j in
+            handed.back o places rows left f p n k q (comes_named IsType IsValue cx q n (subst (Comes IsValue q) (sym g) (stood_back IsType IsValue cx now b m e d q c)));
+        on = λ q c. kept q (handed.on o places rows left f p q c);
+      }
+    where
+      kept : (q : Question) → SomeComes IsValue q left → (now q ≡ true) ⊎ SomeComes IsValue q new
+      kept q (n, i, c) = go (comes_bare IsType IsValue cx q n c) (a.listed.each (bare_sub n) (contains-map bare_sub left n i))
+        where
+          go : Comes IsValue q (bare_sub n) →
+              (rows : List (WantedRow T)) × StandFor now (length n.places) (bare_sub n).rows rows × (Contains new (record { places = n.places; rows = rows }) ⊎ (rows ≡ [])) →
+              (now q ≡ true) ⊎ SomeComes IsValue q new
+          go (vs, b, e) (kept, d, h) =
+              elim (d.on q vs (values_long IsValue n.places vs b) e) [
+                | inl m ↦ inl m
+                | inr k ↦ elim h [
+                  | inl j ↦ inr (record { places = n.places; rows = kept }, j, (vs, b, k))
+                  | inr z ↦ untrue (sym (ap (λ (xs : List (WantedRow T)). counts q xs vs) z) ∙ k)
+                ]
+              ]

@@ -1,0 +1,39 @@
+-- What is read from lists.
+use Rattle.std.proofs.Common.{◌≡◌, ◌<◌, ℕ, zero, suc, ◌+◌, List, [], ◌∷◌, ◌++◌, map, length, take, drop, get_or, Some, ap, sym, subst, ◌∙◌, arith, slice_get}
+use Rattle.std.proofs.lemmas.List.{length-map}
+use Rattle.std.specs.List.{All}
+use Rattle.pattern_matrix.specs.declared.rows.Leaf.{Leaf}
+use Rattle.pattern_matrix.specs.Views.{plain_leaf}
+use Rattle.pattern_matrix.proofs.Apart.{all_within}
+use Rattle.witness_laws.specs.Searching.{moved}
+use Rattle.usefulness.specs.declared.frames.Apart.{Apart}
+use Rattle.usefulness.specs.declared.frames.OpenColumn.{OpenColumn}
+use Rattle.usefulness.specs.Frames.{SparseAsked, rows_of}
+use Rattle.usefulness.specs.States.{plain_asked, plain_open, plain_opens, IsApart, apart_rows, apart_leaves}
+use Rattle.usefulness.proofs.MovedFirst.{map_moved}
+use Rattle.usefulness.proofs.RowFacts.{at_get}
+use Rattle.usefulness.proofs.Taking.{moved_remove}
+
+-- what is got of a list that another one is made of
+pub got_at : {X Y : Type 0} (f : X → Y) (xs : List X) (i : ℕ) (x : X) → i < length xs → x ≡ get_or xs i x → slice_get (map f xs) i ≡ Some (f x)
+got_at f [] i x l e = absurd (omega (arith, l))
+got_at f (y ∷ xs) zero x l e = ap (λ z. Some (f z)) (sym e)
+got_at f (y ∷ xs) (suc i) x l e = got_at f xs i x (omega (arith, l)) e
+
+-- a column is moved to the front where it is taken from the others
+pub moved_out : {T : Type 0} (columns others : List (OpenColumn T)) (i : ℕ) (o : OpenColumn T) → i < length columns → o ≡ get_or columns i o → others ≡ take i columns ++ drop (i + 1) columns →
+    moved i (plain_opens columns) ≡ plain_open o ∷ plain_opens others
+moved_out columns others i o l e f =
+    let same : suc i ≡ i + 1 = omega arith in
+    sym (map_moved plain_open i columns)
+    ∙ ap plain_opens (moved_remove i columns o l e)
+    ∙ ap (λ ys. plain_open o ∷ plain_opens ys) (ap (λ n. take i columns ++ drop n columns) same ∙ sym f)
+
+-- each leaf is of a row
+pub leaf_within : {T : Type 0} (arms : ℕ) (a : Apart T) → IsApart arms a → (i : ℕ) (l : Leaf T) → i < length a.leaves.items → l ≡ get_or a.leaves.items i l → l.row < length a.rows.items
+leaf_within {T} arms a apart i l h e =
+    let long = length-map (apart_rows a) (λ (x : SparseAsked T). x.row) in
+    let all = length-map a.rows.items plain_asked in
+    at_get (λ h. h.row < length a.rows.items) (apart_leaves a) i (plain_leaf l)
+    (subst (All (λ h. h.row < length a.rows.items)) (sym apart.leaves) (all_within a.taken.number 0 (length a.rows.items) (rows_of (apart_rows a)) (omega (arith, long, all))))
+    (got_at plain_leaf a.leaves.items i l h e)

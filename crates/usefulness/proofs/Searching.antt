@@ -1,0 +1,37 @@
+-- What the loops of a search keep.
+use Rattle.std.proofs.Common.{◌≡◌, ◌≤◌, ℕ, ◌-◌, Bool, List, ◌++◌, map, length, take}
+use Rattle.std.specs.List.{All}
+use Rattle.match_model.specs.Values.{MValue}
+use Rattle.match_model.specs.Constructors.{MCtor}
+use Rattle.match_model.specs.Contexts.{Context}
+use Rattle.constructor_sets.specs.declared.piece.Span.{Span}
+use Rattle.pattern_matrix.specs.Sparse.{columns_from}
+use Rattle.pattern_matrix.specs.Parts.{IsFull, pieces_left}
+use Rattle.pattern_matrix.specs.declared.halving.Part.{Part}
+use Rattle.witness_laws.specs.Counting.{Question}
+use Rattle.witness_laws.specs.Searching.{Submatrix, IsSearch}
+use Rattle.usefulness.specs.declared.frames.Frame.{Frame}
+use Rattle.usefulness.specs.declared.frames.Apart.{Apart}
+use Rattle.usefulness.specs.declared.marks.Marks.{Marks}
+use Rattle.usefulness.specs.Marking.{is_marked}
+use Rattle.usefulness.specs.Listing.{AreAllListed}
+use Rattle.usefulness.specs.States.{frame_views, IsGood, piece_view}
+
+-- so many of the pieces were added
+pub record AreAdded {T : Type 0} (IsValue : T → Bool → MValue → Type 0) (cx : Context T) (a : Apart T) (missing : Bool) (ctors : List MCtor) (spans : List Span)
+    (first now : Marks) (start new : List (Frame T)) (todo : List Part) : Type 0 where
+  pub done : ℕ
+  pub within : done ≤ length ctors
+  pub arms : length now.arms.items ≡ length first.arms.items
+  pub good : All (IsGood (length first.arms.items)) new
+  pub full : All (IsFull spans) todo
+  pub left : pieces_left todo ≡ columns_from done (length ctors - done)
+  pub listed : (old : Question → Bool) (left : List (Submatrix T)) → AreAllListed IsValue old (is_marked first) left (frame_views start) →
+      AreAllListed IsValue old (is_marked now) (left ++ map (piece_view cx a missing) (take done ctors)) (frame_views new)
+
+-- a search goes on
+pub record IsGoing {T : Type 0} (IsType : T → Type 0) (IsValue : T → Bool → MValue → Type 0) (cx : Context T) (first : Submatrix T) (arms : ℕ) (m : Marks) (todo : List (Frame T)) : Type 0 where
+  pub known : length m.arms.items ≡ arms
+  pub good : All (IsGood arms) todo
+  pub seen : List (Submatrix T)
+  pub search : IsSearch IsType IsValue cx first (is_marked m) (frame_views todo) seen

@@ -1,0 +1,131 @@
+-- One row more is listed, as the code does it.
+use Rattle.std.proofs.Common.{Result, Ok, Err, zero, suc, ◌<◌, ◌≡◌, ◌==◌, ℕ, ◌+◌, Bool, true, false, List, [], ◌∷◌, ◌++◌, map, length, drop, refl, ap, sym, subst, ◌∙◌, arith}
+use Rattle.std.proofs.lemmas.Bool.{eqb-true, eqb-false}
+use Rattle.std.specs.Result.{OnOk}
+use Rattle.std.proofs.lemmas.List.{length-map, length-append}
+use Rattle.std.proofs.lemmas.List.Elements.{All-nil, All-cons, All-append}
+use Rattle.std.specs.List.{All, list_any}
+use Rattle.pattern_matrix.specs.declared.rows.Head.{Head}
+use Rattle.pattern_matrix.specs.Views.{plain_head}
+use Rattle.witness_laws.specs.Counting.{Question}
+use Rattle.usefulness.specs.declared.frames.Listing.{Listing}
+use Rattle.usefulness.specs.declared.marks.Marks.{Marks}
+use Rattle.usefulness.specs.Frames.{SparseAsked, has_heads, starts_listed, IsRowIn}
+use Rattle.usefulness.specs.Marking.{is_marked}
+use Rattle.usefulness.specs.Listing.{IsListing}
+use Rattle.usefulness.specs.States.{plain_asked, plain_askeds, IsKept, IsListed}
+use Rattle.usefulness.proofs.Listed.{after_closed, left_guarded, listing_begins}
+use Rattle.usefulness.proofs.Finishing.{start_more, end_unwanted, end_all}
+
+-- a list without elements has no heads
+pub no_heads : {T : Type 0} (heads : List (Head T)) (n : ℕ) → n ≡ length heads → (n == 0) ≡ true → has_heads (map plain_head heads) ≡ false
+no_heads [] n e f = refl
+no_heads (h ∷ heads) n e f = absurd (let z = eqb-true n 0 f in omega (arith, z, e))
+
+module _ {T : Type 0} (l after : Listing T) where
+  -- the same rows are kept
+  pub kept_same : after.rows ≡ l.rows → after.end ≡ l.end → IsKept l → IsKept after
+  kept_same e f k = record {
+    end = rw (e, f) k.end;
+    within = rw (e, f) k.within;
+    start = rw e k.start;
+  }
+
+  module _ (x : SparseAsked T) (rows : plain_askeds after.rows.items ≡ plain_askeds l.rows.items ++ x ∷ []) where
+    one_longer : length after.rows.items ≡ length l.rows.items + 1
+    one_longer =
+        sym (length-map after.rows.items plain_asked) ∙ ap length rows ∙ length-append (plain_askeds l.rows.items) (x ∷ [])
+        ∙ ap (λ n. n + 1) (length-map l.rows.items plain_asked)
+
+    start_after : IsKept l → (plain_askeds l.rows.items ≡ [] → has_heads x.row.heads ≡ true) → starts_listed (plain_askeds after.rows.items) ≡ true
+    start_after k h = ap starts_listed rows ∙ start_more (plain_askeds l.rows.items) x k.start h
+
+    -- a row is kept that is not wanted, or one that is
+    pub kept_unwanted : x.wanted ≡ false → after.end ≡ l.end → IsKept l → (plain_askeds l.rows.items ≡ [] → has_heads x.row.heads ≡ true) → IsKept after
+    kept_unwanted w e k h =
+        let long = length-map l.rows.items plain_asked in
+        let within = k.within in
+        record {
+          end =
+              ap (λ n. list_any (λ (y : SparseAsked T). y.wanted) (drop n (plain_askeds after.rows.items))) e
+              ∙ ap (λ ys. list_any (λ (y : SparseAsked T). y.wanted) (drop l.end ys)) rows
+              ∙ end_unwanted l.end (plain_askeds l.rows.items) x (omega (arith, long, within)) k.end w;
+          within = let longer = one_longer in omega (arith, e, longer, within);
+          start = start_after k h;
+        }
+
+    pub kept_wanted : after.end ≡ length after.rows.items → IsKept l → (plain_askeds l.rows.items ≡ [] → has_heads x.row.heads ≡ true) → IsKept after
+    kept_wanted e k h = record {
+      end = end_all after.end (plain_askeds after.rows.items) (e ∙ sym (length-map after.rows.items plain_asked));
+      within = omega (arith, e);
+      start = start_after k h;
+    }
+
+-- nothing is listed at first
+pub listed_first : {T : Type 0} (arms : ℕ) (m : Marks) (columns : List ℕ) (l : Listing T) → length m.arms.items ≡ arms → plain_askeds l.rows.items ≡ [] → l.closed ≡ false → IsKept l →
+    IsListed arms (is_marked m) m columns [] l
+listed_first {T} arms m columns l k e f g = record {
+  known = k;
+  kept = g;
+  rows = subst (All (IsRowIn arms columns)) (sym e) (All-nil (IsRowIn {T = T} arms columns));
+  listed = subst (λ ks. IsListing {T = T} (is_marked m) (is_marked m) columns [] ks l.closed) (sym e)
+      (subst (λ c. IsListing {T = T} (is_marked m) (is_marked m) columns [] [] c) (sym f) (listing_begins (is_marked m) columns));
+}
+
+module _ {T : Type 0} (arms : ℕ) (old : Question → Bool) (columns : List ℕ) (through : List (SparseAsked T)) (x : SparseAsked T) (m : Marks) (l : Listing T) (listed : IsListed arms old m columns through l) where
+  -- no row counts any more
+  pub listed_closed : l.closed ≡ true → IsListed arms old m columns (through ++ x ∷ []) l
+  listed_closed e = record {
+    known = listed.known;
+    kept = listed.kept;
+    rows = listed.rows;
+    listed = subst (λ c. IsListing old (is_marked m) columns (through ++ x ∷ []) (plain_askeds l.rows.items) c) (sym e)
+        (after_closed old (is_marked m) columns through (plain_askeds l.rows.items) x
+        (subst (λ c. IsListing old (is_marked m) columns through (plain_askeds l.rows.items) c) e listed.listed));
+  }
+
+  -- the row is left out
+  pub listed_left : l.closed ≡ false → x.row.guarded ≡ true → x.wanted ≡ false → IsListed arms old m columns (through ++ x ∷ []) l
+  listed_left e g w = record {
+    known = listed.known;
+    kept = listed.kept;
+    rows = listed.rows;
+    listed = subst (λ c. IsListing old (is_marked m) columns (through ++ x ∷ []) (plain_askeds l.rows.items) c) (sym e)
+        (left_guarded old (is_marked m) columns through (plain_askeds l.rows.items) x
+        (subst (λ c. IsListing old (is_marked m) columns through (plain_askeds l.rows.items) c) e listed.listed) g w);
+  }
+
+  -- what the row answers is marked
+  pub listed_noted : (then : Marks) (after : Listing T) → after.rows ≡ l.rows → after.end ≡ l.end → length then.arms.items ≡ length m.arms.items →
+      IsListing old (is_marked then) columns (through ++ x ∷ []) (plain_askeds after.rows.items) after.closed → IsListed arms old then columns (through ++ x ∷ []) after
+  listed_noted then after e f k i = record {
+    known = k ∙ listed.known;
+    kept = kept_same l after e f listed.kept;
+    rows = rw e listed.rows;
+    listed = i;
+  }
+
+  -- the row is kept
+  pub listed_kept : (after : Listing T) → plain_askeds after.rows.items ≡ plain_askeds l.rows.items ++ x ∷ [] → IsKept after → IsRowIn arms columns x →
+      IsListing old (is_marked m) columns (through ++ x ∷ []) (plain_askeds after.rows.items) after.closed → IsListed arms old m columns (through ++ x ∷ []) after
+  listed_kept after e k r i = record {
+    known = listed.known;
+    kept = k;
+    rows = subst (All (IsRowIn arms columns)) (sym e)
+        (All-append (IsRowIn arms columns) (plain_askeds l.rows.items) (x ∷ []) listed.rows (All-cons (IsRowIn arms columns) x [] r (All-nil (IsRowIn arms columns))));
+    listed = i;
+  }
+
+-- what follows of an `Ok` from three things that hold of it
+pub on_ok_all : {X E P Q R S : Type 0} (r : Result X E) → OnOk r P → OnOk r Q → OnOk r R → (P → Q → R → S) → OnOk r S
+on_ok_all (Ok x) p q r f = f p q r
+on_ok_all (Err e) p q r f = p
+
+pub on_ok_held : {X E P : Type 0} (r : Result X E) → P → OnOk r P
+on_ok_held (Ok x) p = p
+on_ok_held (Err e) p = tt
+
+-- what is no empty list
+pub some_long : (n len : ℕ) → (len == 0) ≡ false → n ≡ len → 0 < n
+some_long zero len e f = absurd (eqb-false len 0 e (omega (arith, f)))
+some_long (suc n) len e f = omega arith

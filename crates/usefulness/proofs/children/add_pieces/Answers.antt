@@ -1,0 +1,94 @@
+use Rattle.std.proofs.Common.{◌≡◌, ◌<◌, ◌∷◌, [], ◌∙◌, length, subst, arith}
+use Rattle.std.specs.Bool.{⊤}
+use Rattle.std.specs.List.{All}
+use Rattle.std.proofs.lemmas.List.{length-map}
+use Rattle.std.proofs.lemmas.Option.{MatchOption-at_some, MatchOption-at_none}
+use Rattle.pat_context.specs.Views.{plain_ctor}
+use Rattle.constructor_sets.specs.Columns.{plain_ctors}
+use Rattle.pattern_matrix.specs.Halving.{leaves_with}
+use Rattle.pattern_matrix.specs.Parts.{plain_spans, pieces_left}
+use Rattle.pattern_matrix.specs.Views.{plain_leaf}
+use Rattle.usefulness.specs.States.{IsEnterable, IsGood, apart_leaves}
+use Rattle.usefulness.proofs.Adding.{next_within, one_added, all_added}
+use Rattle.usefulness.proofs.Pieces.{read_at, piece_numbers, piece_leaves}
+use Rattle.usefulness.proofs.Reading.{got_at}
+use Rattle.usefulness.proofs.RowFacts.{at_get}
+use Rattle.usefulness.proofs.children.add_pieces.Goals as goal
+
+pub index-piece-requires : goal.index-piece-requires
+index-piece-requires g c =
+    let found = c.args.found.now in
+    let loop = c.loop-todo in
+    let next = c.in-Some.next in
+    let comes = MatchOption-at_some ⊤ (λ p. pieces_left loop.todo.items ≡ p.piece ∷ pieces_left c.next_piece.new.todo.items) next c.in-Some.is c.in_ok-next.ensures.piece in
+    let within = next_within (g.C.PatCx.is_value c.args.cx.now) (g.C.PatCx.context c.args.cx.now) c.args.a.now found.missing (plain_ctors found.ctors.items) c.args.spans.now c.args.marks.now loop.marks c.args.new.now.items
+    loop.new.items loop.todo.items loop.invariant next.piece (pieces_left c.next_piece.new.todo.items) comes in
+    let long = length-map found.ctors.items plain_ctor in
+    omega (arith, within, long, found.ctors.ok.0)
+
+pub add_piece-requires-clause-piece : goal.add_piece-requires-clause-piece
+add_piece-requires-clause-piece g c =
+    let found = c.args.found.now in
+    let piece = c.in-Some.next.piece in
+    let comes = MatchOption-at_some ⊤ (λ p. pieces_left c.loop-todo.todo.items ≡ p.piece ∷ pieces_left c.next_piece.new.todo.items) c.in-Some.next c.in-Some.is c.in_ok-next.ensures.piece in
+    let below = next_within (g.C.PatCx.is_value c.args.cx.now) (g.C.PatCx.context c.args.cx.now) c.args.a.now found.missing (plain_ctors found.ctors.items) c.args.spans.now c.args.marks.now c.loop-todo.marks c.args.new.now.items
+    c.loop-todo.new.items c.loop-todo.todo.items c.loop-todo.invariant c.in-Some.next.piece (pieces_left c.next_piece.new.todo.items) comes in
+    let count = length-map found.ctors.items plain_ctor in
+    let within : c.in-Some.next.piece < length found.ctors.items = omega (arith, below, count) in
+    at_get (IsEnterable (g.C.PatCx.is_value c.args.cx.now) (g.C.PatCx.context c.args.cx.now) c.args.a.now) (plain_ctors found.ctors.items) piece (plain_ctor c.index-piece.result.now) c.requires.pieces
+    (got_at plain_ctor found.ctors.items piece c.index-piece.result.now within c.index-piece.ensures)
+
+pub add_piece-requires-clause-within : goal.add_piece-requires-clause-within
+add_piece-requires-clause-within g c =
+    let found = c.args.found.now in
+    let piece = c.in-Some.next.piece in
+    let leaves = apart_leaves c.args.a.now in
+    let comes = MatchOption-at_some ⊤ (λ p. pieces_left c.loop-todo.todo.items ≡ p.piece ∷ pieces_left c.next_piece.new.todo.items) c.in-Some.next c.in-Some.is c.in_ok-next.ensures.piece in
+    let below = next_within (g.C.PatCx.is_value c.args.cx.now) (g.C.PatCx.context c.args.cx.now) c.args.a.now found.missing (plain_ctors found.ctors.items) c.args.spans.now c.args.marks.now c.loop-todo.marks c.args.new.now.items
+    c.loop-todo.new.items c.loop-todo.todo.items c.loop-todo.invariant c.in-Some.next.piece (pieces_left c.next_piece.new.todo.items) comes in
+    let count = length-map found.ctors.items plain_ctor in
+    let within : c.in-Some.next.piece < length found.ctors.items = omega (arith, below, count) in
+    let long = length-map found.ctors.items plain_ctor in
+    let listed = MatchOption-at_some ⊤ (λ p. p.leaves.items ≡ leaves_with (plain_spans c.args.spans.now) p.piece) c.in-Some.next c.in-Some.is c.in_ok-next.ensures.leaves in
+    piece_numbers (plain_ctors found.ctors.items) piece (plain_ctor c.index-piece.result.now) below leaves (plain_spans c.args.spans.now) c.requires.spans
+    c.deref.result.now (c.deref.ensures.value ∙ listed) (length c.args.a.now.leaves.items) (length-map c.args.a.now.leaves.items plain_leaf)
+
+pub add_piece-requires-clause-leaves : goal.add_piece-requires-clause-leaves
+add_piece-requires-clause-leaves g c =
+    let found = c.args.found.now in
+    let piece = c.in-Some.next.piece in
+    let ctor = c.index-piece.result.now in
+    let leaves = apart_leaves c.args.a.now in
+    let comes = MatchOption-at_some ⊤ (λ p. pieces_left c.loop-todo.todo.items ≡ p.piece ∷ pieces_left c.next_piece.new.todo.items) c.in-Some.next c.in-Some.is c.in_ok-next.ensures.piece in
+    let below = next_within (g.C.PatCx.is_value c.args.cx.now) (g.C.PatCx.context c.args.cx.now) c.args.a.now found.missing (plain_ctors found.ctors.items) c.args.spans.now c.args.marks.now c.loop-todo.marks c.args.new.now.items
+    c.loop-todo.new.items c.loop-todo.todo.items c.loop-todo.invariant c.in-Some.next.piece (pieces_left c.next_piece.new.todo.items) comes in
+    let count = length-map found.ctors.items plain_ctor in
+    let within : c.in-Some.next.piece < length found.ctors.items = omega (arith, below, count) in
+    let long = length-map found.ctors.items plain_ctor in
+    let listed = MatchOption-at_some ⊤ (λ p. p.leaves.items ≡ leaves_with (plain_spans c.args.spans.now) p.piece) c.in-Some.next c.in-Some.is c.in_ok-next.ensures.leaves in
+    piece_leaves (plain_ctors found.ctors.items) piece (plain_ctor ctor) below leaves (plain_spans c.args.spans.now) c.requires.spans
+    c.deref.result.now (c.deref.ensures.value ∙ listed) (read_at plain_ctor found.ctors.items piece ctor within c.index-piece.ensures)
+
+pub loop-todo-preserved : goal.loop-todo-preserved
+loop-todo-preserved g c =
+    let found = c.args.found.now in
+    let loop = c.loop-todo in
+    let next = c.in-Some.next in
+    let ctor = c.index-piece.result.now in
+    let comes = MatchOption-at_some ⊤ (λ p. pieces_left c.loop-todo.todo.items ≡ p.piece ∷ pieces_left c.next_piece.new.todo.items) c.in-Some.next c.in-Some.is c.in_ok-next.ensures.piece in
+    let below = next_within (g.C.PatCx.is_value c.args.cx.now) (g.C.PatCx.context c.args.cx.now) c.args.a.now found.missing (plain_ctors found.ctors.items) c.args.spans.now c.args.marks.now c.loop-todo.marks c.args.new.now.items
+    c.loop-todo.new.items c.loop-todo.todo.items c.loop-todo.invariant c.in-Some.next.piece (pieces_left c.next_piece.new.todo.items) comes in
+    let count = length-map found.ctors.items plain_ctor in
+    let within : c.in-Some.next.piece < length found.ctors.items = omega (arith, below, count) in
+    one_added (g.C.PatCx.is_value c.args.cx.now) (g.C.PatCx.context c.args.cx.now) c.args.a.now found.missing (plain_ctors found.ctors.items) c.args.spans.now c.args.marks.now loop.marks c.args.new.now.items
+    loop.new.items loop.todo.items loop.invariant next.piece (plain_ctor ctor) c.add_piece.new.marks c.add_piece.new.new.items c.next_piece.new.todo.items comes c.in_ok-next.ensures.full
+    (read_at plain_ctor found.ctors.items next.piece ctor within c.index-piece.ensures) c.in_ok-add_piece.ensures.arms
+    (subst (λ n. All (IsGood n) c.add_piece.new.new.items) loop.invariant.arms c.in_ok-add_piece.ensures.good) c.in_ok-add_piece.ensures.listed
+
+pub returns-clause-listed : goal.returns-clause-listed
+returns-clause-listed g c =
+    let found = c.args.found.now in
+    let loop = c.loop-todo in
+    all_added (g.C.PatCx.is_value c.args.cx.now) (g.C.PatCx.context c.args.cx.now) c.args.a.now found.missing (plain_ctors found.ctors.items) c.args.spans.now c.args.marks.now loop.marks c.args.new.now.items
+    loop.new.items loop.todo.items loop.invariant
+    (MatchOption-at_none (pieces_left loop.todo.items ≡ []) (λ _. ⊤) c.in_default.is c.in_ok-next.ensures.none)

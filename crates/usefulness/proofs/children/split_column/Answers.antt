@@ -1,0 +1,77 @@
+use Rattle.std.proofs.Common.{[], ◌∷◌, length, sym, subst}
+use Rattle.constructor_sets.specs.Columns.{plain_ctors}
+use Rattle.usefulness.specs.Listing.{AreAllListed}
+use Rattle.usefulness.specs.Marking.{is_marked}
+use Rattle.usefulness.specs.States.{frame_views, wild_view}
+use Rattle.usefulness.proofs.Looking.{none_listed}
+use Rattle.usefulness.proofs.Splits.{enterable, wild_fits, looked_missing, looked_present}
+use Rattle.usefulness.proofs.children.split_column.Goals as goal
+
+pub add_pieces-requires-clause-pieces : goal.add_pieces-requires-clause-pieces
+add_pieces-requires-clause-pieces g c =
+    let cx = c.args.cx.now in
+    let IsType = g.C.PatCx.is_type cx in
+    let IsValue = g.C.PatCx.is_value cx in
+    let context = g.C.PatCx.context cx in
+    let values = g.met.C.PatCx.values cx in
+    let law = g.met.C.PatCx.parts cx in
+    let arms = length c.args.marks.now.arms.items in
+    let a = c.args.a.now in
+    let found = c.args.found.now in
+    let ctors = plain_ctors found.ctors.items in
+    let gaps = plain_ctors found.gaps.items in
+    enterable IsType IsValue context values law arms a c.requires.apart c.requires.fit ctors gaps found.missing c.requires.some c.requires.found
+
+pub add_pieces-requires-else-found-clause-pieces : goal.add_pieces-requires-else-found-clause-pieces
+add_pieces-requires-else-found-clause-pieces g c =
+    let cx = c.args.cx.now in
+    let IsType = g.C.PatCx.is_type cx in
+    let IsValue = g.C.PatCx.is_value cx in
+    let context = g.C.PatCx.context cx in
+    let values = g.met.C.PatCx.values cx in
+    let law = g.met.C.PatCx.parts cx in
+    let arms = length c.args.marks.now.arms.items in
+    let a = c.args.a.now in
+    let found = c.args.found.now in
+    let ctors = plain_ctors found.ctors.items in
+    let gaps = plain_ctors found.gaps.items in
+    enterable IsType IsValue context values law arms a c.requires.apart c.requires.fit ctors gaps found.missing c.requires.some c.requires.found
+
+pub returns-in_ok-add_pieces-clause-looked : goal.returns-in_ok-add_pieces-clause-looked
+returns-in_ok-add_pieces-clause-looked g c =
+    let cx = c.args.cx.now in
+    let IsType = g.C.PatCx.is_type cx in
+    let IsValue = g.C.PatCx.is_value cx in
+    let context = g.C.PatCx.context cx in
+    let values = g.met.C.PatCx.values cx in
+    let law = g.met.C.PatCx.parts cx in
+    let arms = length c.args.marks.now.arms.items in
+    let a = c.args.a.now in
+    let found = c.args.found.now in
+    let ctors = plain_ctors found.ctors.items in
+    let gaps = plain_ctors found.gaps.items in
+    let old = is_marked c.args.marks.now in
+    let begun = subst (λ fs. AreAllListed IsValue old old [] (frame_views fs)) (sym c.new-new.ensures.items) (none_listed IsValue old) in
+    looked_missing IsType IsValue context values law arms a c.requires.apart c.requires.fit ctors gaps found.missing c.requires.some c.requires.found
+    old (is_marked c.add_pieces.new.marks) (frame_views c.add_pieces.new.new.items) c.if-found.true c.requires.sharp
+    (c.in_ok-add_pieces.ensures.listed old (wild_view a ∷ [])
+    (c.in_ok-add_wild.ensures.listed old [] (wild_fits IsType IsValue context values law arms a c.requires.apart c.requires.fit ctors gaps found.missing c.requires.some c.requires.found c.if-found.true) begun))
+
+pub returns-in_ok-add_pieces-2-clause-looked : goal.returns-in_ok-add_pieces-2-clause-looked
+returns-in_ok-add_pieces-2-clause-looked g c =
+    let cx = c.args.cx.now in
+    let IsType = g.C.PatCx.is_type cx in
+    let IsValue = g.C.PatCx.is_value cx in
+    let context = g.C.PatCx.context cx in
+    let values = g.met.C.PatCx.values cx in
+    let law = g.met.C.PatCx.parts cx in
+    let arms = length c.args.marks.now.arms.items in
+    let a = c.args.a.now in
+    let found = c.args.found.now in
+    let ctors = plain_ctors found.ctors.items in
+    let gaps = plain_ctors found.gaps.items in
+    let old = is_marked c.args.marks.now in
+    let begun = subst (λ fs. AreAllListed IsValue old old [] (frame_views fs)) (sym c.new-new.ensures.items) (none_listed IsValue old) in
+    looked_present IsType IsValue context values law arms a c.requires.apart c.requires.fit ctors gaps found.missing c.requires.some c.requires.found
+    old (is_marked c.add_pieces-else-found.new.marks) (frame_views c.add_pieces-else-found.new.new.items) c.if-found.false c.requires.sharp
+    (c.in_ok-add_pieces-2.ensures.listed old [] begun)

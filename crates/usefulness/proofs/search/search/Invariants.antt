@@ -1,0 +1,14 @@
+use Rattle.std.proofs.Common.{◌+◌, ◌^◌, length}
+use Rattle.pattern_arena.specs.Trees.{plain_match}
+use Rattle.witness_laws.specs.Searching.{work, first_submatrix}
+use Rattle.usefulness.specs.Children.{bare_sub}
+use Rattle.usefulness.specs.States.{frame_views}
+use Rattle.usefulness.proofs.Searching.{IsGoing}
+use Rattle.usefulness.proofs.search.search.Given as goal
+
+abbrev pub invariant-loop-frame : goal.invariant-loop-frame
+invariant-loop-frame g l =
+    IsGoing (g.C.PatCx.is_type l.cx) (g.C.PatCx.is_value l.cx) (g.C.PatCx.context l.cx) (bare_sub (first_submatrix (plain_match l.m))) (length l.m.arms.now + 1) l.marks l.todo.items
+
+abbrev pub decreases-loop-frame : goal.decreases-loop-frame
+decreases-loop-frame g l = work (2 ^ 64) (frame_views l.todo.items)

@@ -1,0 +1,6 @@
+pub mod Frames
+pub mod Marking
+pub mod Children
+pub mod Listing
+pub mod States
+pub mod Starting

@@ -1,0 +1,197 @@
+// What is left of rows when a column is taken apart.
+ghost use Rattle.std.specs.Prelude.{◌≡◌, ◌<◌, ◌++◌, ◌∷◌, [], List, Bool, false, filter, length, map, IfOk, OnOk};
+ghost use Rattle.std.specs.List.{All, list_all};
+ghost use Rattle.std.specs.Option.{option_to_list};
+ghost use Rattle.match_model.specs.Rows.{starts_wild};
+ghost use Rattle.pat_context.specs.Views.{plain_ctor};
+ghost use Rattle.constructor_sets.specs.Columns.{plain_ctors};
+ghost use Rattle.constructor_sets.specs.Present.{AreFound};
+ghost use Rattle.pattern_matrix.specs.Halving.{AreLeafSpans, leaf_ctors};
+ghost use Rattle.pattern_matrix.specs.Sparse.{leaves_listed, head_has};
+ghost use Rattle.pattern_matrix.specs.Parts.{plain_spans};
+ghost use Rattle.witness_laws.specs.Counting.{Question};
+ghost use Rattle.witness_laws.specs.Searching.{Submatrix, IsFit, IsLookedAt, heads_in};
+ghost use Rattle.usefulness.specs.Marking.{is_marked};
+ghost use Rattle.usefulness.specs.Listing.{AreAllListed};
+ghost use Rattle.usefulness.specs.States.{child_views, frame_views, IsGood, IsApart, IsEnterable, apart_leaves, apart_place, apart_view, piece_view, wild_view};
+
+use crate::Marks;
+use crate::entering::piece_child;
+use crate::frames::{Apart, Frame};
+use crate::wild::wild_child;
+use constructor_sets::{PresentPieces, Span, present};
+use no_memory::NoMemory;
+use pat_context::{Ctor, PatCx};
+use pattern_matrix::{all_parts, leaf_ctors, leaf_spans, next_piece};
+use std::alloc::Global;
+
+// Adds the child, where there is one.
+pub(crate) fn add_child<'a, T: Copy>(
+    new: &mut Vec<Frame<'a, T>>,
+    child: Option<Frame<'a, T>>,
+) -> Result<(), NoMemory>
+    ensures { OnOk result (new.new.items ≡ new.old.items ++ option_to_list child.entry) }
+{
+    match child {
+        None => Ok(()),
+        Some(frame) => {
+            new.push(frame)?;
+            Ok(())
+        }
+    }
+}
+
+// Adds what is left of values in no head.
+fn add_wild<'a, C: PatCx>(
+    alloc: Global,
+    cx: &C,
+    marks: &mut Marks,
+    a: &Apart<'a, C::Ty>,
+    new: &mut Vec<Frame<'a, C::Ty>>,
+) -> Result<(), NoMemory>
+    requires apart { IsApart (length marks.old.arms.items) a.now }
+    requires good { All (IsGood (length marks.old.arms.items)) new.old.items }
+    ensures arms { OnOk result (length marks.new.arms.items ≡ length marks.old.arms.items) }
+    ensures good { OnOk result (All (IsGood (length marks.old.arms.items)) new.new.items) }
+    ensures listed { OnOk result ((old : Question → Bool) (left : List (Submatrix C.Ty)) → IsFit (C.is_type cx.now) (C.is_value cx.now) (C.context cx.now) (wild_view a.now)
+        → AreAllListed (C.is_value cx.now) old (is_marked marks.old) left (frame_views new.old.items)
+        → AreAllListed (C.is_value cx.now) old (is_marked marks.new) (left ++ wild_view a.now ∷ []) (frame_views new.new.items)) }
+{
+    let child = wild_child(alloc, cx, marks, a)?;
+    add_child(new, child)
+}
+
+// Adds what is left of the piece.
+fn add_piece<'a, C: PatCx>(
+    alloc: Global,
+    cx: &C,
+    marks: &mut Marks,
+    a: &Apart<'a, C::Ty>,
+    piece: &Ctor,
+    leaves: &[usize],
+    missing: bool,
+    new: &mut Vec<Frame<'a, C::Ty>>,
+) -> Result<(), NoMemory>
+    requires apart { IsApart (length marks.old.arms.items) a.now }
+    requires ty { C.is_type cx.now a.now.taken.column.ty }
+    requires piece { IsEnterable (C.is_value cx.now) (C.context cx.now) a.now (plain_ctor piece.now) }
+    requires within { All (λ k. k < length a.now.leaves.items) leaves.now }
+    requires leaves { leaves_listed (apart_leaves a.now) leaves.now ≡ filter (λ l. head_has (plain_ctor piece.now) l.head) (apart_leaves a.now) }
+    requires good { All (IsGood (length marks.old.arms.items)) new.old.items }
+    ensures arms { OnOk result (length marks.new.arms.items ≡ length marks.old.arms.items) }
+    ensures good { OnOk result (All (IsGood (length marks.old.arms.items)) new.new.items) }
+    ensures listed { OnOk result ((old : Question → Bool) (left : List (Submatrix C.Ty))
+        → AreAllListed (C.is_value cx.now) old (is_marked marks.old) left (frame_views new.old.items)
+        → AreAllListed (C.is_value cx.now) old (is_marked marks.new) (left ++ piece_view (C.context cx.now) a.now missing (plain_ctor piece.now) ∷ []) (frame_views new.new.items)) }
+{
+    let child = piece_child(alloc, cx, marks, a, piece, leaves, missing)?;
+    add_child(new, child)
+}
+
+// Adds what is left of each of the pieces, of which the leaves have those that the spans tell.
+fn add_pieces<'a, C: PatCx>(
+    alloc: Global,
+    cx: &C,
+    marks: &mut Marks,
+    a: &Apart<'a, C::Ty>,
+    found: &PresentPieces<'a>,
+    spans: &[Span],
+    new: &mut Vec<Frame<'a, C::Ty>>,
+) -> Result<(), NoMemory>
+    requires apart { IsApart (length marks.old.arms.items) a.now }
+    requires ty { C.is_type cx.now a.now.taken.column.ty }
+    requires pieces { All (IsEnterable (C.is_value cx.now) (C.context cx.now) a.now) (plain_ctors found.now.ctors.items) }
+    requires spans { AreLeafSpans (plain_ctors found.now.ctors.items) (apart_leaves a.now) (plain_spans spans.now) }
+    requires good { All (IsGood (length marks.old.arms.items)) new.old.items }
+    ensures arms { OnOk result (length marks.new.arms.items ≡ length marks.old.arms.items) }
+    ensures good { OnOk result (All (IsGood (length marks.old.arms.items)) new.new.items) }
+    ensures listed { OnOk result ((old : Question → Bool) (left : List (Submatrix C.Ty))
+        → AreAllListed (C.is_value cx.now) old (is_marked marks.old) left (frame_views new.old.items)
+        → AreAllListed (C.is_value cx.now) old (is_marked marks.new) (left ++ map (piece_view (C.context cx.now) a.now found.now.missing) (plain_ctors found.now.ctors.items)) (frame_views new.new.items)) }
+{
+    let mut todo = all_parts(alloc, spans, found.ctors.len())?;
+    while let Some(next) = next_piece(alloc, &mut todo, spans)? {
+        let piece = &found.ctors[next.piece];
+        add_piece(alloc, cx, marks, a, piece, &next.leaves, found.missing, new)?;
+    }
+    Ok(())
+}
+
+// What is left of rows that are all wild at the column.
+fn dropped_column<'a, C: PatCx>(
+    alloc: Global,
+    cx: &C,
+    marks: &mut Marks,
+    a: &Apart<'a, C::Ty>,
+) -> Result<Vec<Frame<'a, C::Ty>>, NoMemory>
+    requires apart { IsApart (length marks.old.arms.items) a.now }
+    requires fit { IsFit (C.is_type cx.now) (C.is_value cx.now) (C.context cx.now) (apart_view a.now) }
+    requires sharp { list_all starts_wild (heads_in (apart_view a.now).rows) ≡ false }
+    requires none { leaf_ctors (apart_leaves a.now) ≡ [] }
+    ensures arms { OnOk result (length marks.new.arms.items ≡ length marks.old.arms.items) }
+    ensures good { IfOk result (λ v. All (IsGood (length marks.old.arms.items)) v.items) }
+    ensures looked { IfOk result (λ v. IsLookedAt (C.is_type cx.now) (C.is_value cx.now) (C.context cx.now) (is_marked marks.old) (is_marked marks.new) (apart_view a.now) (frame_views v.items)) }
+{
+    let mut new = Vec::new(alloc);
+    add_wild(alloc, cx, marks, a, &mut new)?;
+    Ok(new)
+}
+
+// What is left of the pieces that were found at the column, and where one is missing of values in no head.
+fn split_column<'a, C: PatCx>(
+    alloc: Global,
+    cx: &C,
+    marks: &mut Marks,
+    a: &Apart<'a, C::Ty>,
+    found: &PresentPieces<'a>,
+    spans: &[Span],
+) -> Result<Vec<Frame<'a, C::Ty>>, NoMemory>
+    requires apart { IsApart (length marks.old.arms.items) a.now }
+    requires fit { IsFit (C.is_type cx.now) (C.is_value cx.now) (C.context cx.now) (apart_view a.now) }
+    requires sharp { list_all starts_wild (heads_in (apart_view a.now).rows) ≡ false }
+    requires some { (leaf_ctors (apart_leaves a.now) ≡ []) → ⊥ }
+    requires found { AreFound (C.is_value cx.now) (C.context cx.now) (apart_place a.now) (leaf_ctors (apart_leaves a.now)) (plain_ctors found.now.ctors.items) found.now.missing (plain_ctors found.now.gaps.items) }
+    requires spans { AreLeafSpans (plain_ctors found.now.ctors.items) (apart_leaves a.now) (plain_spans spans.now) }
+    ensures arms { OnOk result (length marks.new.arms.items ≡ length marks.old.arms.items) }
+    ensures good { IfOk result (λ v. All (IsGood (length marks.old.arms.items)) v.items) }
+    ensures looked { IfOk result (λ v. IsLookedAt (C.is_type cx.now) (C.is_value cx.now) (C.context cx.now) (is_marked marks.old) (is_marked marks.new) (apart_view a.now) (frame_views v.items)) }
+{
+    let mut new = Vec::new(alloc);
+    if found.missing {
+        add_wild(alloc, cx, marks, a, &mut new)?;
+        add_pieces(alloc, cx, marks, a, found, spans, &mut new)?;
+        Ok(new)
+    } else {
+        add_pieces(alloc, cx, marks, a, found, spans, &mut new)?;
+        Ok(new)
+    }
+}
+
+// What is left of the rows.
+pub(crate) fn children<'a, C: PatCx>(
+    alloc: Global,
+    cx: &C,
+    marks: &mut Marks,
+    a: &Apart<'a, C::Ty>,
+) -> Result<Vec<Frame<'a, C::Ty>>, NoMemory>
+    requires apart { IsApart (length marks.old.arms.items) a.now }
+    requires fit { IsFit (C.is_type cx.now) (C.is_value cx.now) (C.context cx.now) (apart_view a.now) }
+    requires sharp { list_all starts_wild (heads_in (apart_view a.now).rows) ≡ false }
+    ensures arms { OnOk result (length marks.new.arms.items ≡ length marks.old.arms.items) }
+    ensures good { IfOk result (λ v. All (IsGood (length marks.old.arms.items)) v.items) }
+    ensures looked { IfOk result (λ v. IsLookedAt (C.is_type cx.now) (C.is_value cx.now) (C.context cx.now) (is_marked marks.old) (is_marked marks.new) (apart_view a.now) (frame_views v.items)) }
+{
+    let ctors = leaf_ctors(alloc, &a.leaves)?;
+    if ctors.is_empty() {
+        return dropped_column(alloc, cx, marks, a);
+    }
+    let found = present(
+        alloc,
+        cx,
+        a.taken.column.ty,
+        a.taken.column.validity,
+        &ctors,
+    )?;
+    let spans = leaf_spans(alloc, &found.ctors, &a.leaves, &found.spans)?;
+    split_column(alloc, cx, marks, a, &found, &spans)
+}

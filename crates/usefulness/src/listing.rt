@@ -1,0 +1,119 @@
+// Rows that are listed one by one: what is reached is marked, and what brings nothing new and stops nothing is left out.
+ghost use Rattle.std.specs.Prelude.{◌≡◌, ◌≤◌, ◌<◌, ◌&&◌, ◌++◌, ◌∷◌, [], List, ℕ, Bool, true, false, not, length, drop, take, IfOk, OnOk, IfSome};
+ghost use Rattle.std.specs.List.{All, list_any};
+ghost use Rattle.witness_laws.specs.Counting.{Question};
+ghost use Rattle.usefulness.specs.Frames.{SparseAsked, IsRowIn, AreOpen, numbers, has_heads, subs_of};
+ghost use Rattle.usefulness.specs.Marking.{is_marked};
+ghost use Rattle.usefulness.specs.Listing.{IsListing};
+ghost use Rattle.usefulness.specs.States.{plain_asked, plain_askeds, plain_opens, child_views, IsGood, IsKept, IsListed};
+
+use crate::Marks;
+use crate::frames::{Asked, Frame, Listing, OpenColumn};
+use no_memory::NoMemory;
+use std::alloc::Global;
+
+// No rows.
+pub(crate) fn none_listed<'a, T: Copy>(alloc: Global) -> Listing<'a, T>
+    ensures rows { plain_askeds result.rows.items ≡ [] }
+    ensures closed { result.closed ≡ false }
+    ensures kept { IsKept result }
+{
+    Listing {
+        rows: Vec::new(alloc),
+        end: 0,
+        closed: false,
+    }
+}
+
+// Marks what the row answers, before which none was kept. It lists no head.
+fn note<'a, T: Copy>(
+    marks: &mut Marks,
+    listing: &mut Listing<'a, T>,
+    asked: &Asked<'a, T>,
+) -> Result<(), NoMemory>
+    requires arm { asked.now.row.arm < length marks.old.arms.items }
+    requires bare { has_heads (plain_asked asked.now).row.heads ≡ false }
+    requires none { plain_askeds listing.old.rows.items ≡ [] }
+    requires more { listing.old.closed ≡ false }
+    ensures arms { length marks.new.arms.items ≡ length marks.old.arms.items }
+    ensures rows { listing.new.rows ≡ listing.old.rows }
+    ensures end { listing.new.end ≡ listing.old.end }
+    ensures listed { OnOk result ((old : Question → Bool) (columns : List ℕ) (through : List (SparseAsked T))
+        → IsListing old (is_marked marks.old) columns through (plain_askeds listing.old.rows.items) listing.old.closed
+        → IsListing old (is_marked marks.new) columns (through ++ plain_asked asked.now ∷ []) (plain_askeds listing.new.rows.items) listing.new.closed) }
+{
+    listing.closed = !asked.row.guarded;
+    if asked.wanted {
+        marks.mark(asked.row.arm, asked.row.chosen.as_slice())?;
+    }
+    Ok(())
+}
+
+// Keeps the row, which lists a head where it is the first one.
+fn keep<'a, T: Copy>(listing: &mut Listing<'a, T>, asked: Asked<'a, T>) -> Result<(), NoMemory>
+    requires kept { IsKept listing.old }
+    requires start { plain_askeds listing.old.rows.items ≡ [] → has_heads (plain_asked asked).row.heads ≡ true }
+    requires more { listing.old.closed ≡ false }
+    ensures rows { OnOk result (plain_askeds listing.new.rows.items ≡ plain_askeds listing.old.rows.items ++ plain_asked asked.entry ∷ []) }
+    ensures kept { OnOk result (IsKept listing.new) }
+    ensures listed { OnOk result ((old now : Question → Bool) (columns : List ℕ) (through : List (SparseAsked T))
+        → IsListing old now columns through (plain_askeds listing.old.rows.items) listing.old.closed
+        → IsListing old now columns (through ++ plain_asked asked.entry ∷ []) (plain_askeds listing.new.rows.items) listing.new.closed) }
+{
+    let wanted = asked.wanted;
+    let closed = asked.row.heads.is_empty() && !asked.row.guarded;
+    listing.rows.push(asked)?;
+    if wanted {
+        listing.end = listing.rows.len();
+    }
+    listing.closed = closed;
+    Ok(())
+}
+
+// Lists one row more.
+pub(crate) fn list_row<'a, T: Copy>(
+    marks: &mut Marks,
+    listing: &mut Listing<'a, T>,
+    asked: Asked<'a, T>,
+) -> Result<(), NoMemory>
+    requires arm { asked.row.arm < length marks.old.arms.items }
+    requires kept { IsKept listing.old }
+    ensures { OnOk result ((arms : ℕ) (old : Question → Bool) (columns : List ℕ) (through : List (SparseAsked T))
+        → IsListed arms old marks.old columns through listing.old → IsRowIn arms columns (plain_asked asked.entry)
+        → IsListed arms old marks.new columns (through ++ plain_asked asked.entry ∷ []) listing.new) }
+{
+    if listing.closed {
+        return Ok(());
+    }
+    if asked.row.heads.is_empty() && listing.rows.is_empty() {
+        note(marks, listing, &asked)
+    } else if asked.row.guarded && !asked.wanted {
+        Ok(())
+    } else {
+        keep(listing, asked)
+    }
+}
+
+// What is to be looked at of the rows, over these columns: those up to the last wanted one, where there is any.
+pub(crate) fn finish<'a, T: Copy>(
+    listing: Listing<'a, T>,
+    columns: Vec<OpenColumn<T>>,
+    next: usize,
+) -> Option<Frame<'a, T>>
+    requires kept { IsKept listing }
+    ensures good { IfSome result (λ f. (arms : ℕ) → AreOpen next (numbers (plain_opens columns.items)) → All (IsRowIn arms (numbers (plain_opens columns.items))) (plain_askeds listing.entry.rows.items) → IsGood arms f) }
+    ensures views { child_views result ≡ subs_of (plain_opens columns.items) (take listing.entry.end (plain_askeds listing.entry.rows.items)) }
+{
+    let mut listing = listing;
+    let end = listing.end;
+    listing.rows.truncate(end);
+    if listing.rows.is_empty() {
+        None
+    } else {
+        Some(Frame {
+            columns,
+            next,
+            rows: listing.rows,
+        })
+    }
+}
