@@ -84,7 +84,7 @@ def main():
             raise SystemExit("plain Rust differs: %s %d: %s, %s" % (KINDS[kind], heads, plain[(kind, heads)][0], what))
         beside = plain[(kind, heads)][1]
         ratio = took / max(beside, 1)
-        grown = [now / max(then, 1) / 2 for now, then in zip((took, beside), before[kind])] if kind in before else []
+        grown = [new / max(old, 1) / 2 for new, old in zip((took, beside), before[kind])] if kind in before else []
         shown = ["%.2f" % it for it in grown] or ["", ""]
         print("| %s | %d | %s | %.2f | %s | %.2f | %s | %.2f |" % (KINDS[kind], heads, what[0], took / 1000, shown[0], beside / 1000, shown[1], ratio))
         if ratio > RATIO or grown and grown[0] > GROWTH:
