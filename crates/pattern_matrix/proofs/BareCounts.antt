@@ -12,10 +12,10 @@ use Rattle.match_model.specs.Rows.{Head as MHead, is_wild, starts_wild}
 use Rattle.match_model.specs.Matrices.{MColumn}
 use Rattle.match_model.specs.WellTyped.{AreHeadsTyped, IsHeadTyped}
 use Rattle.match_model.specs.Weights.{rows_weight}
-use Rattle.witness_laws.specs.Covering.{head_takes, row_takes}
-use Rattle.witness_laws.specs.HeadRows.{cols, AllTyped, AreMadeHeads, AreMadeRows, IsMadeHead}
-use Rattle.witness_laws.specs.Counting.{Question, WantedRow, has_chosen, head_passes, heads_pass, counts}
-use Rattle.witness_laws.specs.Searching.{Submatrix, heads_in, weight_of, IsFit, Comes}
+use Rattle.pattern_matrix.specs.Covering.{head_takes, row_takes}
+use Rattle.pattern_matrix.specs.HeadRows.{cols, AllTyped, AreMadeHeads, AreMadeRows, IsMadeHead}
+use Rattle.pattern_matrix.specs.Counting.{Question, WantedRow, has_chosen, head_passes, heads_pass, counts}
+use Rattle.pattern_matrix.specs.Searching.{Submatrix, heads_in, weight_of, IsFit, Comes}
 use Rattle.pattern_matrix.specs.Sparse.{bare_head, bare_row}
 use Rattle.pattern_matrix.specs.Wanted.{bare_wanted, bare_submatrix}
 use Rattle.pattern_matrix.proofs.BareLaws.{bare_rows_weigh, bound_trace}

@@ -7,13 +7,13 @@ use Rattle.match_model.specs.ContextLaws.{PartsLaw, ValuesLaw}
 use Rattle.match_model.specs.Rows.{starts_wild}
 use Rattle.match_model.proofs.Basics.{untrue}
 use Rattle.pat_context.specs.Parts.{AreValues}
-use Rattle.witness_laws.specs.Counting.{Question, WantedRow, counts}
-use Rattle.witness_laws.specs.Searching.{Submatrix, heads_in, weight_of, IsFit, Comes, SomeComes, apart, IsSplit, AreListed, IsLookedAt, StandFor}
-use Rattle.witness_laws.specs.ReachLaws.{SplitsHandOn}
-use Rattle.witness_laws.proofs.HandingOn.{contains-map, from-map}
-use Rattle.witness_laws.proofs.Listing.{part_typed, part_made, part_weighs}
-use Rattle.witness_laws.proofs.SearchSteps.{values_long}
-use Rattle.witness_laws.proofs.Splitting.{splits_hand_on}
+use Rattle.pattern_matrix.specs.Counting.{Question, WantedRow, counts}
+use Rattle.pattern_matrix.specs.Searching.{Submatrix, heads_in, weight_of, IsFit, Comes, SomeComes, apart, IsSplit, AreListed, IsLookedAt, StandFor}
+use Rattle.pattern_matrix.specs.ReachLaws.{SplitsHandOn}
+use Rattle.pattern_matrix.proofs.HandingOn.{contains-map, from-map}
+use Rattle.pattern_matrix.proofs.ListedRows.{part_typed, part_made, part_weighs}
+use Rattle.pattern_matrix.proofs.SearchSteps.{values_long}
+use Rattle.pattern_matrix.proofs.Splitting.{splits_hand_on}
 use Rattle.pattern_matrix.specs.Wanted.{bare_submatrix}
 use Rattle.pattern_matrix.proofs.BareCounts.{fit_bare, comes_bare, weighs_bare}
 

@@ -13,9 +13,9 @@ use Rattle.match_model.specs.Matrices.{column_at}
 use Rattle.match_model.specs.WellTyped.{IsHeadTyped, IsTyped, is_written}
 use Rattle.match_model.proofs.Basics.{untrue}
 use Rattle.constructor_sets.specs.Present.{is_sharp_head}
-use Rattle.witness_laws.specs.HeadRows.{cols, AllTyped}
-use Rattle.witness_laws.proofs.Places.{expanded_typed, expanded_none, NoneOr}
-use Rattle.witness_laws.proofs.SpecialTyped.{head_fitted}
+use Rattle.pattern_matrix.specs.HeadRows.{cols, AllTyped}
+use Rattle.pattern_matrix.proofs.Places.{expanded_typed, expanded_none, NoneOr}
+use Rattle.pattern_matrix.proofs.SpecialTyped.{head_fitted}
 use Rattle.pattern_matrix.specs.Sparse.{SparseRow, SparseLeaf, bare_head, head_at, head_has, leaf_parts}
 use Rattle.pattern_matrix.specs.Spreading.{leaf_of, apart, all_apart}
 use Rattle.pattern_matrix.specs.Halving.{leaf_ctors}

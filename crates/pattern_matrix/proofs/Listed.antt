@@ -4,7 +4,7 @@ use Rattle.match_model.specs.Values.{MValue}
 use Rattle.match_model.specs.Contexts.{Context}
 use Rattle.match_model.specs.ContextLaws.{PartsLaw, ValuesLaw}
 use Rattle.match_model.specs.Rows.{parts_open}
-use Rattle.witness_laws.specs.Searching.{apart, settled}
+use Rattle.pattern_matrix.specs.Searching.{apart, settled}
 use Rattle.pattern_matrix.specs.Sparse.{columns_from}
 use Rattle.pattern_matrix.specs.Spreading.{all_apart}
 use Rattle.pattern_matrix.specs.Wanted.{wanted_views}

@@ -7,8 +7,8 @@ use Rattle.std.proofs.lemmas.Grind.{flat_map-append}
 use Rattle.match_model.specs.Contexts.{Open}
 use Rattle.match_model.specs.Rows.{is_wild}
 use Rattle.match_model.specs.ArenaPatterns.{MDePat}
-use Rattle.witness_laws.specs.Counting.{WantedRow}
-use Rattle.witness_laws.specs.Searching.{moved, put_second}
+use Rattle.pattern_matrix.specs.Counting.{WantedRow}
+use Rattle.pattern_matrix.specs.Searching.{moved, put_second}
 use Rattle.pattern_matrix.specs.Sparse.{SparseRow, columns_from, head_at, row_view, AreBelow, AreHeadsBelow, AreOver, AreHeadsOver, AreOthers, Lacks}
 use Rattle.pattern_matrix.specs.Wanted.{wanted_views}
 use Rattle.pattern_matrix.specs.Opens.{places_at, AreDistinct, AreOpen, ColumnsStayOpen}

@@ -7,8 +7,8 @@ use Rattle.match_model.specs.Constructors.{MCtor, WildCtor}
 use Rattle.match_model.specs.ArenaPatterns.{MDePat, de_pat}
 use Rattle.match_model.specs.Rows.{Head as MHead, is_wild, starts_wild, first_ctor, column_of}
 use Rattle.match_model.proofs.Basics.{untrue}
-use Rattle.witness_laws.specs.Counting.{WantedRow}
-use Rattle.witness_laws.specs.Searching.{heads_in, apart, first_ctors}
+use Rattle.pattern_matrix.specs.Counting.{WantedRow}
+use Rattle.pattern_matrix.specs.Searching.{heads_in, apart, first_ctors}
 use Rattle.pattern_matrix.specs.Sparse.{SparseRow, SparseLeaf, bare_head, head_at, heads_at, leaf_row, AreHeadsOver, AreOver}
 use Rattle.pattern_matrix.specs.Spreading.{all_apart}
 use Rattle.pattern_matrix.specs.Halving.{leaf_ctors}

@@ -10,8 +10,8 @@ use Rattle.match_model.specs.ArenaPatterns.{de_pat, de_pats_list}
 use Rattle.match_model.specs.Rows.{Head as MHead, Choice, choices_of, is_wild, starts_wild, wildcards, heads_of}
 use Rattle.match_model.specs.Matrices.{MRow}
 use Rattle.match_model.specs.Steps.{Replacement, expand_head, specialise_head, default_head, with_others, replacements_at, row_replaced}
-use Rattle.witness_laws.specs.Counting.{WantedRow, wanted_at}
-use Rattle.witness_laws.specs.Searching.{apart, settled}
+use Rattle.pattern_matrix.specs.Counting.{WantedRow, wanted_at}
+use Rattle.pattern_matrix.specs.Searching.{apart, settled}
 use Rattle.pattern_matrix.specs.Sparse.{SparseRow, SparseLeaf, bare_head, bare_row, head_at, heads_at, row_view, leaf_row, columns_from, AreHeadsBelow, AreBelow, AreOthers, Lacks, head_has, leaf_parts}
 use Rattle.pattern_matrix.specs.Opening.{opened_row, dropped_row}
 use Rattle.pattern_matrix.specs.Spreading.{leaf_of, all_apart}

@@ -7,9 +7,9 @@ use Rattle.std.proofs.lemmas.List.Elements.{All-head, All-tail}
 use Rattle.match_model.specs.ArenaPatterns.{MDePat, MDeArm}
 use Rattle.match_model.specs.Rows.{is_wild}
 use Rattle.match_model.specs.Matrices.{MRow, first_rows}
-use Rattle.witness_laws.specs.HeadRows.{all_heads}
-use Rattle.witness_laws.specs.Counting.{all_wanted, row_behind}
-use Rattle.witness_laws.specs.Searching.{heads_in}
+use Rattle.pattern_matrix.specs.HeadRows.{all_heads}
+use Rattle.pattern_matrix.specs.Counting.{all_wanted, row_behind}
+use Rattle.pattern_matrix.specs.Searching.{heads_in}
 use Rattle.pattern_matrix.specs.Sparse.{SparseRow, SparseLeaf, bare_row, head_at, heads_at, row_view, row_views, leaves_listed}
 use Rattle.pattern_matrix.specs.Opening.{opened_row, opened_rows}
 use Rattle.pattern_matrix.specs.Starting.{starting_rows}

@@ -1,3 +1,10 @@
+pub mod Covering
+pub mod HeadRows
+pub mod CoverLaws
+pub mod Counting
+pub mod Searching
+pub mod ReachLaws
+pub mod SearchLaws
 pub mod Sparse
 pub mod Views
 pub mod Spreading

@@ -9,9 +9,9 @@ use Rattle.match_model.specs.ArenaPatterns.{MDeMatch}
 use Rattle.match_model.specs.Contexts.{Context, Open}
 use Rattle.match_model.specs.Rows.{Head as MHead, is_wild, starts_wild, parts_open}
 use Rattle.constructor_sets.specs.Present.{is_sharp_head}
-use Rattle.witness_laws.specs.HeadRows.{all_heads}
-use Rattle.witness_laws.specs.Counting.{Question, WantedRow, counts}
-use Rattle.witness_laws.specs.Searching.{Submatrix, heads_in, weight_of, IsFit, Comes, SomeComes, apart, left_over, entered, settled, first_ctors, IsSplit, AreListed, IsLookedAt, first_submatrix}
+use Rattle.pattern_matrix.specs.HeadRows.{all_heads}
+use Rattle.pattern_matrix.specs.Counting.{Question, WantedRow, counts}
+use Rattle.pattern_matrix.specs.Searching.{Submatrix, heads_in, weight_of, IsFit, Comes, SomeComes, apart, left_over, entered, settled, first_ctors, IsSplit, AreListed, IsLookedAt, first_submatrix}
 use Rattle.pattern_matrix.specs.Sparse.{SparseRow, SparseLeaf, bare_head, row_view, row_views, columns_from, AreOver, AreBelow, AreOthers, Lacks, head_has, leaf_parts, leaves_listed, IsLeafOf, AreParts}
 use Rattle.pattern_matrix.specs.Opening.{opened_rows}
 use Rattle.pattern_matrix.specs.Spreading.{all_apart}

@@ -3,7 +3,7 @@ use Rattle.std.specs.Prelude.{◌≡◌, ⊤, ◌<◌, ◌+◌, ℕ, Bool, List,
 use Rattle.std.specs.List.{All, Contains, flat_map}
 use Rattle.std.specs.Option.{option_to_list}
 use Rattle.match_model.specs.Contexts.{Open}
-use Rattle.witness_laws.specs.Searching.{moved, moved_first}
+use Rattle.pattern_matrix.specs.Searching.{moved, moved_first}
 use Rattle.pattern_matrix.specs.Sparse.{SparseRow, columns_from, AreBelow, AreOver, AreOthers, Lacks}
 use Rattle.pattern_matrix.specs.Wanted.{wanted_views}
 

@@ -4,7 +4,7 @@ use Rattle.std.specs.List.{All}
 use Rattle.match_model.specs.Contexts.{Context, Open}
 use Rattle.match_model.specs.Rows.{starts_or}
 use Rattle.match_model.specs.WellTyped.{IsHeadTyped}
-use Rattle.witness_laws.specs.HeadRows.{cols, all_heads, AllTyped}
+use Rattle.pattern_matrix.specs.HeadRows.{cols, all_heads, AllTyped}
 use Rattle.pattern_matrix.specs.Sparse.{SparseRow, SparseLeaf, row_views}
 
 -- the leaf's head is a wildcard, or well typed for the type and no or-pattern

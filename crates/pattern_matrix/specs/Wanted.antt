@@ -4,8 +4,8 @@ use Rattle.std.specs.List.{flat_map}
 use Rattle.std.specs.Option.{option_to_list}
 use Rattle.match_model.specs.Rows.{is_wild}
 use Rattle.match_model.specs.Matrices.{MRow}
-use Rattle.witness_laws.specs.Counting.{WantedRow}
-use Rattle.witness_laws.specs.Searching.{Submatrix}
+use Rattle.pattern_matrix.specs.Counting.{WantedRow}
+use Rattle.pattern_matrix.specs.Searching.{Submatrix}
 use Rattle.pattern_matrix.specs.Sparse.{SparseRow, SparseLeaf, bare_row, row_view, leaf_row}
 use Rattle.pattern_matrix.specs.Opening.{opened_row, dropped_row}
 

@@ -11,10 +11,10 @@ use Rattle.match_model.specs.WellTyped.{AreHeadsTyped}
 use Rattle.match_model.specs.Weights.{heads_weight, rows_weight}
 use Rattle.pattern_matrix.specs.Sparse.{bare_head}
 use Rattle.pattern_matrix.proofs.BareLaws.{bound_trace, bare_weights}
-use Rattle.witness_laws.specs.Covering.{head_takes, row_takes}
-use Rattle.witness_laws.specs.HeadRows.{cols, AllTyped, AreMadeHeads, AreMadeRows}
-use Rattle.witness_laws.specs.Counting.{Question, WantedRow, head_passes, heads_pass, counts}
-use Rattle.witness_laws.specs.Searching.{Submatrix, weight_of, heads_in, IsFit, Comes}
+use Rattle.pattern_matrix.specs.Covering.{head_takes, row_takes}
+use Rattle.pattern_matrix.specs.HeadRows.{cols, AllTyped, AreMadeHeads, AreMadeRows}
+use Rattle.pattern_matrix.specs.Counting.{Question, WantedRow, head_passes, heads_pass, counts}
+use Rattle.pattern_matrix.specs.Searching.{Submatrix, weight_of, heads_in, IsFit, Comes}
 use Rattle.usefulness.specs.Children.{bare_rows, bare_sub}
 
 head_takes_bare : {T : Type 0} (h : Head T) (v : MValue) → head_takes (bare_head h) v ≡ head_takes h v

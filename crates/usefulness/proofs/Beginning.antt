@@ -10,13 +10,13 @@ use Rattle.match_model.specs.Matrices.{first_rows}
 use Rattle.match_model.proofs.Basics.{untrue}
 use Rattle.pattern_matrix.specs.Sparse.{bare_head}
 use Rattle.pattern_matrix.specs.Starting.{starting_row, starting_rows}
-use Rattle.witness_laws.specs.Counting.{Question, WantedRow, counts, all_wanted, row_behind, to_arm, through_alternative}
-use Rattle.witness_laws.specs.Searching.{Submatrix, weight_of, IsFit, Comes, IsAccounted, IsSearch, StandFor, first_submatrix}
-use Rattle.witness_laws.specs.SearchLaws.{IsReached}
-use Rattle.witness_laws.proofs.HandingOn.{here, in_cons}
-use Rattle.witness_laws.proofs.Listing.{part_weighs}
-use Rattle.witness_laws.proofs.SearchSteps.{ends, values_long}
-use Rattle.witness_laws.proofs.FirstTold.{first_tells}
+use Rattle.pattern_matrix.specs.Counting.{Question, WantedRow, counts, all_wanted, row_behind, to_arm, through_alternative}
+use Rattle.pattern_matrix.specs.Searching.{Submatrix, weight_of, IsFit, Comes, IsAccounted, IsSearch, StandFor, first_submatrix}
+use Rattle.pattern_matrix.specs.SearchLaws.{IsReached}
+use Rattle.pattern_matrix.proofs.HandingOn.{here, in_cons}
+use Rattle.pattern_matrix.proofs.ListedRows.{part_weighs}
+use Rattle.pattern_matrix.proofs.SearchSteps.{ends, values_long}
+use Rattle.pattern_matrix.proofs.FirstTold.{first_tells}
 use Rattle.usefulness.specs.Frames.{asked_view, asked_views, sub_view, IsHeadIn, IsRowIn}
 use Rattle.usefulness.specs.Children.{bare_wanted, bare_rows, bare_sub}
 use Rattle.usefulness.specs.Listing.{IsListedAs}

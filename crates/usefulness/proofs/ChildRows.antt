@@ -15,7 +15,7 @@ use Rattle.pattern_matrix.specs.Sparse.{SparseLeaf, bare_head, bare_row, heads_a
 use Rattle.pattern_matrix.specs.Opening.{opened_row, dropped_row}
 use Rattle.pattern_matrix.proofs.Apart.{bare-bare}
 use Rattle.pattern_matrix.proofs.Opened.{dropped_views, opened_views}
-use Rattle.witness_laws.specs.Counting.{WantedRow, wanted_at}
+use Rattle.pattern_matrix.specs.Counting.{WantedRow, wanted_at}
 use Rattle.usefulness.specs.Frames.{SparseAsked, asked_view, asked_views}
 use Rattle.usefulness.specs.Children.{bare_wanted, bare_rows, dropped_at, dropped, opened_at, opened, leaf_wanted, leaves_wanted, settled_if}
 

@@ -4,7 +4,7 @@ use Rattle.std.specs.List.{Contains}
 use Rattle.match_model.proofs.Basics.{untrue}
 use Rattle.pattern_matrix.specs.declared.rows.Head.{Head}
 use Rattle.pattern_matrix.specs.Views.{plain_head}
-use Rattle.witness_laws.proofs.HandingOn.{here}
+use Rattle.pattern_matrix.proofs.HandingOn.{here}
 use Rattle.usefulness.specs.declared.frames.OpenColumn.{OpenColumn}
 use Rattle.usefulness.specs.declared.frames.Asked.{Asked}
 use Rattle.usefulness.specs.Frames.{has_start, has_heads, numbers}

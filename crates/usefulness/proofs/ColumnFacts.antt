@@ -19,12 +19,12 @@ use Rattle.pattern_matrix.proofs.Apart.{all_within}
 use Rattle.pattern_matrix.proofs.Having.{column_is}
 use Rattle.constructor_sets.specs.Columns.{is_head}
 use Rattle.constructor_sets.specs.Present.{is_sharp_head}
-use Rattle.witness_laws.specs.Counting.{WantedRow}
-use Rattle.witness_laws.specs.HeadRows.{cols, AllTyped}
-use Rattle.witness_laws.specs.Searching.{heads_in, IsFit, first_ctors, apart as taken_apart}
-use Rattle.witness_laws.proofs.HandingOn.{apart_fit, apart_none}
-use Rattle.witness_laws.proofs.Places.{heads_good}
-use Rattle.witness_laws.proofs.SpecialTyped.{head_fitted}
+use Rattle.pattern_matrix.specs.Counting.{WantedRow}
+use Rattle.pattern_matrix.specs.HeadRows.{cols, AllTyped}
+use Rattle.pattern_matrix.specs.Searching.{heads_in, IsFit, first_ctors, apart as taken_apart}
+use Rattle.pattern_matrix.proofs.HandingOn.{apart_fit, apart_none}
+use Rattle.pattern_matrix.proofs.Places.{heads_good}
+use Rattle.pattern_matrix.proofs.SpecialTyped.{head_fitted}
 use Rattle.usefulness.specs.Frames.{SparseAsked, asked_views, rows_of, numbers, places, sub_view}
 use Rattle.usefulness.specs.Children.{bare_rows, leaf_wanted, leaves_wanted}
 use Rattle.usefulness.proofs.BareRows.{fit_bare}

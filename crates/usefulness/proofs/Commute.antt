@@ -6,8 +6,8 @@ use Rattle.match_model.specs.ArenaPatterns.{de_pat, de_pats_list}
 use Rattle.match_model.specs.Rows.{Head, starts_wild, wildcards, heads_of}
 use Rattle.match_model.specs.Steps.{default_head, specialise_head, replacements_at, row_replaced, with_others}
 use Rattle.pattern_matrix.specs.Sparse.{bare_head, bare_row}
-use Rattle.witness_laws.specs.Counting.{WantedRow, wanted_at}
-use Rattle.witness_laws.specs.Searching.{settled}
+use Rattle.pattern_matrix.specs.Counting.{WantedRow, wanted_at}
+use Rattle.pattern_matrix.specs.Searching.{settled}
 use Rattle.usefulness.specs.Children.{bare_wanted, bare_rows, settled_if}
 use Rattle.usefulness.proofs.ChildRows.{wild_bare, bare_twice, bare_behind}
 

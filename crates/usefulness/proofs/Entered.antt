@@ -8,8 +8,8 @@ use Rattle.match_model.specs.Rows.{parts_open}
 use Rattle.match_model.specs.Steps.{default_head, specialise_head}
 use Rattle.pattern_matrix.specs.Sparse.{SparseLeaf, leaf_parts, head_has, columns_from, AreHeadsBelow, AreOthers, Lacks}
 use Rattle.pattern_matrix.specs.Spreading.{all_apart}
-use Rattle.witness_laws.specs.Counting.{WantedRow, wanted_at}
-use Rattle.witness_laws.specs.Searching.{left_over, entered, apart as taken_apart}
+use Rattle.pattern_matrix.specs.Counting.{WantedRow, wanted_at}
+use Rattle.pattern_matrix.specs.Searching.{left_over, entered, apart as taken_apart}
 use Rattle.usefulness.specs.Frames.{SparseAsked, asked_views, rows_of, numbers, places, sub_view}
 use Rattle.usefulness.specs.Children.{bare_rows, bare_sub, dropped, opened, settled_if}
 use Rattle.usefulness.proofs.Leaves.{leaves_apart}

@@ -4,8 +4,8 @@ use Rattle.std.proofs.lemmas.List.Elements.{All-nil}
 use Rattle.match_model.specs.Values.{MValue}
 use Rattle.match_model.specs.Contexts.{Context, Open}
 use Rattle.match_model.specs.ArenaPatterns.{MDeMatch}
-use Rattle.witness_laws.specs.Counting.{Question}
-use Rattle.witness_laws.specs.Searching.{Submatrix, IsFit, IsSearch, first_submatrix}
+use Rattle.pattern_matrix.specs.Counting.{Question}
+use Rattle.pattern_matrix.specs.Searching.{Submatrix, IsFit, IsSearch, first_submatrix}
 use Rattle.usefulness.specs.declared.frames.Listing.{Listing}
 use Rattle.usefulness.specs.declared.marks.Marks.{Marks}
 use Rattle.usefulness.specs.Children.{bare_sub}

@@ -5,9 +5,9 @@ use Rattle.std.proofs.lemmas.List.Elements.{All-append, All-cons}
 use Rattle.std.specs.List.{All, Contains}
 use Rattle.match_model.specs.Values.{MValue}
 use Rattle.match_model.specs.Contexts.{Context}
-use Rattle.witness_laws.specs.Searching.{Submatrix, work, IsFit, IsSearch, IsLookedAt}
-use Rattle.witness_laws.proofs.SearchSteps.{looks, work_falls}
-use Rattle.witness_laws.proofs.HandingOn.{here, there}
+use Rattle.pattern_matrix.specs.Searching.{Submatrix, work, IsFit, IsSearch, IsLookedAt}
+use Rattle.pattern_matrix.proofs.SearchSteps.{looks, work_falls}
+use Rattle.pattern_matrix.proofs.HandingOn.{here, there}
 use Rattle.usefulness.specs.declared.frames.Frame.{Frame}
 use Rattle.usefulness.specs.declared.marks.Marks.{Marks}
 use Rattle.usefulness.specs.Marking.{is_marked}

@@ -10,7 +10,7 @@ use Rattle.match_model.specs.Rows.{part_open, parts_open}
 use Rattle.pattern_matrix.specs.declared.rows.Column.{Column}
 use Rattle.pattern_matrix.specs.Columns.{plain_column, plain_columns}
 use Rattle.pattern_matrix.specs.Sparse.{SparseLeaf, columns_from, leaves_listed}
-use Rattle.witness_laws.proofs.Places.{length-below}
+use Rattle.pattern_matrix.proofs.Places.{length-below}
 use Rattle.usefulness.specs.declared.frames.OpenColumn.{OpenColumn}
 use Rattle.usefulness.specs.Frames.{numbers}
 use Rattle.usefulness.specs.States.{plain_open, plain_opens}

@@ -7,8 +7,8 @@ use Rattle.match_model.specs.Steps.{Replacement, expand_head, with_others, repla
 use Rattle.pattern_matrix.specs.Sparse.{SparseLeaf, bare_head, head_at, heads_at}
 use Rattle.pattern_matrix.specs.Spreading.{leaf_of, apart, all_apart}
 use Rattle.pattern_matrix.proofs.Apart.{bare-bare, bare-heads_at}
-use Rattle.witness_laws.specs.Counting.{WantedRow}
-use Rattle.witness_laws.specs.Searching.{apart as taken_apart}
+use Rattle.pattern_matrix.specs.Counting.{WantedRow}
+use Rattle.pattern_matrix.specs.Searching.{apart as taken_apart}
 use Rattle.usefulness.specs.Frames.{SparseAsked, asked_view, asked_views, rows_of}
 use Rattle.usefulness.specs.Children.{bare_wanted, bare_rows, leaf_wanted, leaves_wanted}
 

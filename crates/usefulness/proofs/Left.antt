@@ -8,8 +8,8 @@ use Rattle.match_model.specs.Contexts.{Context, Open}
 use Rattle.match_model.specs.Rows.{parts_open}
 use Rattle.pat_context.specs.Parts.{AreValues}
 use Rattle.pattern_matrix.specs.Sparse.{SparseLeaf, columns_from, head_has, leaf_parts, AreOthers, Lacks}
-use Rattle.witness_laws.specs.Counting.{Question}
-use Rattle.witness_laws.specs.Searching.{Submatrix}
+use Rattle.pattern_matrix.specs.Counting.{Question}
+use Rattle.pattern_matrix.specs.Searching.{Submatrix}
 use Rattle.usefulness.specs.declared.frames.OpenColumn.{OpenColumn}
 use Rattle.usefulness.specs.declared.frames.Listing.{Listing}
 use Rattle.usefulness.specs.declared.frames.Apart.{Apart}

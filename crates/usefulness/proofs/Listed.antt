@@ -9,11 +9,11 @@ use Rattle.match_model.specs.ArenaPatterns.{MDePat}
 use Rattle.match_model.proofs.Basics.{untrue, either, both}
 use Rattle.pat_context.specs.Parts.{AreValues}
 use Rattle.pattern_matrix.specs.Sparse.{head_at, heads_at}
-use Rattle.witness_laws.specs.Counting.{Question, WantedRow, has_chosen, counts}
-use Rattle.witness_laws.specs.Searching.{Submatrix, DoFor, StandFor, AreListed}
-use Rattle.witness_laws.proofs.HandingOn.{here, in_cons}
-use Rattle.witness_laws.proofs.SearchSteps.{values_long}
-use Rattle.witness_laws.proofs.Listing as listing
+use Rattle.pattern_matrix.specs.Counting.{Question, WantedRow, has_chosen, counts}
+use Rattle.pattern_matrix.specs.Searching.{Submatrix, DoFor, StandFor, AreListed}
+use Rattle.pattern_matrix.proofs.HandingOn.{here, in_cons}
+use Rattle.pattern_matrix.proofs.SearchSteps.{values_long}
+use Rattle.pattern_matrix.proofs.ListedRows as listing
 use Rattle.usefulness.specs.Frames.{SparseAsked, asked_view, asked_views, has_heads, numbers, places, sub_view, subs_of}
 use Rattle.usefulness.specs.Marking.{is_answer}
 use Rattle.usefulness.specs.Listing.{IsListing, IsListedAs}

@@ -7,13 +7,13 @@ use Rattle.match_model.specs.ContextLaws.{PartsLaw, ValuesLaw}
 use Rattle.match_model.specs.Rows.{starts_wild}
 use Rattle.match_model.proofs.Basics.{untrue}
 use Rattle.pat_context.specs.Parts.{AreValues}
-use Rattle.witness_laws.specs.Counting.{Question, WantedRow, counts}
-use Rattle.witness_laws.specs.ReachLaws.{SplitsHandOn}
-use Rattle.witness_laws.specs.Searching.{Submatrix, weight_of, heads_in, IsFit, Comes, SomeComes, IsSplit, StandFor, IsLookedAt, AreListed, apart as taken_apart}
-use Rattle.witness_laws.proofs.HandingOn.{contains-map, from-map, here, there, in_cons}
-use Rattle.witness_laws.proofs.Listing.{part_typed, part_made, part_weighs}
-use Rattle.witness_laws.proofs.SearchSteps.{values_long}
-use Rattle.witness_laws.proofs.Splitting.{splits_hand_on}
+use Rattle.pattern_matrix.specs.Counting.{Question, WantedRow, counts}
+use Rattle.pattern_matrix.specs.ReachLaws.{SplitsHandOn}
+use Rattle.pattern_matrix.specs.Searching.{Submatrix, weight_of, heads_in, IsFit, Comes, SomeComes, IsSplit, StandFor, IsLookedAt, AreListed, apart as taken_apart}
+use Rattle.pattern_matrix.proofs.HandingOn.{contains-map, from-map, here, there, in_cons}
+use Rattle.pattern_matrix.proofs.ListedRows.{part_typed, part_made, part_weighs}
+use Rattle.pattern_matrix.proofs.SearchSteps.{values_long}
+use Rattle.pattern_matrix.proofs.Splitting.{splits_hand_on}
 use Rattle.usefulness.specs.Children.{bare_sub}
 use Rattle.usefulness.specs.Listing.{IsListedAs, AreAllListed}
 use Rattle.usefulness.proofs.BareRows.{fit_bare, comes_bare, comes_named, weight_bare}

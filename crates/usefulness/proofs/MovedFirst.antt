@@ -6,10 +6,10 @@ use Rattle.match_model.specs.Values.{MValue}
 use Rattle.match_model.specs.Contexts.{Context, Open}
 use Rattle.match_model.specs.ArenaPatterns.{MDePat}
 use Rattle.pattern_matrix.specs.Sparse.{head_at, AreOthers}
-use Rattle.witness_laws.specs.Counting.{Question, WantedRow}
-use Rattle.witness_laws.specs.Searching.{Submatrix, weight_of, IsFit, IsLookedAt, put_second, moved, moved_first}
-use Rattle.witness_laws.proofs.HandingOn.{here, there, in_cons}
-use Rattle.witness_laws.proofs.Moving.{weighs_moved, comes_moved, comes_unmoved}
+use Rattle.pattern_matrix.specs.Counting.{Question, WantedRow}
+use Rattle.pattern_matrix.specs.Searching.{Submatrix, weight_of, IsFit, IsLookedAt, put_second, moved, moved_first}
+use Rattle.pattern_matrix.proofs.HandingOn.{here, there, in_cons}
+use Rattle.pattern_matrix.proofs.Moving.{weighs_moved, comes_moved, comes_unmoved}
 use Rattle.usefulness.specs.Frames.{SparseAsked, asked_view, asked_views, numbers, places, sub_view, IsHeadIn, IsRowIn, AreOpen}
 
 map_second : {A B : Type 0} (f : A → B) (x : A) (xs : List A) → map f (put_second x xs) ≡ put_second (f x) (map f xs)

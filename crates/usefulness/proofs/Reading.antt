@@ -5,7 +5,7 @@ use Rattle.std.specs.List.{All}
 use Rattle.pattern_matrix.specs.declared.rows.Leaf.{Leaf}
 use Rattle.pattern_matrix.specs.Views.{plain_leaf}
 use Rattle.pattern_matrix.proofs.Apart.{all_within}
-use Rattle.witness_laws.specs.Searching.{moved}
+use Rattle.pattern_matrix.specs.Searching.{moved}
 use Rattle.usefulness.specs.declared.frames.Apart.{Apart}
 use Rattle.usefulness.specs.declared.frames.OpenColumn.{OpenColumn}
 use Rattle.usefulness.specs.Frames.{SparseAsked, rows_of}

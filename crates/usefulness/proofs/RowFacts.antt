@@ -7,8 +7,8 @@ use Rattle.match_model.specs.ArenaPatterns.{MDePat}
 use Rattle.match_model.specs.Rows.{Head, is_wild, starts_wild}
 use Rattle.pattern_matrix.specs.Sparse.{SparseLeaf, head_at, columns_from, listed, without, leaf_parts, AreHeadsBelow, AreOthers}
 use Rattle.pattern_matrix.specs.Opening.{opened_row, dropped_row}
-use Rattle.witness_laws.specs.Searching.{heads_in}
-use Rattle.witness_laws.proofs.HandingOn.{here, there, in_cons}
+use Rattle.pattern_matrix.specs.Searching.{heads_in}
+use Rattle.pattern_matrix.proofs.HandingOn.{here, there, in_cons}
 use Rattle.usefulness.specs.Frames.{SparseAsked, asked_view, asked_views, IsHeadIn, IsRowIn, AreOpen}
 
 -- what holds of each holds of the one that is got

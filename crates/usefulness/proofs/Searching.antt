@@ -8,8 +8,8 @@ use Rattle.constructor_sets.specs.declared.piece.Span.{Span}
 use Rattle.pattern_matrix.specs.Sparse.{columns_from}
 use Rattle.pattern_matrix.specs.Parts.{IsFull, pieces_left}
 use Rattle.pattern_matrix.specs.declared.halving.Part.{Part}
-use Rattle.witness_laws.specs.Counting.{Question}
-use Rattle.witness_laws.specs.Searching.{Submatrix, IsSearch}
+use Rattle.pattern_matrix.specs.Counting.{Question}
+use Rattle.pattern_matrix.specs.Searching.{Submatrix, IsSearch}
 use Rattle.usefulness.specs.declared.frames.Frame.{Frame}
 use Rattle.usefulness.specs.declared.frames.Apart.{Apart}
 use Rattle.usefulness.specs.declared.marks.Marks.{Marks}

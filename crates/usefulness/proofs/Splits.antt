@@ -13,10 +13,10 @@ use Rattle.constructor_sets.specs.declared.piece.PieceState.TheVariants.{Present
 use Rattle.constructor_sets.specs.Present.{present_piece, AreFound}
 use Rattle.pattern_matrix.specs.Halving.{leaf_ctors}
 use Rattle.pattern_matrix.specs.Sparse.{head_has, leaf_parts}
-use Rattle.witness_laws.specs.Counting.{Question}
-use Rattle.witness_laws.specs.Searching.{Submatrix, heads_in, IsFit, IsColumnCut, IsSplit, all_wild, none_missing, some_missing, IsLookedAt, left_over, entered, first_ctors}
-use Rattle.witness_laws.proofs.HandingOn.{contains-map, here, there}
-use Rattle.witness_laws.proofs.FoundCut.{cut_of}
+use Rattle.pattern_matrix.specs.Counting.{Question}
+use Rattle.pattern_matrix.specs.Searching.{Submatrix, heads_in, IsFit, IsColumnCut, IsSplit, all_wild, none_missing, some_missing, IsLookedAt, left_over, entered, first_ctors}
+use Rattle.pattern_matrix.proofs.HandingOn.{contains-map, here, there}
+use Rattle.pattern_matrix.proofs.FoundCut.{cut_of}
 use Rattle.usefulness.specs.declared.frames.Apart.{Apart}
 use Rattle.usefulness.specs.Frames.{asked_views}
 use Rattle.usefulness.specs.Children.{bare_sub, settled_if}

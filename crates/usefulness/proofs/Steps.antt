@@ -7,7 +7,7 @@ use Rattle.std.proofs.lemmas.List.Elements.{All-nil, All-cons, All-append}
 use Rattle.std.specs.List.{All, list_any}
 use Rattle.pattern_matrix.specs.declared.rows.Head.{Head}
 use Rattle.pattern_matrix.specs.Views.{plain_head}
-use Rattle.witness_laws.specs.Counting.{Question}
+use Rattle.pattern_matrix.specs.Counting.{Question}
 use Rattle.usefulness.specs.declared.frames.Listing.{Listing}
 use Rattle.usefulness.specs.declared.marks.Marks.{Marks}
 use Rattle.usefulness.specs.Frames.{SparseAsked, has_heads, starts_listed, IsRowIn}

@@ -5,7 +5,7 @@ use Rattle.match_model.specs.Contexts.{Open}
 use Rattle.match_model.specs.Rows.{starts_wild}
 use Rattle.pattern_matrix.specs.Views.{plain_leaves}
 use Rattle.pattern_matrix.specs.Spreading.{all_apart}
-use Rattle.witness_laws.specs.Searching.{heads_in, put_second, moved, moved_first}
+use Rattle.pattern_matrix.specs.Searching.{heads_in, put_second, moved, moved_first}
 use Rattle.usefulness.specs.declared.frames.Frame.{Frame}
 use Rattle.usefulness.specs.declared.frames.Apart.{Apart}
 use Rattle.usefulness.specs.Frames.{SparseAsked, IsHeadIn, IsRowIn, AreOpen, numbers, sub_view, rows_of}

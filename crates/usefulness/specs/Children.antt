@@ -5,8 +5,8 @@ use Rattle.std.specs.Option.{option_to_list}
 use Rattle.match_model.specs.Rows.{is_wild, starts_wild}
 use Rattle.pattern_matrix.specs.Sparse.{SparseLeaf, bare_row, leaf_row}
 use Rattle.pattern_matrix.specs.Opening.{opened_row, dropped_row}
-use Rattle.witness_laws.specs.Counting.{WantedRow}
-use Rattle.witness_laws.specs.Searching.{Submatrix}
+use Rattle.pattern_matrix.specs.Counting.{WantedRow}
+use Rattle.pattern_matrix.specs.Searching.{Submatrix}
 use Rattle.usefulness.specs.Frames.{SparseAsked}
 
 -- the row without names

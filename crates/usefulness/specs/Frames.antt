@@ -5,8 +5,8 @@ use Rattle.match_model.specs.Contexts.{Open}
 use Rattle.match_model.specs.ArenaPatterns.{MDePat}
 use Rattle.match_model.specs.Rows.{is_wild}
 use Rattle.pattern_matrix.specs.Sparse.{SparseRow, row_view, AreOthers}
-use Rattle.witness_laws.specs.Counting.{WantedRow}
-use Rattle.witness_laws.specs.Searching.{Submatrix}
+use Rattle.pattern_matrix.specs.Counting.{WantedRow}
+use Rattle.pattern_matrix.specs.Searching.{Submatrix}
 
 -- a row, and whether something new is looked for in it
 pub record SparseAsked (T : Type 0) : Type 0 where

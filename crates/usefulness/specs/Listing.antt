@@ -1,8 +1,8 @@
 -- Rows that are listed one after the other, while more is marked.
 use Rattle.std.specs.Prelude.{◌≡◌, ◌⊎◌, ℕ, Bool, true, false, List, [], ◌∷◌, ◌++◌, length}
 use Rattle.match_model.specs.Values.{MValue}
-use Rattle.witness_laws.specs.Counting.{Question, counts}
-use Rattle.witness_laws.specs.Searching.{Submatrix, StandFor, DoFor, Comes, SomeComes, AreListed}
+use Rattle.pattern_matrix.specs.Counting.{Question, counts}
+use Rattle.pattern_matrix.specs.Searching.{Submatrix, StandFor, DoFor, Comes, SomeComes, AreListed}
 use Rattle.usefulness.specs.Frames.{SparseAsked, asked_views}
 
 -- rows over these columns were gone through, and those that are kept do for them, or, once nothing behind them counts, stand

@@ -1,7 +1,7 @@
 -- What is marked.
 use Rattle.std.specs.Prelude.{ℕ, Bool, false, ◌&&◌, cond, nat_eq, List, slice_index_or}
 use Rattle.std.specs.List.{list_any}
-use Rattle.witness_laws.specs.Counting.{Question, has_chosen}
+use Rattle.pattern_matrix.specs.Counting.{Question, has_chosen}
 use Rattle.usefulness.specs.declared.marks.Alternative.{Alternative}
 use Rattle.usefulness.specs.declared.marks.Marks.{Marks}
 

@@ -13,7 +13,7 @@ use Rattle.pattern_matrix.specs.Sparse.{SparseLeaf, AreOthers, head_has, leaf_pa
 use Rattle.pattern_matrix.specs.Columns.{plain_column}
 use Rattle.pattern_matrix.specs.Views.{plain_row, plain_leaves}
 use Rattle.pattern_matrix.specs.Spreading.{all_apart}
-use Rattle.witness_laws.specs.Searching.{Submatrix, apart, entered, left_over}
+use Rattle.pattern_matrix.specs.Searching.{Submatrix, apart, entered, left_over}
 use Rattle.usefulness.specs.declared.frames.OpenColumn.{OpenColumn}
 use Rattle.usefulness.specs.declared.frames.Asked.{Asked}
 use Rattle.usefulness.specs.declared.frames.Frame.{Frame}
@@ -22,7 +22,7 @@ use Rattle.usefulness.specs.declared.frames.Apart.{Apart}
 use Rattle.usefulness.specs.declared.marks.Marks.{Marks}
 use Rattle.usefulness.specs.Marking.{is_marked}
 use Rattle.usefulness.specs.Listing.{IsListing}
-use Rattle.witness_laws.specs.Counting.{Question, WantedRow}
+use Rattle.pattern_matrix.specs.Counting.{Question, WantedRow}
 use Rattle.usefulness.specs.Children.{bare_sub, settled_if}
 use Rattle.usefulness.specs.Frames.{SparseAsked, numbers, places, asked_views, sub_view, rows_of, IsRowIn, AreOpen, starts_listed, IsFrame}
 

@@ -8,7 +8,7 @@ ghost use Rattle.pat_context.specs.Views.{plain_ctor};
 ghost use Rattle.pattern_matrix.specs.Columns.{plain_columns};
 ghost use Rattle.pattern_matrix.specs.Sparse.{columns_from, leaf_parts, leaves_listed, head_has, AreParts};
 ghost use Rattle.pattern_matrix.specs.Views.{plain_leaf};
-ghost use Rattle.witness_laws.specs.Counting.{Question};
+ghost use Rattle.pattern_matrix.specs.Counting.{Question};
 ghost use Rattle.usefulness.specs.Frames.{SparseAsked, IsRowIn, numbers, places};
 ghost use Rattle.usefulness.specs.Marking.{is_marked};
 ghost use Rattle.usefulness.specs.Children.{opened_at, opened};

@@ -1,7 +1,7 @@
 // Rows that are listed one by one: what is reached is marked, and what brings nothing new and stops nothing is left out.
 ghost use Rattle.std.specs.Prelude.{◌≡◌, ◌≤◌, ◌<◌, ◌&&◌, ◌++◌, ◌∷◌, [], List, ℕ, Bool, true, false, not, length, drop, take, IfOk, OnOk, IfSome};
 ghost use Rattle.std.specs.List.{All, list_any};
-ghost use Rattle.witness_laws.specs.Counting.{Question};
+ghost use Rattle.pattern_matrix.specs.Counting.{Question};
 ghost use Rattle.usefulness.specs.Frames.{SparseAsked, IsRowIn, AreOpen, numbers, has_heads, subs_of};
 ghost use Rattle.usefulness.specs.Marking.{is_marked};
 ghost use Rattle.usefulness.specs.Listing.{IsListing};

@@ -1,7 +1,7 @@
 // What was found to be reached.
 ghost use Rattle.std.specs.Prelude.{◌≡◌, ◌<◌, ◌&&◌, ◌||◌, length, false, nat_eq, IfOk, OnOk};
 ghost use Rattle.std.specs.List.{list_any};
-ghost use Rattle.witness_laws.specs.Counting.{Question};
+ghost use Rattle.pattern_matrix.specs.Counting.{Question};
 ghost use Rattle.usefulness.specs.Marking.{is_asked, is_marked, is_answer};
 
 use indexmap::IndexSet;

@@ -5,7 +5,7 @@ ghost use Rattle.match_model.specs.Values.{MValue};
 ghost use Rattle.match_model.specs.Rows.{is_wild};
 ghost use Rattle.pat_context.specs.Parts.{AreValues};
 ghost use Rattle.pattern_matrix.specs.Views.{plain_leaf};
-ghost use Rattle.witness_laws.specs.Counting.{Question};
+ghost use Rattle.pattern_matrix.specs.Counting.{Question};
 ghost use Rattle.usefulness.specs.Frames.{SparseAsked, IsRowIn};
 ghost use Rattle.usefulness.specs.Marking.{is_marked};
 ghost use Rattle.usefulness.specs.Children.{dropped_at, dropped};

@@ -17,8 +17,8 @@ use Rattle.constructor_sets.specs.Columns.{IsState, IsColumnSplit}
 use Rattle.constructor_sets.specs.declared.piece.PieceState.{PieceState}
 use Rattle.constructor_sets.specs.declared.piece.PieceState.TheVariants.{Present, Missing, Empty}
 use Rattle.constructor_sets.specs.Present.{is_sharp_head, present_piece, is_missing, AreFound}
-use Rattle.witness_laws.specs.HeadRows.{cols, AllTyped}
-use Rattle.witness_laws.proofs.Places.{length-below}
+use Rattle.pattern_matrix.specs.HeadRows.{cols, AllTyped}
+use Rattle.pattern_matrix.proofs.Places.{length-below}
 use Rattle.pattern_matrix.specs.Halving.{AreLeafSpans}
 use Rattle.pattern_matrix.specs.Sparse.{SparseLeaf, columns_from}
 use Rattle.witness_search.specs.Bares.{wild_rests}

@@ -11,8 +11,8 @@ use Rattle.match_model.specs.Matrices.{MColumn, MRow, row_with, first_wild, firs
 use Rattle.match_model.specs.WellTyped.{IsHeadTyped, AreHeadsTyped}
 use Rattle.match_model.proofs.Basics.{untrue}
 use Rattle.constructor_sets.specs.Present.{is_sharp_head}
-use Rattle.witness_laws.specs.HeadRows.{AllTyped, all_heads}
-use Rattle.witness_laws.proofs.Places as places
+use Rattle.pattern_matrix.specs.HeadRows.{AllTyped, all_heads}
+use Rattle.pattern_matrix.proofs.Places as places
 use Rattle.pattern_matrix.specs.Sparse.{bare_head, bare_row}
 use Rattle.witness_search.specs.Bares.{bares, wild_rests}
 use Rattle.witness_search.specs.Wells.{NoneOr}

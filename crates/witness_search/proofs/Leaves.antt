@@ -12,8 +12,8 @@ use Rattle.match_model.specs.ArenaPatterns.{de_pat}
 use Rattle.match_model.specs.Rows.{Head, wildcards}
 use Rattle.match_model.specs.Matrices.{specialised_rows}
 use Rattle.match_model.specs.WellTyped.{IsHeadTyped}
-use Rattle.witness_laws.specs.HeadRows.{cols, AllTyped, all_heads}
-use Rattle.witness_laws.proofs.SpecialTyped.{head_fitted}
+use Rattle.pattern_matrix.specs.HeadRows.{cols, AllTyped, all_heads}
+use Rattle.pattern_matrix.proofs.SpecialTyped.{head_fitted}
 use Rattle.pattern_matrix.specs.Halving.{span_has, leaves_with, IsLeafSpan, AreLeafSpans}
 use Rattle.pattern_matrix.specs.Sparse.{SparseRow, SparseLeaf, bare_head, bare_row, row_views, leaf_row, leaf_views, leaves_listed, leaf_parts, head_has, columns_from, IsLeafOf, AreParts}
 use Rattle.pattern_matrix.proofs.Having.{listed-with, kept_rows}

@@ -12,7 +12,7 @@ use Rattle.match_model.specs.PieceStates.{is_present}
 use Rattle.match_model.specs.Witness.{MWitness, AnyOf}
 use Rattle.match_model.specs.WitnessList.{Witnesses, taken, covered, no_row, anything, by_pieces}
 use Rattle.match_model.proofs.Basics.{untrue}
-use Rattle.witness_laws.specs.HeadRows.{AllTyped}
+use Rattle.pattern_matrix.specs.HeadRows.{AllTyped}
 use Rattle.witness_search.specs.Bares.{wild_rests}
 
 -- ---- the rows of a piece that no head has

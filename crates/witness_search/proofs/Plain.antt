@@ -14,7 +14,7 @@ use Rattle.pattern_matrix.specs.declared.rows.Column.{Column}
 use Rattle.pattern_matrix.specs.declared.rows.Head.{Head}
 use Rattle.pattern_matrix.specs.declared.rows.Leaf.{Leaf}
 use Rattle.pattern_matrix.specs.declared.rows.Row.{Row}
-use Rattle.witness_laws.proofs.Places.{length-below}
+use Rattle.pattern_matrix.proofs.Places.{length-below}
 use Rattle.witness_search.specs.Opened.{places_of, numbers_of}
 use Rattle.witness_search.specs.declared.opened.Opened.{Opened}
 

@@ -11,8 +11,8 @@ use Rattle.match_model.specs.WellTyped.{IsTyped, IsWellTyped}
 use Rattle.match_model.specs.Witness.{MWitness}
 use Rattle.match_model.specs.WitnessList.{Witnesses, IsWitnessList, by_rows, row_of}
 use Rattle.match_model.proofs.Basics.{nat_itself}
-use Rattle.witness_laws.specs.HeadRows.{cols, AllTyped}
-use Rattle.witness_laws.proofs.Exact.{AreLong, long_stacks}
+use Rattle.pattern_matrix.specs.HeadRows.{cols, AllTyped}
+use Rattle.pattern_matrix.proofs.Exact.{AreLong, long_stacks}
 use Rattle.pattern_matrix.specs.Sparse.{SparseRow, bare_head, head_at, AreBelow, AreHeadsBelow}
 use Rattle.witnesses.specs.declared.stack.Stack.{Stack}
 use Rattle.witnesses.specs.Views.{plain_stack}

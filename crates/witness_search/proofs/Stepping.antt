@@ -12,9 +12,9 @@ use Rattle.match_model.specs.Matrices.{expand_rows, specialised_rows, default_ro
 use Rattle.match_model.specs.Witness.{MWitness, AnyOf}
 use Rattle.match_model.specs.WitnessList.{Witnesses, anything, by_pieces}
 use Rattle.constructor_sets.specs.Present.{is_sharp_head}
-use Rattle.witness_laws.specs.HeadRows.{cols, AllTyped, all_heads}
-use Rattle.witness_laws.proofs.MatrixHeads.{expand_all, special_all}
-use Rattle.witness_laws.proofs.Places.{length-below, expanded_typed, expanded_none, specials_typed, specials_types}
+use Rattle.pattern_matrix.specs.HeadRows.{cols, AllTyped, all_heads}
+use Rattle.pattern_matrix.proofs.MatrixHeads.{expand_all, special_all}
+use Rattle.pattern_matrix.proofs.Places.{length-below, expanded_typed, expanded_none, specials_typed, specials_types}
 use Rattle.pattern_matrix.specs.Halving.{leaf_ctors}
 use Rattle.pattern_matrix.specs.Sparse.{SparseRow, SparseLeaf, bare_row, row_views, leaf_views, AreBelow, AreOthers, Lacks, columns_from}
 use Rattle.pattern_matrix.proofs.Having.{column_is}

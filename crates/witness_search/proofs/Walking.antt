@@ -8,7 +8,7 @@ use Rattle.match_model.specs.Rows.{is_or_ctor}
 use Rattle.pattern_arena.specs.declared.pattern.DePat.{DePat, out-DePat}
 use Rattle.pattern_arena.specs.Trees.{tree, placed_ctor, placed_subs}
 use Rattle.pattern_arena.proofs.TreeFacts.{tree_out}
-use Rattle.witness_laws.specs.ReachLaws.{left_in}
+use Rattle.pattern_matrix.specs.ReachLaws.{left_in}
 use Rattle.witness_search.specs.Entries.{left_of_one, left_of_each}
 
 module _ (f : ℕ → Bool) (j : ℕ) where

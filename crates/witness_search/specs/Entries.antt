@@ -5,8 +5,8 @@ use Rattle.match_model.specs.ArenaPatterns.{MDePat, uid_of, at_of}
 use Rattle.match_model.specs.ArenaWays.{arena_alternatives}
 use Rattle.match_model.specs.Match.{ArmWays}
 use Rattle.match_model.specs.Unreachable.{Entry}
-use Rattle.witness_laws.specs.Counting.{Question, to_arm, through_alternative}
-use Rattle.witness_laws.specs.ReachLaws.{left_in, left_from}
+use Rattle.pattern_matrix.specs.Counting.{Question, to_arm, through_alternative}
+use Rattle.pattern_matrix.specs.ReachLaws.{left_in, left_from}
 use Rattle.witnesses.specs.declared.judgement.Unreachable.{Unreachable}
 
 -- the entry, as the definitions have it

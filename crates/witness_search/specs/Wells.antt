@@ -5,7 +5,7 @@ use Rattle.match_model.specs.Constructors.{MCtor}
 use Rattle.match_model.specs.Contexts.{Context, Open}
 use Rattle.match_model.specs.Rows.{Head, column_of, expand_row, starts_or}
 use Rattle.constructor_sets.specs.Columns.{plain_ctors}
-use Rattle.witness_laws.specs.HeadRows.{cols, AreTypes, AllTyped, all_heads}
+use Rattle.pattern_matrix.specs.HeadRows.{cols, AreTypes, AllTyped, all_heads}
 use Rattle.pattern_matrix.specs.Columns.{plain_column}
 use Rattle.pattern_matrix.specs.Halving.{leaf_ctors}
 use Rattle.pattern_matrix.specs.Sparse.{SparseRow, SparseLeaf, row_views, leaf_views, AreBelow, AreOthers}

@@ -3,19 +3,20 @@ ghost use Rattle.std.specs.Prelude.{◌≡◌, ◌<◌, ◌^◌, [], map, length
 ghost use Rattle.match_model.specs.WellTyped.{IsWellTyped};
 ghost use Rattle.match_model.specs.WitnessList.{IsWitnessList};
 ghost use Rattle.pattern_arena.specs.Trees.{plain_match};
-ghost use Rattle.witness_laws.specs.Counting.{to_arm};
-ghost use Rattle.witness_laws.specs.SearchLaws.{IsReached, IsJudged};
+ghost use Rattle.pattern_matrix.specs.Counting.{to_arm};
+ghost use Rattle.pattern_matrix.specs.SearchLaws.{IsReached, IsJudged};
 ghost use Rattle.witnesses.specs.Views.{plain_witness};
 ghost use Rattle.witness_search.specs.Entries.{plain_entries};
 
 use crate::top::witness_list;
-use crate::unreachable::{Marked, unreachable_list};
+use crate::unreachable::unreachable_list;
 use no_memory::NoMemory;
 use pat_context::PatCx;
 use pattern_arena::CheckedMatch;
 use pattern_arena::laws::matches_are_made;
+use pattern_matrix::Marked;
+use pattern_matrix::reach_laws::judged_by_marks;
 use std::alloc::Global;
-use witness_laws::reach_laws::judged_by_marks;
 use witnesses::{Judgement, Witness};
 
 // The witnesses, where the row behind all arms is marked; else none.

@@ -16,4 +16,4 @@ mod unreachable;
 
 pub use judge::judge_by;
 pub use top::{DEPTH, witness_list};
-pub use unreachable::{Marked, unreachable_list};
+pub use unreachable::unreachable_list;

@@ -6,12 +6,13 @@ ghost use Rattle.pat_context.specs.ToyLaws.{IsToyType};
 ghost use Rattle.pattern_arena.specs.Examples.{flag_arm};
 ghost use Rattle.pattern_arena.specs.Trees.{plain_arm, plain_match};
 
-use crate::{Marked, unreachable_list, witness_list};
+use crate::{unreachable_list, witness_list};
 use bumpalo::Bump;
 use no_memory::NoMemory;
 use pat_context::toy::{Toy, ToyTy};
 use pat_context::{Ctor, Validity};
 use pattern_arena::{CheckedArm, CheckedMatch, DePat, Placer};
+use pattern_matrix::Marked;
 use std::test::Fail;
 
 // The arm of a flag, without a guard.

@@ -5,30 +5,16 @@ ghost use Rattle.match_model.specs.ArenaWays.{arena_alternatives, arena_arm, mat
 ghost use Rattle.match_model.specs.Rows.{is_or_ctor};
 ghost use Rattle.pat_context.specs.Views.{plain_ctor};
 ghost use Rattle.pattern_arena.specs.Trees.{tree, placed_ctor, placed_subs, plain_arm, plain_match};
-ghost use Rattle.witness_laws.specs.Counting.{Question, to_arm, through_alternative};
-ghost use Rattle.witness_laws.specs.ReachLaws.{left_in, left_from};
+ghost use Rattle.pattern_matrix.specs.Counting.{to_arm, through_alternative};
+ghost use Rattle.pattern_matrix.specs.ReachLaws.{left_in, left_from};
 ghost use Rattle.witness_search.specs.Entries.{plain_entry, plain_entries, left_of_one, left_of_arm, left_of_arms};
 
 use no_memory::NoMemory;
 use pat_context::Ctor;
 use pattern_arena::{CheckedArm, CheckedMatch, DePat};
+use pattern_matrix::Marked;
 use std::alloc::Global;
 use witnesses::Unreachable;
-
-/// Marks of what is reached: of arms, and of alternatives, each of an arm. Neither call takes memory.
-///
-/// `is_marked` says which questions are marked.
-pub trait Marked {
-    ghost is_marked: { Self → Question → Bool };
-
-    /// Tells whether some value comes to the arm with the number, from 0.
-    fn has_arm(&self, arm: u32) -> bool
-        ensures { result ≡ is_marked self.now (to_arm arm) };
-
-    /// Tells whether some value comes through the alternative with the uid, of the arm.
-    fn has_alternative(&self, arm: u32, uid: u64) -> bool
-        ensures { result ≡ is_marked self.now (through_alternative arm uid) };
-}
 
 // Tells whether the first entry stands at or before the other, by arm and then by offset.
 fn stands_before(e: &Unreachable, f: &Unreachable) -> bool

@@ -77,7 +77,7 @@ impl Stack {
 
     /// Puts one witness of the constructor in place of the top ones, which are its parts, the topmost the first part.
     /// `others` are the texts that the column names. Where the constructor has as many parts as there are taken, the
-    /// values that fit are those that the constructor builds and whose parts fit what was taken (a law of witness_laws,
+    /// values that fit are those that the constructor builds and whose parts fit what was taken (a law of pattern_matrix,
     /// `wrapping_keeps_fits`). The only error is want of memory, and then the stack is as before.
     pub fn wrap(&mut self, ctor: &Ctor, arity: usize, others: &[&str]) -> Result<(), NoMemory>
         ensures wrapped { OnOk result (plain_stack self.new ≡ wrapped (plain_ctor ctor.now)

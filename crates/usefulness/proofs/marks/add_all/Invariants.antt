@@ -1,6 +1,6 @@
 use Rattle.std.proofs.Common.{◌≡◌, ◌&&◌, ◌||◌, nat_eq, take}
 use Rattle.std.specs.List.{list_any}
-use Rattle.witness_laws.specs.Counting.{Question}
+use Rattle.pattern_matrix.specs.Counting.{Question}
 use Rattle.usefulness.specs.Marking.{is_asked}
 use Rattle.usefulness.proofs.marks.add_all.Given as goal
 

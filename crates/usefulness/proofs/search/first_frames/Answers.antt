@@ -4,7 +4,7 @@ use Rattle.std.specs.Option.{option_to_list}
 use Rattle.std.proofs.lemmas.Option.{IfSome_then}
 use Rattle.std.proofs.lemmas.List.Elements.{All-nil}
 use Rattle.pattern_arena.specs.Trees.{plain_match}
-use Rattle.witness_laws.proofs.FirstTold.{first_tells}
+use Rattle.pattern_matrix.proofs.FirstTold.{first_tells}
 use Rattle.usefulness.specs.Frames.{IsRowIn, AreOpen, numbers, subs_of}
 use Rattle.usefulness.specs.Marking.{is_marked}
 use Rattle.usefulness.specs.States.{plain_opens, plain_askeds, frame_views, IsGood}

@@ -1,7 +1,7 @@
 use Rattle.std.proofs.Common.{◌≡◌, length, slice_get, Some, sym, subst}
 use Rattle.std.proofs.lemmas.Result.{IfOk-weaker}
-use Rattle.witness_laws.specs.Searching.{IsFit, IsLookedAt}
-use Rattle.witness_laws.proofs.Moving.{fit_moved}
+use Rattle.pattern_matrix.specs.Searching.{IsFit, IsLookedAt}
+use Rattle.pattern_matrix.proofs.Moving.{fit_moved}
 use Rattle.usefulness.specs.Frames.{numbers}
 use Rattle.usefulness.specs.Marking.{is_marked}
 use Rattle.usefulness.specs.States.{plain_opens, plain_askeds, frame_view, frame_views, IsChosen}

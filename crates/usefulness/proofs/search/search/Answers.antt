@@ -1,7 +1,7 @@
 use Rattle.std.proofs.Common.{◌+◌, ◌^◌, [], ◌∙◌, length, sym, subst, arith}
 use Rattle.std.specs.List.{All}
 use Rattle.pattern_arena.specs.Trees.{plain_match}
-use Rattle.witness_laws.specs.Searching.{IsSearch, first_submatrix}
+use Rattle.pattern_matrix.specs.Searching.{IsSearch, first_submatrix}
 use Rattle.usefulness.specs.Children.{bare_sub}
 use Rattle.usefulness.specs.Marking.{is_marked}
 use Rattle.usefulness.specs.States.{frame_views, IsGood}

@@ -1,6 +1,6 @@
 use Rattle.std.proofs.Common.{◌+◌, ◌^◌, length}
 use Rattle.pattern_arena.specs.Trees.{plain_match}
-use Rattle.witness_laws.specs.Searching.{work, first_submatrix}
+use Rattle.pattern_matrix.specs.Searching.{work, first_submatrix}
 use Rattle.usefulness.specs.Children.{bare_sub}
 use Rattle.usefulness.specs.States.{frame_views}
 use Rattle.usefulness.proofs.Searching.{IsGoing}

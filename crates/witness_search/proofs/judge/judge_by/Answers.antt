@@ -3,8 +3,8 @@ use Rattle.std.proofs.lemmas.List.{length-map}
 use Rattle.match_model.specs.Match.{is_empty_list}
 use Rattle.match_model.specs.Unreachable.{Entry}
 use Rattle.pattern_arena.specs.Trees.{plain_arm, plain_match}
-use Rattle.witness_laws.specs.Counting.{Question, to_arm}
-use Rattle.witness_laws.specs.SearchLaws.{IsJudged}
+use Rattle.pattern_matrix.specs.Counting.{Question, to_arm}
+use Rattle.pattern_matrix.specs.SearchLaws.{IsJudged}
 use Rattle.witnesses.specs.Views.{plain_witness}
 use Rattle.witness_search.specs.Entries.{plain_entries}
 use Rattle.witness_search.proofs.Plain.{empty_test}

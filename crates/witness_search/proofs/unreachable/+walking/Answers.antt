@@ -2,7 +2,7 @@ use Rattle.std.proofs.Common.{◌≡◌, ◌++◌, ◌+◌, ℕ, Bool, suc, List
 use Rattle.std.proofs.lemmas.List.{take_all}
 use Rattle.pattern_arena.specs.declared.pattern.DePat.{DePat}
 use Rattle.pattern_arena.specs.Trees.{tree, placed_subs}
-use Rattle.witness_laws.specs.Counting.{through_alternative}
+use Rattle.pattern_matrix.specs.Counting.{through_alternative}
 use Rattle.witness_search.specs.Entries.{plain_entries, left_of_one, left_of_each}
 use Rattle.witness_search.proofs.Walking.{left-below, each_more}
 use Rattle.witness_search.proofs.unreachable.+walking.Goals as goal

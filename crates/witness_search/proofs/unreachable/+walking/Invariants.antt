@@ -1,6 +1,6 @@
 use Rattle.std.proofs.Common.{◌≡◌, ◌++◌, map, take}
 use Rattle.pattern_arena.specs.Trees.{tree, placed_subs}
-use Rattle.witness_laws.specs.Counting.{through_alternative}
+use Rattle.pattern_matrix.specs.Counting.{through_alternative}
 use Rattle.witness_search.specs.Entries.{plain_entries, left_of_each}
 use Rattle.witness_search.proofs.unreachable.+walking.Given as goal
 

@@ -1,0 +1,6 @@
+use Rattle.pattern_matrix.proofs.Whole.{empties_of}
+use Rattle.pattern_matrix.proofs.laws.empty_lists_are_exhaustive.Goals as goal
+
+pub returns : goal.returns
+returns g c =
+    empties_of (g.C.PatCx.is_type c.args.cx.now) (g.C.PatCx.is_value c.args.cx.now) (g.C.PatCx.context c.args.cx.now) (g.met.C.PatCx.values c.args.cx.now) (g.met.C.PatCx.parts c.args.cx.now)

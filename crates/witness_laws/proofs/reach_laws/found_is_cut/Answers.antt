@@ -1,5 +1,0 @@
-use Rattle.witness_laws.proofs.FoundCut.{cut_of}
-use Rattle.witness_laws.proofs.reach_laws.found_is_cut.Goals as goal
-
-pub returns : goal.returns
-returns g c = cut_of (g.C.PatCx.is_value c.args.cx.now) (g.C.PatCx.context c.args.cx.now)
