@@ -25,7 +25,7 @@ use Rattle.pattern_matrix.proofs.Specials.{AreSidedRows}
 use Rattle.pattern_matrix.proofs.Made.{rows-append, expand_made, column_made, special_made}
 use Rattle.pattern_matrix.proofs.Places.{length-below, values-append, expanded_typed, NoneOr, expanded_none, heads_good, specials_typed, specials_types}
 use Rattle.pattern_matrix.proofs.Exact.{built, seen, AreAllSided, all_sided, values-split}
-use Rattle.pattern_matrix.proofs.Columns.{Replaces, HeadsAt, replaced_counts, expand_replaces, heads_at}
+use Rattle.pattern_matrix.proofs.AnyColumn.{Replaces, HeadsAt, replaced_counts, expand_replaces, heads_at}
 use Rattle.pattern_matrix.proofs.Splits.{replaced_heads, wanted_heads, special_heads, AreSome, expanded_heads, specials_replace, wilds_replace, missing_replace, wild_alone, kinds_count, wild_counts}
 
 pub contains-map : {A B : Type 0} (f : A → B) (xs : List A) (x : A) → Contains xs x → Contains (map f xs) (f x)

@@ -17,7 +17,7 @@ pub mod Left
 pub mod Traces
 pub mod PieceTraces
 pub mod Folds
-pub mod Columns
+pub mod AnyColumn
 pub mod Splits
 pub mod HandingOn
 pub mod Lighter

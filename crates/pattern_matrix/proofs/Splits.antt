@@ -17,7 +17,7 @@ use Rattle.pattern_matrix.proofs.Specials.{wilds_length, IsSided, IsSidedRow, Ar
 use Rattle.pattern_matrix.proofs.Traces.{behind, head_traces, row_traces, behind_none, other_traces, pat_traces}
 use Rattle.pattern_matrix.proofs.PieceTraces.{wilds_trace, heads_trace, none_trace, wild_trace}
 use Rattle.pattern_matrix.proofs.Folds.{one_counts, fold, Each, takes_in, passes_in, traces_in}
-use Rattle.pattern_matrix.proofs.Columns.{Replaces, HeadAt, HeadsAt, row_moved, these_rows}
+use Rattle.pattern_matrix.proofs.AnyColumn.{Replaces, HeadAt, HeadsAt, row_moved, these_rows}
 
 -- heads after a step
 
