@@ -1,5 +1,5 @@
 use Rattle.pattern_matrix.proofs.Whole.{empties_of}
-use Rattle.pattern_matrix.proofs.laws.empty_lists_are_exhaustive.Goals as goal
+use Rattle.pattern_matrix.proofs.cover_laws.empty_lists_are_exhaustive.Goals as goal
 
 pub returns : goal.returns
 returns g c =

@@ -1,5 +1,5 @@
 use Rattle.pattern_matrix.proofs.Whole.{covers_of}
-use Rattle.pattern_matrix.proofs.laws.witness_lists_are_covers.Goals as goal
+use Rattle.pattern_matrix.proofs.cover_laws.witness_lists_are_covers.Goals as goal
 
 pub returns : goal.returns
 returns g c =

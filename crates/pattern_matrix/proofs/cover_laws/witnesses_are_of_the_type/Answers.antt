@@ -1,5 +1,5 @@
 use Rattle.pattern_matrix.proofs.Whole.{types_of}
-use Rattle.pattern_matrix.proofs.laws.witnesses_are_of_the_type.Goals as goal
+use Rattle.pattern_matrix.proofs.cover_laws.witnesses_are_of_the_type.Goals as goal
 
 pub returns : goal.returns
 returns g c =

@@ -1,5 +1,5 @@
 use Rattle.pattern_matrix.proofs.Wrapping.{wrapped_fits}
-use Rattle.pattern_matrix.proofs.laws.wrapping_keeps_fits.Goals as goal
+use Rattle.pattern_matrix.proofs.cover_laws.wrapping_keeps_fits.Goals as goal
 
 pub returns : goal.returns
 returns c = wrapped_fits
