@@ -1,11 +1,11 @@
 -- The pieces between the sorted cuts of a column are its split.
-use Rattle.std.proofs.Common.{◌≡◌, ℕ, ℤ, pos, ◌+◌, ◌<◌, ◌-ℤ◌, Bool, not, ◌&&◌, ◌||◌, List, map, get_or, length, arith, sym, ◌∙◌, ap, IsPermutation}
+use Rattle.std.proofs.Common.{◌≡◌, ℕ, ℤ, pos, ◌+◌, ◌<◌, ◌-ℤ◌, Bool, not, ◌&&◌, ◌||◌, List, map, get_or, length, arith, refl, sym, ◌∙◌, ap, IsPermutation}
 use Rattle.std.specs.Prelude.{IsTrue, int_le, nat_eq}
 use Rattle.std.specs.Ordering.{int_eq}
 use Rattle.std.specs.List.{All, list_any, count_by}
 use Rattle.std.proofs.lemmas.Bool.Decides.{nat_tests}
-use Rattle.std.proofs.lemmas.List.Sorted.{list_any-IsPermutation, sum_by-IsPermutation}
-use Rattle.match_model.specs.Numbers.{MRange, in_range}
+use Rattle.std.proofs.lemmas.List.Sorted.{list_any-IsPermutation, sum_by-IsPermutation, All-permutation}
+use Rattle.match_model.specs.Numbers.{MRange, in_range, is_up_to}
 use Rattle.match_model.specs.Pieces.{is_at, is_cut_at}
 use Rattle.range_split.specs.Ends.{ends_ascend}
 use Rattle.range_split.specs.Splits.{IsSplit}
@@ -13,8 +13,14 @@ use Rattle.range_split.specs.Cuts.{cuts_of, has_start, begun_at, ended_at, AreBe
 use Rattle.range_split.proofs.Basics.{both_true, piece_of}
 use Rattle.range_split.proofs.Sides.{Follow-within, not_its_low}
 use Rattle.range_split.proofs.Splits.{makes_split, All-unmap}
-use Rattle.range_split.proofs.Walks.{bit}
-use Rattle.range_split.proofs.Counts.{having, cuts_at, some_counted}
+use Rattle.range_split.specs.Walks.{bit, pieces_from, AreCuts}
+use Rattle.range_split.proofs.Walks.{walk_between}
+use Rattle.range_split.proofs.Counts.{having, cuts_at, some_counted, all_inside}
+
+-- the cuts are inside the whole
+pub cuts_inside : (whole : MRange) (columns : List MRange) (begun : ℕ) (cuts : List (ℤ × Bool)) → AreCuts whole columns begun cuts → All (λ c. IsTrue (is_up_to whole.high c.0)) cuts
+cuts_inside whole columns begun cuts a =
+    All-permutation (λ (c : ℤ × Bool). IsTrue (is_up_to whole.high c.0)) (cuts_of whole columns) cuts a.same (λ k d l. (all_inside whole columns k d l).1)
 
 pub between_split : (whole : MRange) (columns : List MRange) (begun : ℕ) (cuts : List (ℤ × Bool)) (pieces : List (MRange × Bool)) →
     All (λ r. IsTrue (ends_ascend r.low r.high)) columns → IsPermutation (cuts_of whole columns) cuts → begun ≡ count_by (has_start whole) columns →
@@ -45,3 +51,9 @@ between_split whole columns begun cuts pieces up same counted a =
       where
         total : (g b e s b' e' h : ℕ) → g ≡ s → b ≡ b' → e ≡ e' → s + b' ≡ h + e' → g + b ≡ h + e
         total g b e s b' e' h p q r t = omega arith
+
+-- so are the pieces from the low end of the whole on, by cuts in order
+pub cuts_split : (whole : MRange) (columns : List MRange) (begun : ℕ) (cuts : List (ℤ × Bool)) → IsTrue (ends_ascend whole.low whole.high) → All (λ r. IsTrue (ends_ascend r.low r.high)) columns →
+    AreCuts whole columns begun cuts → IsSplit whole columns (pieces_from whole.low whole.high begun 0 cuts)
+cuts_split whole columns begun cuts asc up a =
+    between_split whole columns begun cuts _ up a.same a.counted (walk_between whole begun cuts _ asc a.rising (cuts_inside whole columns begun cuts a) refl)
