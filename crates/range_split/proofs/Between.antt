@@ -4,8 +4,8 @@ use Rattle.std.specs.Prelude.{IsTrue, int_le, nat_eq}
 use Rattle.std.specs.Ordering.{int_eq}
 use Rattle.std.specs.List.{All, list_any, count_by}
 use Rattle.std.proofs.lemmas.Bool.Decides.{nat_tests}
-use Rattle.std.proofs.lemmas.List.Sorted.{list_any-IsPermutation, sum_by-IsPermutation, All-permutation}
-use Rattle.match_model.specs.Numbers.{MRange, in_range, is_up_to}
+use Rattle.std.proofs.lemmas.List.Sorted.{list_any-IsPermutation, sum_by-IsPermutation}
+use Rattle.match_model.specs.Numbers.{MRange, in_range}
 use Rattle.match_model.specs.Pieces.{is_at, is_cut_at}
 use Rattle.range_split.specs.Ends.{ends_ascend}
 use Rattle.range_split.specs.Splits.{IsSplit}
@@ -15,12 +15,7 @@ use Rattle.range_split.proofs.Sides.{Follow-within, not_its_low}
 use Rattle.range_split.proofs.Splits.{makes_split, All-unmap}
 use Rattle.range_split.specs.Walks.{bit, pieces_from, AreCuts}
 use Rattle.range_split.proofs.Walks.{walk_between}
-use Rattle.range_split.proofs.Counts.{having, cuts_at, some_counted, all_inside}
-
--- the cuts are inside the whole
-pub cuts_inside : (whole : MRange) (columns : List MRange) (begun : ℕ) (cuts : List (ℤ × Bool)) → AreCuts whole columns begun cuts → All (λ c. IsTrue (is_up_to whole.high c.0)) cuts
-cuts_inside whole columns begun cuts a =
-    All-permutation (λ (c : ℤ × Bool). IsTrue (is_up_to whole.high c.0)) (cuts_of whole columns) cuts a.same (λ k d l. (all_inside whole columns k d l).1)
+use Rattle.range_split.proofs.Counts.{having, cuts_at, some_counted}
 
 pub between_split : (whole : MRange) (columns : List MRange) (begun : ℕ) (cuts : List (ℤ × Bool)) (pieces : List (MRange × Bool)) →
     All (λ r. IsTrue (ends_ascend r.low r.high)) columns → IsPermutation (cuts_of whole columns) cuts → begun ≡ count_by (has_start whole) columns →
@@ -56,4 +51,4 @@ between_split whole columns begun cuts pieces up same counted a =
 pub cuts_split : (whole : MRange) (columns : List MRange) (begun : ℕ) (cuts : List (ℤ × Bool)) → IsTrue (ends_ascend whole.low whole.high) → All (λ r. IsTrue (ends_ascend r.low r.high)) columns →
     AreCuts whole columns begun cuts → IsSplit whole columns (pieces_from whole.low whole.high begun 0 cuts)
 cuts_split whole columns begun cuts asc up a =
-    between_split whole columns begun cuts _ up a.same a.counted (walk_between whole begun cuts _ asc a.rising (cuts_inside whole columns begun cuts a) refl)
+    between_split whole columns begun cuts _ up a.same a.counted (walk_between whole begun cuts _ asc a.order.rising a.order.inside refl)

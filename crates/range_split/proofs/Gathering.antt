@@ -4,7 +4,8 @@ use Rattle.std.specs.Prelude.{IsTrue}
 use Rattle.std.specs.List.{All, count_by}
 use Rattle.std.proofs.lemmas.List.{append_assoc, append-nil}
 use Rattle.std.proofs.lemmas.List.Sums.{sum_by-cons}
-use Rattle.match_model.specs.Numbers.{MEnd, MRange, is_from}
+use Rattle.std.proofs.lemmas.List.Sorted.{All-permutation}
+use Rattle.match_model.specs.Numbers.{MEnd, MRange, is_from, is_up_to}
 use Rattle.range_split.specs.Cuts.{cuts_by, cuts_of, has_start, Rise}
 use Rattle.range_split.specs.Walks.{bit, AreCuts}
 use Rattle.range_split.proofs.Counts.{all_inside}
@@ -56,8 +57,12 @@ pub all_gathered : (whole : MRange) (columns : List MRange) (begun begun' : ℕ)
 all_gathered whole columns begun begun' cuts sorted rest i none l g p rise b =
     let is : cuts ≡ cuts_of whole columns = sym (append-nil cuts) ∙ sym (ap (λ rs. cuts ++ cuts_of whole rs) none) ∙ g.same in
     record {
+      order = record {
+        rising = rise whole.low (subst (All (λ (c : ℤ × Bool). IsTrue (is_from whole.low c.0))) (sym is) (λ k d l. (all_inside whole columns k d l).0));
+        inside = All-permutation (λ (c : ℤ × Bool). IsTrue (is_up_to whole.high c.0)) cuts sorted p
+            (subst (All (λ (c : ℤ × Bool). IsTrue (is_up_to whole.high c.0))) (sym is) (λ k d l. (all_inside whole columns k d l).1));
+        few = let k = g.few in omega arith;
+      };
       same = subst (λ (cs : List (ℤ × Bool)). IsPermutation cs sorted) is p;
       counted = b ∙ sym (add-zero begun) ∙ sym (ap (λ rs. begun + count_by (has_start whole) rs) none) ∙ g.counted;
-      rising = rise whole.low (subst (All (λ (c : ℤ × Bool). IsTrue (is_from whole.low c.0))) (sym is) (λ k d l. (all_inside whole columns k d l).0));
-      few = let k = g.few in omega arith;
     }

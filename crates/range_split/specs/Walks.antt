@@ -1,9 +1,9 @@
 -- The pieces between ascending cuts, one after the other.
-use Rattle.std.specs.Prelude.{◌≡◌, ◌+◌, ℕ, ◌-ℤ◌, ℤ, pos, ◌^◌, ◌≤◌, Bool, not, cond, List, [], ◌∷◌, ◌++◌, Option, nat_eq}
-use Rattle.std.specs.List.{count_by}
+use Rattle.std.specs.Prelude.{◌≡◌, ◌+◌, ℕ, ◌-ℤ◌, ℤ, pos, ◌^◌, ◌≤◌, Bool, not, cond, List, [], ◌∷◌, ◌++◌, Option, nat_eq, IsTrue}
+use Rattle.std.specs.List.{All, count_by}
 use Rattle.std.specs.List.Sorted.{IsPermutation}
 use Rattle.std.specs.Option.{option_to_list}
-use Rattle.match_model.specs.Numbers.{MEnd, At, MRange}
+use Rattle.match_model.specs.Numbers.{MEnd, At, MRange, is_up_to}
 use Rattle.match_model.specs.Pieces.{is_at}
 use Rattle.range_split.specs.declared.cut.Cut.{Cut}
 use Rattle.range_split.specs.declared.range.Range.{Range}
@@ -35,9 +35,14 @@ pub record Passes (cut : Cut) (old new : Walk) (piece : Option (Range × Bool)) 
   pub goes_on : (high : MEnd) (rest : List (ℤ × Bool)) →
       plain_pieces (option_to_list piece) ++ pieces_from (plain_end new.low) high new.begun new.ended rest ≡ pieces_from (plain_end old.low) high old.begun old.ended (plain_cut cut ∷ rest)
 
+-- cuts in order inside a whole, of which not too many ranges have the first numbers
+pub record AreInOrder (whole : MRange) (begun : ℕ) (cuts : List (ℤ × Bool)) : Type 0 where
+  pub rising : Rise whole.low cuts
+  pub inside : All (λ c. IsTrue (is_up_to whole.high c.0)) cuts
+  pub few : begun ≤ 2 ^ 64
+
 -- the cuts of a column inside a whole, in order, and how many of the ranges have its first numbers
 pub record AreCuts (whole : MRange) (columns : List MRange) (begun : ℕ) (cuts : List (ℤ × Bool)) : Type 0 where
+  pub order : AreInOrder whole begun cuts
   pub same : IsPermutation (cuts_of whole columns) cuts
   pub counted : begun ≡ count_by (has_start whole) columns
-  pub rising : Rise whole.low cuts
-  pub few : begun ≤ 2 ^ 64

@@ -1,10 +1,11 @@
 // The pieces into which a column cuts a range of numbers.
-ghost use Rattle.std.specs.Prelude.{IfOk, map};
+ghost use Rattle.std.specs.Prelude.{◌≡◌, IfOk};
 ghost use Rattle.std.specs.List.{All};
+ghost use Rattle.range_split.specs.Ends.{plain_end};
 ghost use Rattle.range_split.specs.Ranges.{plain_range};
 ghost use Rattle.range_split.specs.Splits.{plain_ranges, plain_pieces, HasRoomBelow, HasRoomAbove, IsSplit};
 ghost use Rattle.range_split.specs.Cuts.{plain_cuts};
-ghost use Rattle.range_split.specs.Walks.{AreCuts};
+ghost use Rattle.range_split.specs.Walks.{pieces_from, AreInOrder, AreCuts};
 
 use crate::{Cuts, Range, Walk};
 use no_memory::NoMemory;
@@ -26,7 +27,7 @@ pub fn split(
     ensures { IfOk result (λ v. IsSplit (plain_range whole.now) (plain_ranges columns.now) (plain_pieces v.items)) }
 {
     let cuts = sorted_cuts(alloc, whole, columns)?;
-    pieces_between(alloc, whole, columns, &cuts)
+    pieces_between(alloc, whole, &cuts)
 }
 
 // The cuts that the ranges of the column make inside the whole, ascending.
@@ -44,14 +45,10 @@ fn sorted_cuts(alloc: Global, whole: &Range, columns: &[Range]) -> Result<Cuts, 
 }
 
 // The pieces between ascending cuts.
-fn pieces_between(
-    alloc: Global,
-    whole: &Range,
-    columns: &[Range],
-    cuts: &Cuts,
-) -> Result<Vec<(Range, bool)>, NoMemory>
-    requires { AreCuts (plain_range whole.now) (plain_ranges columns.now) cuts.now.begun (plain_cuts cuts.now.places.items) }
-    ensures { IfOk result (λ v. IsSplit (plain_range whole.now) (plain_ranges columns.now) (plain_pieces v.items)) }
+fn pieces_between(alloc: Global, whole: &Range, cuts: &Cuts) -> Result<Vec<(Range, bool)>, NoMemory>
+    requires { AreInOrder (plain_range whole.now) cuts.now.begun (plain_cuts cuts.now.places.items) }
+    ensures { IfOk result (λ v. plain_pieces v.items ≡ pieces_from (plain_end whole.now.low) (plain_end whole.now.high)
+        cuts.now.begun 0 (plain_cuts cuts.now.places.items)) }
 {
     let mut pieces = Vec::with_capacity(alloc, cuts.places.len())?;
     let mut walk = Walk::new(whole, cuts.begun);

@@ -64,8 +64,10 @@ impl Walk {
         requires from { IsTrue (is_from (plain_end self.now.low) (num_value first.now)) }
         requires held { IsTrue (int_lt least_held (num_value first.now)) }
         ensures { plain_pieces (option_to_list result) ≡ cond (is_at (num_value first.now) (plain_end self.now.low)) []
-            ((range_of (plain_end self.now.low) (model.At (num_value first.now -ℤ pos 1)),
-            not (nat_eq self.now.begun self.now.ended)) ∷ []) }
+            ((
+              range_of (plain_end self.now.low) (model.At (num_value first.now -ℤ pos 1)),
+              not (nat_eq self.now.begun self.now.ended),
+            ) ∷ []) }
     {
         if is_at(&self.low, first) {
             None

@@ -1,19 +1,16 @@
-use Rattle.std.proofs.Common.{◌≡◌, ℤ, ◌+◌, Bool, List, [], ◌∷◌, ◌++◌, drop, get_or, not, refl, sym, ◌∙◌, ap, subst, Vec, Global}
-use Rattle.std.specs.Prelude.{IsTrue, nat_eq}
-use Rattle.std.specs.List.{All}
+use Rattle.std.proofs.Common.{◌≡◌, ℤ, ◌+◌, Bool, List, [], ◌∷◌, ◌++◌, drop, ◌∙◌, ap, subst, Vec, Global}
+use Rattle.std.specs.Prelude.{IsTrue}
 use Rattle.std.specs.Option.{option_to_list}
 use Rattle.std.proofs.lemmas.List.{drop_all, map-append}
-use Rattle.std.proofs.lemmas.List.Elements.{All-map}
 use Rattle.match_model.specs.Numbers.{MRange, is_up_to}
 use Rattle.range_split.specs.declared.cut.Cut.{Cut}
 use Rattle.range_split.specs.declared.range.Range.{Range}
-use Rattle.range_split.specs.Ends.{plain_end, ends_ascend}
+use Rattle.range_split.specs.Ends.{plain_end}
 use Rattle.range_split.specs.Ranges.{plain_range}
 use Rattle.range_split.specs.Cuts.{plain_cut, plain_cuts, cut_number, Rise}
-use Rattle.range_split.specs.Splits.{plain_ranges, plain_pieces, IsSplit}
+use Rattle.range_split.specs.Splits.{plain_pieces}
 use Rattle.range_split.specs.Walks.{pieces_from, range_of}
 use Rattle.range_split.proofs.Splits.{All-unmap}
-use Rattle.range_split.proofs.Between.{cuts_inside, cuts_split}
 use Rattle.range_split.proofs.Steps.{Walked, not_walked, walked_past, walked_out, one_handed, none_handed, front_of, at_front}
 use Rattle.range_split.proofs.pieces.pieces_between.Goals as goal
 use Rattle.range_split.proofs.pieces.pieces_between.Goals.{in-Some+in_ok-push-in-Some, in-None}
@@ -38,8 +35,7 @@ loop-cut-preserved c =
     let front : drop i items ≡ cut ∷ drop (i + 1) items = front_of items c.deref-cut-items.result.now i cut c.deref-cut-items.ensures.value c.loop-cut-test.true c.cut-item.is in
     let inside : IsTrue (is_up_to high (cut_number cut)) =
     at_front (λ (x : Cut). IsTrue (is_up_to high (cut_number x))) items c.deref-cut-items.result.now i cut c.deref-cut-items.ensures.value c.loop-cut-test.true c.cut-item.is
-    (All-unmap (λ (x : ℤ × Bool). IsTrue (is_up_to high x.0)) plain_cut items
-    (cuts_inside (plain_range c.args.whole.now) (plain_ranges c.args.columns.now) c.args.cuts.now.begun (plain_cuts items) c.requires)) in
+    (All-unmap (λ (x : ℤ × Bool). IsTrue (is_up_to high x.0)) plain_cut items c.requires.inside) in
     let handed : plain_pieces c.match-pass.pieces.items ≡ plain_pieces c.loop-cut.pieces.items ++ plain_pieces (option_to_list c.pass.result) =
     elim c.match-pass.branch [
       | in-Some+in_ok-push-in-Some w ↦
@@ -55,16 +51,10 @@ returns c =
     let items = c.args.cuts.now.places.items in
     let i = c.loop-cut.cut-index in
     let walk = c.loop-cut.walk in
-    let whole = plain_range c.args.whole.now in
-    let columns = plain_ranges c.args.columns.now in
-    let begun = c.args.cuts.now.begun in
-    let all : List (MRange × Bool) = pieces_from whole.low whole.high begun 0 (plain_cuts items) in
+    let high = plain_end c.args.whole.now.high in
+    let all : List (MRange × Bool) = pieces_from (plain_end c.args.whole.now.low) high c.args.cuts.now.begun 0 (plain_cuts items) in
     let last = c.last.result in
     let none : drop i items ≡ [] = subst (λ (xs : List Cut). drop i xs ≡ []) c.deref-cut-items.ensures.value (drop_all i c.deref-cut-items.result.now c.loop-cut-test.false) in
-    let done : plain_pieces c.push-2.new.self.items ≡ all =
-    walked_out whole.high all (plain_pieces c.loop-cut.pieces.items) (plain_pieces c.push-2.new.self.items) walk (drop i items) i last c.loop-cut.invariant none
-    (ap (λ (r : MRange). (r, last.1) ∷ []) c.last.ensures.range ∙ ap (λ b. (range_of (plain_end walk.low) whole.high, b) ∷ []) c.last.ensures.flag)
-    (ap plain_pieces c.in_ok-push.ensures.items ∙ map-append (λ (p : Range × Bool). (plain_range p.0, p.1)) c.loop-cut.pieces.items (last ∷ [])) in
-    subst (IsSplit whole columns) (sym done)
-    (cuts_split whole columns begun (plain_cuts items) c.args.whole.now.ascending
-    (All-map (λ (r : MRange). IsTrue (ends_ascend r.low r.high)) plain_range c.args.columns.now (λ k d l. (get_or c.args.columns.now k d).ascending)) c.requires)
+    walked_out high all (plain_pieces c.loop-cut.pieces.items) (plain_pieces c.push-2.new.self.items) walk (drop i items) i last c.loop-cut.invariant none
+    (ap (λ (r : MRange). (r, last.1) ∷ []) c.last.ensures.range ∙ ap (λ b. (range_of (plain_end walk.low) high, b) ∷ []) c.last.ensures.flag)
+    (ap plain_pieces c.in_ok-push.ensures.items ∙ map-append (λ (p : Range × Bool). (plain_range p.0, p.1)) c.loop-cut.pieces.items (last ∷ []))
