@@ -134,7 +134,11 @@ fn by_states<'a, C: PatCx>(
 }
 
 // Adds what is found of one piece more.
-pub(crate) fn add_piece<'a>(found: &mut Found<'a>, ctor: &Ctor<'a>, state: PieceState) -> Result<(), NoMemory>
+pub(crate) fn add_piece<'a>(
+    found: &mut Found<'a>,
+    ctor: &Ctor<'a>,
+    state: PieceState,
+) -> Result<(), NoMemory>
     ensures present { OnOk result (plain_ctors found.new.ctors.items ≡ plain_ctors found.old.ctors.items
         ++ filter_map present_piece ((plain_ctor ctor.now, state) ∷ [])) }
     ensures missing { OnOk result (found.new.missing ≡ (found.old.missing || is_missing (plain_ctor ctor.now, state))) }

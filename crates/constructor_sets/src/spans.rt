@@ -31,11 +31,7 @@ pub(crate) fn spans_of(
 }
 
 // The same, each looked for beside the two before.
-fn spans_in_turn(
-    alloc: Global,
-    pieces: &[Ctor],
-    heads: &[Ctor],
-) -> Result<Vec<Span>, NoMemory>
+fn spans_in_turn(alloc: Global, pieces: &[Ctor], heads: &[Ctor]) -> Result<Vec<Span>, NoMemory>
     requires rising { AllPairs Precedes (plain_ctors pieces.now) }
     requires heads { All (λ h. IsTrue (is_written (plain_ctor h))) heads.now }
     ensures { IfOk result (λ v. AreSpans (plain_ctors pieces.now) (plain_ctors heads.now) (map plain_span v.items)) }
