@@ -165,6 +165,9 @@ fn array<'a>(n: u64, heads: &[Ctor<'a>]) -> Present<'a> {
         }
     }
     let c = if fixed || front + back >= n { Ctor::Fixed(n) } else { Ctor::Longer(front, back) };
+    if heads.is_empty() {
+        return Present { ctors: vec![], missing: true, of: vec![], gaps: vec![c] };
+    }
     Present { ctors: vec![c], missing: false, of: vec![(0, 1); heads.len()], gaps: vec![] }
 }
 

@@ -9,6 +9,7 @@ ghost use Rattle.constructor_sets.specs.Spans.{plain_span};
 ghost use Rattle.constructor_sets.specs.Present.{is_sharp_head, present_piece, is_missing, gap_of, AreFound};
 ghost use Rattle.constructor_sets.specs.Present.{AreFoundOf, ArePresent};
 
+use crate::numbers::found_numbers;
 use crate::set_pieces::set_pieces;
 use crate::spans::spans_of;
 use crate::split::piece_state;
@@ -76,6 +77,9 @@ fn found_by_set<'a, C: PatCx>(
         CtorSet::Variants { count, later } => found_variants(
             alloc, cx, ty, validity, count, later, heads,
         ),
+        CtorSet::Numbers { first, second } => {
+            found_numbers(alloc, cx, ty, validity, &first, &second, heads)
+        }
         _ => found_pieces(alloc, cx, ty, validity, heads),
     }
 }
@@ -130,7 +134,11 @@ fn by_states<'a, C: PatCx>(
 }
 
 // Adds what is found of one piece more.
-fn add_piece<'a>(found: &mut Found<'a>, ctor: &Ctor<'a>, state: PieceState) -> Result<(), NoMemory>
+pub(crate) fn add_piece<'a>(
+    found: &mut Found<'a>,
+    ctor: &Ctor<'a>,
+    state: PieceState,
+) -> Result<(), NoMemory>
     ensures present { OnOk result (plain_ctors found.new.ctors.items ≡ plain_ctors found.old.ctors.items
         ++ filter_map present_piece ((plain_ctor ctor.now, state) ∷ [])) }
     ensures missing { OnOk result (found.new.missing ≡ (found.old.missing || is_missing (plain_ctor ctor.now, state))) }

@@ -1,7 +1,7 @@
 // Which of the pieces in a list the heads of their column have.
-ghost use Rattle.std.specs.Prelude.{◌≡◌, ◌≤◌, ◌||◌, IsTrue, IfOk, length, map};
+ghost use Rattle.std.specs.Prelude.{◌≡◌, ◌≤◌, ◌||◌, IsTrue, IfOk, IfSome, length, map, true, false};
 ghost use Rattle.std.specs.List.{All, AllPairs};
-ghost use Rattle.match_model.specs.Constructors.{has_piece};
+ghost use Rattle.match_model.specs.Constructors.{has_piece, FlagCtor};
 ghost use Rattle.match_model.specs.WellTyped.{is_written};
 ghost use Rattle.pat_context.specs.Views.{plain_ctor};
 ghost use Rattle.constructor_sets.specs.Columns.{plain_ctors};
@@ -24,40 +24,111 @@ pub(crate) fn spans_of(
     requires heads { All (λ h. IsTrue (is_written (plain_ctor h))) heads.now }
     ensures { IfOk result (λ v. AreSpans (plain_ctors pieces.now) (plain_ctors heads.now) (map plain_span v.items)) }
 {
+    match heads.first() {
+        Some(Ctor::Flag(_)) => flag_spans(alloc, pieces, heads),
+        _ => spans_in_turn(alloc, pieces, heads),
+    }
+}
+
+// The same, each looked for beside the two before.
+fn spans_in_turn(alloc: Global, pieces: &[Ctor], heads: &[Ctor]) -> Result<Vec<Span>, NoMemory>
+    requires rising { AllPairs Precedes (plain_ctors pieces.now) }
+    requires heads { All (λ h. IsTrue (is_written (plain_ctor h))) heads.now }
+    ensures { IfOk result (λ v. AreSpans (plain_ctors pieces.now) (plain_ctors heads.now) (map plain_span v.items)) }
+{
     let mut spans = Vec::with_capacity(alloc, heads.len())?;
     let mut near = Span { first: 0, end: 0 };
+    let mut old = near;
     for head in heads {
-        let span = span_of(pieces, head, near);
+        let span = span_of(pieces, head, near, old);
         spans.push(span)?;
+        old = near;
         near = span;
     }
     Ok(spans)
 }
 
-// Which of the pieces the head has. Heads often stand in order, so it is looked for beside the span of the head before.
-fn span_of(pieces: &[Ctor], head: &Ctor, near: Span) -> Span
+// The same, where the heads are flags: there are two spans.
+fn flag_spans(alloc: Global, pieces: &[Ctor], heads: &[Ctor]) -> Result<Vec<Span>, NoMemory>
+    requires rising { AllPairs Precedes (plain_ctors pieces.now) }
+    requires heads { All (λ h. IsTrue (is_written (plain_ctor h))) heads.now }
+    ensures { IfOk result (λ v. AreSpans (plain_ctors pieces.now) (plain_ctors heads.now) (map plain_span v.items)) }
+{
+    let mut spans = Vec::with_capacity(alloc, heads.len())?;
+    let none = Span { first: 0, end: 0 };
+    let of_false = span_of(pieces, &Ctor::Flag(false), none, none);
+    let of_true = span_of(pieces, &Ctor::Flag(true), of_false, none);
+    for head in heads {
+        let span = flag_span(pieces, head, of_false, of_true);
+        spans.push(span)?;
+    }
+    Ok(spans)
+}
+
+// Which of the pieces the head has, where it is known of the two flags.
+fn flag_span(pieces: &[Ctor], head: &Ctor, of_false: Span, of_true: Span) -> Span
+    requires rising { AllPairs Precedes (plain_ctors pieces.now) }
+    requires head { IsTrue (is_written (plain_ctor head.now)) }
+    requires of_false { IsSpan (plain_ctors pieces.now) (FlagCtor false) (plain_span of_false) }
+    requires of_true { IsSpan (plain_ctors pieces.now) (FlagCtor true) (plain_span of_true) }
+    ensures { IsSpan (plain_ctors pieces.now) (plain_ctor head.now) (plain_span result) }
+{
+    match *head {
+        Ctor::Flag(false) => of_false,
+        Ctor::Flag(true) => of_true,
+        _ => span_of(pieces, head, of_false, of_true),
+    }
+}
+
+// Which of the pieces the head has. Heads often stand in order, or come from two sides in turn, so it is looked for
+// beside the spans of the two heads before.
+fn span_of(pieces: &[Ctor], head: &Ctor, near: Span, old: Span) -> Span
     requires rising { AllPairs Precedes (plain_ctors pieces.now) }
     requires head { IsTrue (is_written (plain_ctor head.now)) }
     ensures { IsSpan (plain_ctors pieces.now) (plain_ctor head.now) (plain_span result) }
 {
-    let first = first_of(pieces, head, near.first);
-    let end = end_of(pieces, head, first, near.end);
+    let first = first_of(pieces, head, near.first, old.first);
+    let end = end_of(pieces, head, first, near.end, old.end);
     Span { first, end }
 }
 
-// How many of the pieces begin before all that the head has; it may be close to `near`.
-fn first_of(pieces: &[Ctor], head: &Ctor, near: usize) -> usize
+// How many of the pieces begin before all that the head has; it may be close to `near` or `old`.
+fn first_of(pieces: &[Ctor], head: &Ctor, near: usize, old: usize) -> usize
     requires rising { AllPairs Precedes (plain_ctors pieces.now) }
     ensures { IsFirst (plain_ctor head.now) pieces.now result }
 {
+    match first_beside(pieces, head, near) {
+        Some(first) => first,
+        None => match first_beside(pieces, head, old) {
+            Some(first) => first,
+            None => search_first(pieces, head),
+        },
+    }
+}
+
+// The same, if it is close to `near`.
+fn first_beside(pieces: &[Ctor], head: &Ctor, near: usize) -> Option<usize>
+    requires rising { AllPairs Precedes (plain_ctors pieces.now) }
+    ensures { IfSome result (λ n. IsFirst (plain_ctor head.now) pieces.now n) }
+{
     if is_first(pieces, head, near) {
-        near
-    } else if near < pieces.len() && is_first(pieces, head, near + 1) {
-        near + 1
-    } else if 0 < near && is_first(pieces, head, near - 1) {
-        near - 1
+        Some(near)
+    } else if near < pieces.len() && starts_below(pieces, head, near) {
+        first_at(pieces, head, near + 1)
     } else {
-        search_first(pieces, head)
+        first_at(pieces, head, near.saturating_sub(1))
+    }
+}
+
+// The same, if it is so many.
+fn first_at(pieces: &[Ctor], head: &Ctor, count: usize) -> Option<usize>
+    requires rising { AllPairs Precedes (plain_ctors pieces.now) }
+    ensures { IfSome result (λ n. IsFirst (plain_ctor head.now) pieces.now n) }
+{
+    if is_first(pieces, head, count) {
+        Some(count)
+    } else {
+        None
     }
 }
 
@@ -109,23 +180,50 @@ fn search_first(pieces: &[Ctor], head: &Ctor) -> usize
     )
 }
 
-// How many of the pieces lie before what the head has or are of it; it may be one more than `first`, or close to `near`.
-fn end_of(pieces: &[Ctor], head: &Ctor, first: usize, near: usize) -> usize
+// How many of the pieces lie before what the head has or are of it; it may be one more than `first`, or close to `near`
+// or `old`.
+fn end_of(pieces: &[Ctor], head: &Ctor, first: usize, near: usize, old: usize) -> usize
     requires rising { AllPairs Precedes (plain_ctors pieces.now) }
     requires head { IsTrue (is_written (plain_ctor head.now)) }
-    requires first { first ≤ length pieces.now }
     ensures { IsEnd (plain_ctor head.now) pieces.now result }
 {
-    if first < pieces.len() && is_end(pieces, head, first + 1) {
-        first + 1
-    } else if is_end(pieces, head, near) {
-        near
-    } else if near < pieces.len() && is_end(pieces, head, near + 1) {
-        near + 1
-    } else if 0 < near && is_end(pieces, head, near - 1) {
-        near - 1
+    match end_at(pieces, head, first.saturating_add(1)) {
+        Some(end) => end,
+        None => match end_beside(pieces, head, near) {
+            Some(end) => end,
+            None => match end_beside(pieces, head, old) {
+                Some(end) => end,
+                None => search_end(pieces, head),
+            },
+        },
+    }
+}
+
+// The same, if it is close to `near`.
+fn end_beside(pieces: &[Ctor], head: &Ctor, near: usize) -> Option<usize>
+    requires rising { AllPairs Precedes (plain_ctors pieces.now) }
+    requires head { IsTrue (is_written (plain_ctor head.now)) }
+    ensures { IfSome result (λ n. IsEnd (plain_ctor head.now) pieces.now n) }
+{
+    if is_end(pieces, head, near) {
+        Some(near)
+    } else if near < pieces.len() && goes_below(pieces, head, near) {
+        end_at(pieces, head, near + 1)
     } else {
-        search_end(pieces, head)
+        end_at(pieces, head, near.saturating_sub(1))
+    }
+}
+
+// The same, if it is so many.
+fn end_at(pieces: &[Ctor], head: &Ctor, count: usize) -> Option<usize>
+    requires rising { AllPairs Precedes (plain_ctors pieces.now) }
+    requires head { IsTrue (is_written (plain_ctor head.now)) }
+    ensures { IfSome result (λ n. IsEnd (plain_ctor head.now) pieces.now n) }
+{
+    if is_end(pieces, head, count) {
+        Some(count)
+    } else {
+        None
     }
 }
 

@@ -1,5 +1,5 @@
 -- The pieces between the sorted cuts of a column are its split.
-use Rattle.std.proofs.Common.{◌≡◌, ℕ, ℤ, pos, ◌+◌, ◌<◌, ◌-ℤ◌, Bool, not, ◌&&◌, ◌||◌, List, map, get_or, length, arith, sym, ◌∙◌, ap, IsPermutation}
+use Rattle.std.proofs.Common.{◌≡◌, ℕ, ℤ, pos, ◌+◌, ◌<◌, ◌-ℤ◌, Bool, not, ◌&&◌, ◌||◌, List, map, get_or, length, arith, refl, sym, ◌∙◌, ap, IsPermutation}
 use Rattle.std.specs.Prelude.{IsTrue, int_le, nat_eq}
 use Rattle.std.specs.Ordering.{int_eq}
 use Rattle.std.specs.List.{All, list_any, count_by}
@@ -13,7 +13,8 @@ use Rattle.range_split.specs.Cuts.{cuts_of, has_start, begun_at, ended_at, AreBe
 use Rattle.range_split.proofs.Basics.{both_true, piece_of}
 use Rattle.range_split.proofs.Sides.{Follow-within, not_its_low}
 use Rattle.range_split.proofs.Splits.{makes_split, All-unmap}
-use Rattle.range_split.proofs.Walks.{bit}
+use Rattle.range_split.specs.Walks.{bit, pieces_from, AreCuts}
+use Rattle.range_split.proofs.Walks.{walk_between}
 use Rattle.range_split.proofs.Counts.{having, cuts_at, some_counted}
 
 pub between_split : (whole : MRange) (columns : List MRange) (begun : ℕ) (cuts : List (ℤ × Bool)) (pieces : List (MRange × Bool)) →
@@ -45,3 +46,9 @@ between_split whole columns begun cuts pieces up same counted a =
       where
         total : (g b e s b' e' h : ℕ) → g ≡ s → b ≡ b' → e ≡ e' → s + b' ≡ h + e' → g + b ≡ h + e
         total g b e s b' e' h p q r t = omega arith
+
+-- so are the pieces from the low end of the whole on, by cuts in order
+pub cuts_split : (whole : MRange) (columns : List MRange) (begun : ℕ) (cuts : List (ℤ × Bool)) → IsTrue (ends_ascend whole.low whole.high) → All (λ r. IsTrue (ends_ascend r.low r.high)) columns →
+    AreCuts whole columns begun cuts → IsSplit whole columns (pieces_from whole.low whole.high begun 0 cuts)
+cuts_split whole columns begun cuts asc up a =
+    between_split whole columns begun cuts _ up a.same a.counted (walk_between whole begun cuts _ asc a.order.rising a.order.inside refl)

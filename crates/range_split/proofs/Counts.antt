@@ -15,8 +15,8 @@ use Rattle.range_split.specs.Ends.{ends_ascend}
 use Rattle.range_split.specs.Cuts.{begin_cut, end_cut, cuts_of, has_start, begun_at, ended_at}
 use Rattle.range_split.proofs.Basics.{both_true, and_true, or_false, same_bool}
 use Rattle.range_split.proofs.Held.{not_equal}
-use Rattle.range_split.proofs.Following.{range_of}
-use Rattle.range_split.proofs.Walks.{bit}
+use Rattle.range_split.specs.Walks.{range_of}
+use Rattle.range_split.specs.Walks.{bit}
 
 -- a cut where a test holds
 abbrev cut_if : Bool → ℤ × Bool → List (ℤ × Bool)

@@ -14,7 +14,8 @@ use Rattle.range_split.specs.Ends.{ends_ascend}
 use Rattle.range_split.specs.Splits.{IsSplit, some_has}
 use Rattle.range_split.specs.Laws.{IsInOnePiece}
 use Rattle.range_split.proofs.Basics.{both_true, and_true, same_bool, reflexive, back, piece_of}
-use Rattle.range_split.proofs.Following.{range_of, Follow-ascends}
+use Rattle.range_split.specs.Walks.{range_of}
+use Rattle.range_split.proofs.Following.{Follow-ascends}
 use Rattle.range_split.proofs.Sides.{not_its_low, from_later, Follow-starts_from}
 
 abbrev starts : ℤ → List MRange → Bool

@@ -7,9 +7,7 @@ use Rattle.match_model.specs.Numbers.{MEnd, Free, At, MRange, in_range, is_from}
 use Rattle.match_model.specs.Pieces.{Follow, last_one, one_more}
 use Rattle.range_split.specs.Ends.{ends_ascend}
 use Rattle.range_split.proofs.Basics.{both_true, or_false}
-
-abbrev pub range_of : (low high : MEnd) → MRange
-range_of low high = record { low = low; high = high }
+use Rattle.range_split.specs.Walks.{range_of}
 
 through : (low high : MEnd) (n : ℤ) → IsTrue (in_range (range_of low high) n) → IsTrue (ends_ascend low high)
 through Free Free n h = refl

@@ -14,7 +14,8 @@ use Rattle.range_split.specs.Ranges.{IsBelow}
 use Rattle.range_split.specs.Splits.{IsOnOneSide}
 use Rattle.range_split.proofs.Basics.{both_true, and_true, either_false, same_bool}
 use Rattle.range_split.proofs.Held.{not_equal}
-use Rattle.range_split.proofs.Following.{range_of, Follow-together}
+use Rattle.range_split.specs.Walks.{range_of}
+use Rattle.range_split.proofs.Following.{Follow-together}
 
 pub lower : (a k n : ℤ) → IsTrue (int_le a n) → IsTrue (int_le n k) → IsTrue (int_le a k)
 lower a k n p q = grind (arith, ints)

@@ -15,7 +15,8 @@ use Rattle.range_split.specs.Ranges.{IsBelow}
 use Rattle.range_split.specs.Ends.{ends_ascend}
 use Rattle.range_split.specs.Splits.{IsOnOneSide, AreToldApart, IsSplit}
 use Rattle.range_split.proofs.Basics.{both_true, and_true, same_bool, reflexive, back, piece_of}
-use Rattle.range_split.proofs.Following.{range_of, Follow-together}
+use Rattle.range_split.specs.Walks.{range_of}
+use Rattle.range_split.proofs.Following.{Follow-together}
 use Rattle.range_split.proofs.Sides.{Follow-pairs, Follow-inside, Follow-within, none_any, one_side}
 
 -- ---- which ranges have a piece

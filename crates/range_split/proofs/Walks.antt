@@ -11,21 +11,10 @@ use Rattle.match_model.specs.Numbers.{MEnd, Free, At, MRange, in_range, is_from,
 use Rattle.match_model.specs.Pieces.{Follow, last_one, one_more, is_at}
 use Rattle.range_split.specs.Ends.{ends_ascend}
 use Rattle.range_split.specs.Cuts.{Rise, begun_at, ended_at, AreBetween}
+use Rattle.range_split.specs.Walks.{bit, range_of, pieces_from}
 use Rattle.range_split.proofs.Basics.{both_true, and_true, reflexive, piece_of}
 use Rattle.range_split.proofs.Pairs.{some_number}
 use Rattle.range_split.proofs.Held.{not_equal}
-use Rattle.range_split.proofs.Following.{range_of}
-
-abbrev pub bit : Bool → ℕ
-bit b = cond b 1 0
-
--- the pieces from a low end on, where so many ranges have begun and so many have ended
-abbrev pub pieces_from : (low high : MEnd) → (begun ended : ℕ) → List (ℤ × Bool) → List (MRange × Bool)
-pieces_from low high b e [] = (range_of low high, not (nat_eq b e)) ∷ []
-pieces_from low high b e (c ∷ cuts) =
-    cond (is_at c.0 low)
-    (pieces_from low high (b + bit c.1) (e + bit (not c.1)) cuts)
-    ((range_of low (At (c.0 -ℤ pos 1)), not (nat_eq b e)) ∷ pieces_from (At c.0) high (b + bit c.1) (e + bit (not c.1)) cuts)
 
 pub same_place : (low high : MEnd) (b e : ℕ) (c : ℤ × Bool) (cuts : List (ℤ × Bool)) → is_at c.0 low ≡ true →
     pieces_from low high b e (c ∷ cuts) ≡ pieces_from low high (b + bit c.1) (e + bit (not c.1)) cuts
@@ -59,7 +48,7 @@ pub ascend_to : (high : MEnd) (n : ℤ) → IsTrue (is_up_to high n) → IsTrue 
 ascend_to Free n h = refl
 ascend_to (At b) n h = h
 
-by_place : (t : Bool) (P : Type 0) → (t ≡ true → P) → (t ≡ false → P) → P
+pub by_place : (t : Bool) (P : Type 0) → (t ≡ true → P) → (t ≡ false → P) → P
 by_place true P f g = f refl
 by_place false P f g = g refl
 

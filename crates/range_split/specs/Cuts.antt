@@ -6,12 +6,16 @@ use Rattle.match_model.specs.Numbers.{MEnd, Free, At, MRange, in_range, is_from}
 use Rattle.match_model.specs.Constructors.{low_within}
 use Rattle.match_model.specs.Pieces.{Follow, is_at}
 use Rattle.range_split.specs.declared.cut.Cut.{Cut}
-use Rattle.range_split.specs.Numbers.{num_value}
+use Rattle.range_split.specs.Numbers.{signed}
 use Rattle.range_split.specs.Ends.{ends_ascend}
 
--- the first number behind a cut, and whether a range begins there or has ended
+-- the number behind a cut
+abbrev pub cut_number : Cut → ℤ
+cut_number c = signed c.negative c.size
+
+-- the number behind a cut, and whether a range begins there or has ended
 abbrev pub plain_cut : Cut → ℤ × Bool
-plain_cut c = (num_value c.first, c.begins)
+plain_cut c = (cut_number c, c.begins)
 
 abbrev pub plain_cuts : List Cut → List (ℤ × Bool)
 plain_cuts cuts = map plain_cut cuts
@@ -26,9 +30,13 @@ abbrev pub end_cut : (whole : MRange) → (high : MEnd) → List (ℤ × Bool)
 end_cut whole Free = []
 end_cut whole (At b) = if in_range whole b && not (is_at b whole.high) then (b +ℤ pos 1, false) ∷ [] else []
 
+-- the cuts that one range makes inside the whole
+abbrev pub cuts_by : (whole range : MRange) → List (ℤ × Bool)
+cuts_by whole r = begin_cut whole r.low ++ end_cut whole r.high
+
 -- the cuts that the ranges of a column make inside the whole
 abbrev pub cuts_of : (whole : MRange) → (columns : List MRange) → List (ℤ × Bool)
-cuts_of whole columns = flat_map (λ r. begin_cut whole r.low ++ end_cut whole r.high) columns
+cuts_of whole columns = flat_map (cuts_by whole) columns
 
 -- the range has the first numbers of the whole
 abbrev pub has_start : (whole range : MRange) → Bool

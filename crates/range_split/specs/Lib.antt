@@ -4,4 +4,5 @@ pub mod Ranges
 pub mod Splits
 pub mod Order
 pub mod Cuts
+pub mod Walks
 pub mod Laws

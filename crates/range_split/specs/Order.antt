@@ -1,12 +1,7 @@
 -- A key that orders numbers.
-use Rattle.std.specs.Prelude.{ℕ, Bool, true, false}
-use Rattle.std.specs.declared.cmp.Reverse.{Reverse}
-use Rattle.range_split.specs.declared.num.Num.{Num}
+use Rattle.std.specs.Prelude.{ℕ, ◌-◌, ◌^◌, Bool, true, false}
 
--- below zero the size backwards, else the size
-abbrev pub key_by : Bool → ℕ → Reverse ℕ × ℕ
-key_by true size = (record { 0 = size }, 0)
-key_by false size = (record { 0 = 0 }, size)
-
-abbrev pub order_key : Num → Reverse ℕ × ℕ
-order_key n = key_by n.negative n.size
+-- first the numbers below zero, by their distance from the least that can be held; then the others, by their size
+abbrev pub key_by : Bool → ℕ → ℕ × ℕ
+key_by true size = (0, 2 ^ 128 - 1 - size)
+key_by false size = (1, size)

@@ -1,32 +1,63 @@
 // Cuts: where the ranges of a column begin and end.
-ghost use Rattle.std.specs.Prelude.{◌≡◌, IsTrue, int_lt};
+ghost use Rattle.std.specs.Prelude.{◌≡◌, ◌<◌, ◌^◌, false, IsTrue, int_lt};
 ghost use Rattle.match_model.specs.Constructors.{least_held};
-ghost use Rattle.range_split.specs.Numbers.{num_value};
+ghost use Rattle.range_split.specs.Numbers.{signed};
 
 use crate::Num;
-use std::cmp::Reverse;
 
-// A place between two numbers where a range of the column begins or has ended.
+/// A place between two numbers where a range of a column begins or has ended. The number behind it is told by its sign
+/// and its distance from zero; the number before it can be held.
 #[derive(Clone, Copy)]
-pub(crate) struct Cut {
-    // The number behind the cut; the number before it can be held.
-    pub(crate) first: Num,
-    // Whether a range begins behind the cut; else one has ended before it.
-    pub(crate) begins: bool,
-    pub ghost held: { IsTrue (int_lt least_held (num_value first)) },
+pub struct Cut {
+    /// The distance from zero of the number behind the cut.
+    pub size: u128,
+    /// Whether that number is below zero.
+    pub negative: bool,
+    /// Whether a range begins behind the cut; else one has ended before it.
+    pub begins: bool,
+    pub ghost zero_is_not_negative: { size ≡ 0 → negative ≡ false },
+    pub ghost size_fits: { size < 2 ^ 128 },
+    pub ghost held: { IsTrue (int_lt least_held (signed negative size)) },
 }
 
 impl Cut {
-    ghost use Rattle.range_split.specs.Order.{order_key};
+    ghost use Rattle.std.specs.Prelude.{◌≡◌, IsTrue, int_lt};
+    ghost use Rattle.match_model.specs.Constructors.{least_held};
+    ghost use Rattle.range_split.specs.Numbers.{num_value};
+    ghost use Rattle.range_split.specs.Order.{key_by};
+    ghost use Rattle.range_split.specs.Cuts.{cut_number};
 
-    // Orders cuts by their numbers: below zero the greater size comes first.
-    pub(crate) fn key(&self) -> (Reverse<u128>, u128)
-        ensures { result ≡ order_key self.now.first }
+    // The cut before the number.
+    pub(crate) fn before(first: &Num, begins: bool) -> Cut
+        requires { IsTrue (int_lt least_held (num_value first.now)) }
+        ensures number { cut_number result ≡ num_value first.now }
+        ensures begins { result.begins ≡ begins }
     {
-        if self.first.negative {
-            (Reverse(self.first.size), 0)
+        Cut {
+            size: first.size,
+            negative: first.negative,
+            begins,
+        }
+    }
+
+    // The number behind the cut.
+    pub(crate) fn first(&self) -> Num
+        ensures { num_value result ≡ cut_number self.now }
+    {
+        Num {
+            negative: self.negative,
+            size: self.size,
+        }
+    }
+
+    // Orders cuts by their numbers: first those below zero, of which the greater size comes first.
+    pub(crate) fn key(&self) -> (u8, u128)
+        ensures { result ≡ key_by self.now.negative self.now.size }
+    {
+        if self.negative {
+            (0, u128::MAX - self.size)
         } else {
-            (Reverse(0), self.first.size)
+            (1, self.size)
         }
     }
 }

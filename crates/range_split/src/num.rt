@@ -27,8 +27,8 @@ impl Num {
         }
     }
 
-    // Tells whether a number is at or below another.
-    pub(crate) fn is_at_most(&self, other: &Num) -> bool
+    /// Tells whether a number is at or below another.
+    pub fn is_at_most(&self, other: &Num) -> bool
         ensures { result ≡ int_le (num_value self.now) (num_value other.now) }
     {
         if self.negative {

@@ -3,7 +3,8 @@ ghost use Rattle.std.specs.Prelude.{◌↔◌, IsTrue};
 ghost use Rattle.range_split.specs.Ranges.{plain_range};
 ghost use Rattle.range_split.specs.Splits.{HasRoomBelow, HasRoomAbove};
 
-use super::{is_at, split};
+use super::split;
+use crate::ends::is_at;
 use crate::{End, Num, Range};
 use no_memory::NoMemory;
 use std::alloc::Global;

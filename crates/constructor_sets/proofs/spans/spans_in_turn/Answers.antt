@@ -1,5 +1,5 @@
 use Rattle.constructor_sets.proofs.Spanning.{more_spans}
-use Rattle.constructor_sets.proofs.spans.spans_of.Goals as goal
+use Rattle.constructor_sets.proofs.spans.spans_in_turn.Goals as goal
 
 pub loop-head-preserved : goal.loop-head-preserved
 loop-head-preserved c =
