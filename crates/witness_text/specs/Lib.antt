@@ -1,0 +1,5 @@
+pub mod Literals
+pub mod Ranges
+pub mod Reported
+pub mod Texts
+pub mod Trees
