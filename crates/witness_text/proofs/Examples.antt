@@ -1,13 +1,13 @@
 -- Worked examples: what a report shows of some witnesses, byte for byte.
-use Rattle.std.proofs.Common.{◌≡◌, refl, ℕ, Bool, true, false, List, [], ◌∷◌, Some, None, codes}
+use Rattle.std.proofs.Common.{◌≡◌, refl, ℕ, true, false, List, [], ◌∷◌, Some, codes}
 use Rattle.std.specs.Prelude.{pos, negsuc}
 use Rattle.std.specs.Fmt.{digits}
 use Rattle.serde_json.specs.Written.{compact_text}
 use Rattle.serde_json.proofs.OnLiterals.{serde_json_on_literals}
-use Rattle.match_model.specs.declared.IntKind.TheVariants.{U8, I8, U32, U64, U128, USize, ISize}
+use Rattle.match_model.specs.declared.IntKind.TheVariants.{U8, I8, U32, U128, USize, ISize}
 use Rattle.match_model.specs.Numbers.{MEnd, Free, At, MRange}
-use Rattle.witness_text.specs.Literals.{escaped, char_literal, string_literal}
-use Rattle.witness_text.specs.Trees.{PlainName, VariantName, WitnessTree, Anything, Undeclared, OfFlag, OfInts, OfChars, OfText, OfOthers, OfTuple, OfUnitForm, OfTupleForm, OfBraceForm, OfPoint, OfRow, WitnessTrees, no_trees, trees_of, fields_of}
+use Rattle.witness_text.specs.Literals.{escaped, string_literal}
+use Rattle.witness_text.specs.Trees.{PlainName, VariantName, WitnessTree, Anything, Undeclared, OfFlag, OfInts, OfChars, OfText, OfOthers, OfTuple, OfUnitForm, OfTupleForm, OfBraceForm, OfPoint, OfRow, no_trees, trees_of, fields_of}
 use Rattle.witness_text.specs.Texts.{name_text, field_text, pattern_text}
 use Rattle.witness_text.specs.Reported.{witness_data, overlap_data}
 

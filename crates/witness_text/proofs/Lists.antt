@@ -1,12 +1,22 @@
 -- Lists of texts, and what the code asks of a list in their place.
-use Rattle.std.proofs.Common.{◌≡◌, ◌∙◌, ap, sym, refl, ℕ, zero, suc, ◌<◌, Bool, true, false, List, [], ◌∷◌, ◌++◌, length, map, append_assoc, append-nil, arith, codes}
+use Rattle.std.proofs.Common.{◌≡◌, ◌∙◌, ap, sym, refl, ℕ, Bool, true, false, List, [], ◌∷◌, ◌++◌, length, map, append_assoc, append-nil, arith, codes}
 use Rattle.std.specs.Prelude.{chars, encode_utf8_all, flat_map, IsUtf8, ◌==◌}
 use Rattle.std.proofs.lemmas.Str.{chars-encodes}
 use Rattle.witness_text.specs.declared.named.NamedWitness.{NamedWitness}
 use Rattle.witness_text.specs.declared.named.NamedField.{NamedField}
 use Rattle.witness_text.specs.Trees.{witnesses_view, fields_view}
-use Rattle.witness_text.specs.Texts.{comma_between, listed, is_behind, joined, tuple_end, braced, part_texts, field_texts}
+use Rattle.witness_text.specs.Texts.{joined, tuple_end, braced, part_texts, field_texts}
+use Rattle.witness_text.specs.Writing.{comma_between, listed, is_behind}
 use Rattle.witness_text.proofs.Adding.{five_added}
+
+joined_behind : (t : List ℕ) (ts : List (List ℕ)) → joined (t ∷ ts) ≡ t ++ listed true ts
+joined_behind t [] = sym (append-nil t)
+joined_behind t (u ∷ ts) = ap (λ z. t ++ (codes ", " ++ z)) (joined_behind u ts)
+
+-- joined texts are written one after the other
+pub joined_listed : (ts : List (List ℕ)) → joined ts ≡ listed false ts
+joined_listed [] = refl
+joined_listed (t ∷ ts) = joined_behind t ts
 
 behind_some : (xs : List (List ℕ)) → is_behind true xs ≡ true
 behind_some [] = refl
@@ -30,7 +40,7 @@ row_added x0 x1 x2 x3 x4 x5 front rest back b c is_b is_c e f g h i =
     let middle = listed b rest in
     let last = listed c back in
     let all : joined (front ++ (rest ++ back)) ≡ first ++ (middle ++ last) =
-    listed_append false front (rest ++ back) ∙ ap (λ l. first ++ listed l (rest ++ back)) (sym is_b)
+    joined_listed (front ++ (rest ++ back)) ∙ listed_append false front (rest ++ back) ∙ ap (λ l. first ++ listed l (rest ++ back)) (sym is_b)
     ∙ ap (λ z. first ++ z) (listed_append b rest back ∙ ap (λ l. middle ++ listed l back) (sym is_c)) in
     five_added x0 x1 x2 x3 x4 x5 _ _ _ _ _ e f g h i
     ∙ ap (λ z. x0 ++ (codes "[" ++ z))
@@ -49,9 +59,9 @@ others_closed (w ∷ v ∷ ws) e = refl
 
 -- fields in their braces
 pub some_braced : (fs : List NamedField) (bare : Bool) → bare ≡ (length fs == 0) → bare ≡ false →
-    braced (field_texts (fields_view fs)) ≡ codes " { " ++ (joined (field_texts (fields_view fs)) ++ codes " }")
+    braced (field_texts (fields_view fs)) ≡ codes " { " ++ (listed false (field_texts (fields_view fs)) ++ codes " }")
 some_braced [] bare e f = absurd cc
-some_braced (f ∷ fs) bare e g = refl
+some_braced (f ∷ fs) bare e g = ap (λ z. codes " { " ++ (z ++ codes " }")) (joined_listed (field_texts (fields_view (f ∷ fs))))
 
 -- the items of a list, each as it is
 pub same_items : (xs : List ℕ) → map (λ x. x) xs ≡ xs

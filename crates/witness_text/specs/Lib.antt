@@ -3,3 +3,4 @@ pub mod Ranges
 pub mod Reported
 pub mod Texts
 pub mod Trees
+pub mod Writing

@@ -1,5 +1,5 @@
 -- Ranges of numbers and of characters, as Rust writes them (the Rust Reference, "Range patterns").
-use Rattle.std.specs.Prelude.{ℕ, ℤ, pos, negsuc, ◌-◌, ◌^◌, Bool, true, false, List, ◌++◌, Option, Some, None, int_lt, nat_eq, if◌then◌else◌, codes}
+use Rattle.std.specs.Prelude.{ℕ, ℤ, pos, negsuc, ◌-◌, ◌^◌, Bool, false, List, ◌++◌, Option, Some, None, int_lt, nat_eq, if◌then◌else◌, codes}
 use Rattle.std.specs.Ordering.{int_eq}
 use Rattle.std.specs.Fmt.{signed_decimal}
 use Rattle.match_model.specs.declared.IntKind.{IntKind}

@@ -1,7 +1,7 @@
 -- Witnesses and overlaps as JSON.
-use Rattle.std.specs.Prelude.{ℕ, ℤ, Bool, true, false, List, [], ◌∷◌, map, Option, Some, None, codes, decimal, encode_utf8_all}
+use Rattle.std.specs.Prelude.{ℕ, ℤ, Bool, true, false, List, [], map, Option, Some, None, codes, decimal, encode_utf8_all}
 use Rattle.std.specs.Fmt.{signed_decimal}
-use Rattle.match_model.specs.Numbers.{MEnd, Free, At, MRange}
+use Rattle.match_model.specs.Numbers.{MEnd, Free, At}
 use Rattle.serde_json.specs.Data.{Data, null, boolean, number, unsigned, string, array, object, Items, no_items, item, no_members, member}
 use Rattle.serde_json.specs.View.{items_of}
 use Rattle.witness_text.specs.Trees.{WitnessTree, Anything, Undeclared, OfFlag, OfInts, OfChars, OfText, OfOthers, OfTuple, OfUnitForm, OfTupleForm, OfBraceForm, OfPoint, OfRow, WitnessTrees, no_trees, more_trees, FieldTrees, no_fields, more_fields}

@@ -1,5 +1,5 @@
 -- Witnesses as Rust writes patterns (the Rust Reference, "Patterns").
-use Rattle.std.specs.Prelude.{ℕ, Bool, true, false, List, [], ◌∷◌, ◌++◌, Option, Some, None, if◌then◌else◌, codes}
+use Rattle.std.specs.Prelude.{ℕ, Bool, true, false, List, [], ◌∷◌, ◌++◌, Option, Some, None, codes}
 use Rattle.decl_lexer.specs.Written.{written_name}
 use Rattle.witness_text.specs.Literals.{string_literal}
 use Rattle.witness_text.specs.Ranges.{ints_text, chars_text}
@@ -15,23 +15,11 @@ abbrev pub flag_text : Bool → List ℕ
 flag_text true = codes "true"
 flag_text false = codes "false"
 
--- what stands in front of a text of a list where something stands before it
-abbrev pub comma_between : (later : Bool) → List ℕ
-comma_between later = if later then codes ", " else []
-
--- the texts with commas between them, and one in front where something stands before
-abbrev pub listed : (later : Bool) → List (List ℕ) → List ℕ
-listed later [] = []
-listed later (t ∷ ts) = comma_between later ++ (t ++ listed true ts)
-
--- whether something stands before what comes behind the texts
-abbrev pub is_behind : (later : Bool) → List (List ℕ) → Bool
-is_behind later [] = later
-is_behind later (t ∷ ts) = true
-
 -- the texts with commas between them
 abbrev pub joined : List (List ℕ) → List ℕ
-joined ts = listed false ts
+joined [] = []
+joined (t ∷ []) = t
+joined (t ∷ u ∷ ts) = t ++ (codes ", " ++ joined (u ∷ ts))
 
 -- what closes a tuple: behind a lone part stands a comma
 abbrev pub tuple_end : List (List ℕ) → List ℕ

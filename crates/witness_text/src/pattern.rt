@@ -1,8 +1,9 @@
 // Witnesses as Rust writes patterns.
-ghost use Rattle.std.specs.Prelude.{◌≡◌, ◌++◌, Bool, IfOk, OnOk, codes, map, chars, option_map, string_bytes};
+ghost use Rattle.std.specs.Prelude.{◌≡◌, ◌++◌, Bool, false, IfOk, OnOk, codes, map, chars, option_map, string_bytes};
 ghost use Rattle.decl_lexer.specs.Written.{written_name};
 ghost use Rattle.witness_text.specs.Trees.{name_view, witness_view, witnesses_view, field_view, fields_view};
-ghost use Rattle.witness_text.specs.Texts.{name_text, flag_text, comma_between, listed, is_behind, joined, tuple_end, braced, rest_texts, text_of, point_text, pattern_text, part_texts, field_text, field_texts};
+ghost use Rattle.witness_text.specs.Texts.{name_text, flag_text, joined, tuple_end, braced, rest_texts, text_of, point_text, pattern_text, part_texts, field_text, field_texts};
+ghost use Rattle.witness_text.specs.Writing.{comma_between, listed, is_behind};
 
 use crate::literals::{push_referred, push_string};
 use crate::names::push_form_name;
@@ -120,7 +121,7 @@ fn push_parts(
 #[cycle(pattern)]
 fn push_fields(text: &mut String, fields: &[NamedField<'_>]) -> Result<(), AllocError>
     ensures { OnOk result (string_bytes text.new
-        ≡ string_bytes text.old ++ joined (field_texts (fields_view fields.now))) }
+        ≡ string_bytes text.old ++ listed false (field_texts (fields_view fields.now))) }
 {
     let mut later = false;
     for field in fields {

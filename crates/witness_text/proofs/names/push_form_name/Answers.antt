@@ -1,4 +1,3 @@
-use Rattle.std.proofs.Common.{rules}
 use Rattle.witness_text.specs.Texts.{name_text}
 use Rattle.witness_text.proofs.Adding.{three_added}
 use Rattle.witness_text.proofs.names.push_form_name.Goals as goal

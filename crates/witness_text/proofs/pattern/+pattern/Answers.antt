@@ -1,15 +1,29 @@
-use Rattle.std.proofs.Common.{◌≡◌, ◌∙◌, ap, sym, ◌++◌, string_bytes, rules, arith}
+use Rattle.std.proofs.Common.{◌≡◌, ◌∙◌, ap, sym, ◌++◌, string_bytes, rules}
 use Rattle.witness_text.specs.declared.named.NamedWitness.TheFolds.{the_lemmas}
-use Rattle.witness_text.specs.Trees.{OfRow, FieldTree, witness_view, witnesses_view, field_view}
+use Rattle.witness_text.specs.Trees.{OfRow, witness_view, witnesses_view, field_view}
 use Rattle.witness_text.specs.Texts.{rest_texts, part_texts, field_text}
-use Rattle.witness_text.proofs.Adding.{three_added}
-use Rattle.witness_text.proofs.Lists.{some_braced, row_added}
+use Rattle.witness_text.proofs.Adding.{three_added, four_added}
+use Rattle.witness_text.proofs.Lists.{joined_listed, some_braced, row_added}
 use Rattle.witness_text.proofs.pattern.+pattern.Goals as goal
 
 pub push_braces-returns : goal.push_braces-returns
 push_braces-returns t c =
     three_added _ _ _ _ _ _ _ c.in_ok-push_str.ensures.bytes c.in_ok-push_fields.ensures c.in_ok-push_str-2.ensures.bytes
     ∙ ap (λ z. string_bytes c.args.text.now ++ z) (sym (some_braced c.args.fields.now c.is_empty.result c.is_empty.ensures c.if-is_empty.false))
+
+pub push_tuple-returns : goal.push_tuple-returns
+unfolding lib.Utf8.encode
+push_tuple-returns t c =
+    let parts = part_texts (witnesses_view c.args.parts.now) in
+    three_added _ _ _ _ _ _ _ c.in_ok-push.ensures.bytes (c.in_ok-push_parts.ensures.text ∙ ap (λ z. string_bytes c.push.new.self ++ z) (sym (joined_listed parts)))
+    (c.in_ok-push_str.ensures.bytes ∙ ap (λ z. string_bytes c.push_parts.new.text ++ z) c.tuple_end.ensures)
+
+pub push_tuple_form-returns : goal.push_tuple_form-returns
+unfolding lib.Utf8.encode
+push_tuple_form-returns t c =
+    let parts = part_texts (witnesses_view c.args.parts.now) in
+    four_added _ _ _ _ _ _ _ _ _ c.in_ok-push_form_name.ensures c.in_ok-push.ensures.bytes
+    (c.in_ok-push_parts.ensures.text ∙ ap (λ z. string_bytes c.push.new.self ++ z) (sym (joined_listed parts))) c.in_ok-push-2.ensures.bytes
 
 pub push_field-returns : goal.push_field-returns
 unfolding field_text

@@ -1,6 +1,7 @@
-use Rattle.std.proofs.Common.{◌≡◌, ◌++◌, drop, string_bytes}
+use Rattle.std.proofs.Common.{◌≡◌, ◌++◌, drop, false, string_bytes}
 use Rattle.witness_text.specs.Trees.{witnesses_view, fields_view}
-use Rattle.witness_text.specs.Texts.{listed, is_behind, joined, part_texts, field_texts}
+use Rattle.witness_text.specs.Texts.{part_texts, field_texts}
+use Rattle.witness_text.specs.Writing.{listed, is_behind}
 use Rattle.witness_text.proofs.pattern.+pattern.Given as goal
 
 abbrev pub invariant-push_parts-loop-part : goal.invariant-push_parts-loop-part
@@ -12,4 +13,4 @@ invariant-push_parts-loop-part l =
 abbrev pub invariant-push_fields-loop-field : goal.invariant-push_fields-loop-field
 invariant-push_fields-loop-field l =
     string_bytes l.text ++ listed l.later (field_texts (fields_view (drop l.field-index l.fields)))
-    ≡ string_bytes l.initial.text ++ joined (field_texts (fields_view l.fields))
+    ≡ string_bytes l.initial.text ++ listed false (field_texts (fields_view l.fields))

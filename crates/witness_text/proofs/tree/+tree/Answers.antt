@@ -3,7 +3,7 @@ use Rattle.witness_text.specs.declared.named.NamedWitness.TheFolds.{the_lemmas}
 use Rattle.witness_text.specs.Trees.{OfRow, name_view, witness_view, witnesses_view, fields_view}
 use Rattle.witness_text.specs.Texts.{name_text}
 use Rattle.witness_text.specs.Reported.{tree_data, parts_data, fields_data}
-use Rattle.witness_text.proofs.Adding.{two_added, three_added, five_added}
+use Rattle.witness_text.proofs.Adding.{three_added, five_added}
 use Rattle.witness_text.proofs.Written.{tuple_written, node_written, point_written, row_written}
 use Rattle.witness_text.proofs.tree.+tree.Goals as goal
 

@@ -1,6 +1,3 @@
-use Rattle.std.proofs.Common.{◌++◌, ap, sym, subst, string_bytes}
-use Rattle.serde_json.specs.Written.{compact_text}
-use Rattle.serde_json.specs.Data.{string}
 use Rattle.witness_text.proofs.Lists.{encoded}
 use Rattle.witness_text.proofs.tree.push_text.Goals as goal
 
