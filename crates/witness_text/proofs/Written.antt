@@ -1,13 +1,14 @@
 -- The JSON of witnesses and overlaps, piece by piece.
 use Rattle.std.proofs.Common.{◌≡◌, ap, sym, refl, ℕ, Bool, true, false, List, [], ◌++◌, append_assoc, codes}
-use Rattle.std.specs.Prelude.{ℤ, decimal}
-use Rattle.serde_json.specs.Data.{Data, boolean, string, array, Items, no_items, item}
+use Rattle.std.specs.Prelude.{ℤ, decimal, map}
+use Rattle.serde_json.specs.View.{items_of}
+use Rattle.serde_json.specs.Data.{Data, boolean, string, Items, no_items}
 use Rattle.serde_json.specs.Written.{compact_text, items_text}
 use Rattle.serde_json.proofs.OnLiterals.{serde_json_on_literals}
 use Rattle.witness_text.specs.Texts.{flag_text}
-use Rattle.witness_text.specs.Reported.{headed, number_data, range_data, text_data, node_data, point_mark, text_and_tree, overlap_data}
+use Rattle.witness_text.specs.Reported.{number_data, range_data, flag_data, text_data, one_text_data, others_data, node_data, point_mark, point_data, row_data, text_and_tree, overlap_data}
 
-pub flag_written : (b : Bool) → compact_text (headed (codes "flag") (item (boolean b) no_items)) ≡ codes "[\"flag\"," ++ (flag_text b ++ codes "]")
+pub flag_written : (b : Bool) → compact_text (flag_data b) ≡ codes "[\"flag\"," ++ (flag_text b ++ codes "]")
 unfolding serde_json_on_literals
 flag_written true = refl
 flag_written false = refl
@@ -18,12 +19,12 @@ unfolding serde_json_on_literals
 range_written low high = refl
 
 pub text_written : (t : List ℕ) →
-    compact_text (headed (codes "text") (item (text_data t) no_items)) ≡ codes "[\"text\"," ++ (compact_text (text_data t) ++ codes "]")
+    compact_text (one_text_data t) ≡ codes "[\"text\"," ++ (compact_text (text_data t) ++ codes "]")
 unfolding serde_json_on_literals
 text_written t = refl
 
-pub others_written : (ts : Items) →
-    compact_text (headed (codes "else") (item (array ts) no_items)) ≡ codes "[\"else\",[" ++ (items_text false ts ++ codes "]")
+pub others_written : (ts : List (List ℕ)) →
+    compact_text (others_data ts) ≡ codes "[\"else\",[" ++ (items_text false (items_of (map text_data ts)) ++ codes "]")
 unfolding serde_json_on_literals
 others_written ts = refl
 
@@ -44,14 +45,14 @@ pub unit_written : (name : List ℕ) → compact_text (node_data name no_items) 
 unit_written name = node_written name no_items
 
 pub point_written : (mutable : Bool) (d : Data) →
-    compact_text (headed (codes "point") (item (string (point_mark mutable)) (item d no_items)))
+    compact_text (point_data mutable d)
     ≡ (codes "[\"point\"," ++ (compact_text (string (point_mark mutable)) ++ codes ",")) ++ (compact_text d ++ codes "]")
 unfolding serde_json_on_literals
 point_written true d = refl
 point_written false d = refl
 
 pub row_written : (front : Items) (longer : Bool) (back : Items) →
-    compact_text (headed (codes "row") (item (array front) (item (boolean longer) (item (array back) no_items))))
+    compact_text (row_data front longer back)
     ≡ codes "[\"row\",[" ++ (items_text false front ++ ((codes "," ++ (compact_text (boolean longer) ++ codes ",[")) ++ (items_text false back ++ codes "]")))
 unfolding serde_json_on_literals
 row_written front true back = refl

@@ -1,4 +1,4 @@
--- Literals of characters and of texts, as Rust writes them (the Rust Reference, "Character literals" and "String literals").
+-- Literals of characters and of texts (the Rust Reference, "Character literals" and "String literals").
 use Rattle.std.specs.Prelude.{ℕ, List, [], ◌∷◌, ◌++◌, ◌&&◌, ◌||◌, nat_le, nat_eq, false, if◌then◌else◌, flat_map, codes}
 use Rattle.std.specs.Fmt.{digits}
 
@@ -6,8 +6,8 @@ use Rattle.std.specs.Fmt.{digits}
 abbrev pub code_escape : ℕ → List ℕ
 code_escape c = codes "\\u{" ++ (digits 16 false c ++ codes "}")
 
--- a character within a literal that the quote ends: those from space to `~` stand for themselves, but the quote and `\` have
--- a backslash in front; all others are told by their scalar values
+-- a character within a literal that the quote ends: those from space to `~` stand for themselves, but the quote and
+-- `\` have a backslash in front; all others are told by their scalar values
 unfoldable pub escaped : (quote character : ℕ) → List ℕ
 escaped quote c =
     if nat_eq c quote || nat_eq c 92 then 92 ∷ c ∷ []

@@ -12,7 +12,8 @@ abbrev pub numbers_text : (low high : MEnd) → List ℕ
 numbers_text Free Free = codes "_"
 numbers_text Free (At b) = codes "..=" ++ signed_decimal b
 numbers_text (At a) Free = signed_decimal a ++ codes ".."
-numbers_text (At a) (At b) = if int_eq a b then signed_decimal a else signed_decimal a ++ (codes "..=" ++ signed_decimal b)
+numbers_text (At a) (At b) =
+    if int_eq a b then signed_decimal a else signed_decimal a ++ (codes "..=" ++ signed_decimal b)
 
 -- the same of characters
 abbrev pub chars_text : (low high : Option ℕ) → List ℕ
@@ -31,7 +32,7 @@ abbrev pub is_below : ℤ → MEnd → Bool
 is_below n Free = false
 is_below n (At b) = int_lt b n
 
--- the range begins above every literal of the type, 64 bits being what the literals of `usize` and `isize` fit (our own choice)
+-- the range begins above every literal of the type; those of `usize` and `isize` fit 64 bits (our own choice)
 abbrev pub begins_above_literals : IntKind → (low : MEnd) → Bool
 begins_above_literals USize low = is_above (pos (2 ^ 64 - 1)) low
 begins_above_literals ISize low = is_above (pos (2 ^ 63 - 1)) low

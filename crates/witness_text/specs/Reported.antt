@@ -29,9 +29,21 @@ char_data (Some c) = string (decimal c)
 abbrev pub range_data : (low high : Data) → Data
 range_data low high = headed (codes "range") (item low (item high no_items))
 
+-- a flag
+abbrev pub flag_data : Bool → Data
+flag_data b = headed (codes "flag") (item (boolean b) no_items)
+
 -- a text
 abbrev pub text_data : List ℕ → Data
 text_data t = string (encode_utf8_all t)
+
+-- the one text
+abbrev pub one_text_data : List ℕ → Data
+one_text_data t = headed (codes "text") (item (text_data t) no_items)
+
+-- every text but these
+abbrev pub others_data : List (List ℕ) → Data
+others_data ts = headed (codes "else") (item (array (items_of (map text_data ts))) no_items)
 
 -- a node of this name with these parts; a tuple's name is empty
 abbrev pub node_data : (name : List ℕ) → Items → Data
@@ -42,23 +54,31 @@ abbrev pub point_mark : (mutable : Bool) → List ℕ
 point_mark true = codes "&mut"
 point_mark false = codes "&"
 
+-- a reference to what has this tree
+abbrev pub point_data : (mutable : Bool) → Data → Data
+point_data mutable d = headed (codes "point") (item (string (point_mark mutable)) (item d no_items))
+
+-- a row of these items
+abbrev pub row_data : (front : Items) → (longer : Bool) → (back : Items) → Data
+row_data front longer back =
+    headed (codes "row") (item (array front) (item (boolean longer) (item (array back) no_items)))
+
 abbrev mutual
   -- the witness as a tree
   pub tree_data : WitnessTree → Data
   tree_data Anything = headed (codes "any") no_items
   tree_data Undeclared = headed (codes "later") no_items
-  tree_data (OfFlag b) = headed (codes "flag") (item (boolean b) no_items)
+  tree_data (OfFlag b) = flag_data b
   tree_data (OfInts kind r) = range_data (end_data r.low) (end_data r.high)
   tree_data (OfChars low high) = range_data (char_data low) (char_data high)
-  tree_data (OfText t) = headed (codes "text") (item (text_data t) no_items)
-  tree_data (OfOthers ts) = headed (codes "else") (item (array (items_of (map text_data ts))) no_items)
+  tree_data (OfText t) = one_text_data t
+  tree_data (OfOthers ts) = others_data ts
   tree_data (OfTuple ws) = node_data [] (parts_data ws)
   tree_data (OfUnitForm name) = node_data (name_text name) no_items
   tree_data (OfTupleForm name ws) = node_data (name_text name) (parts_data ws)
   tree_data (OfBraceForm name fs) = node_data (name_text name) (fields_data fs)
-  tree_data (OfPoint mutable w) = headed (codes "point") (item (string (point_mark mutable)) (item (tree_data w) no_items))
-  tree_data (OfRow front longer back) =
-      headed (codes "row") (item (array (parts_data front)) (item (boolean longer) (item (array (parts_data back)) no_items)))
+  tree_data (OfPoint mutable w) = point_data mutable (tree_data w)
+  tree_data (OfRow front longer back) = row_data (parts_data front) longer (parts_data back)
 
   -- the parts, one after the other
   pub parts_data : WitnessTrees → Items

@@ -26,6 +26,14 @@ abbrev pub tuple_end : List (List ℕ) → List ℕ
 tuple_end (t ∷ []) = codes ",)"
 tuple_end _ = codes ")"
 
+-- a tuple of parts of these texts
+abbrev pub tuple_text : List (List ℕ) → List ℕ
+tuple_text ts = codes "(" ++ (joined ts ++ tuple_end ts)
+
+-- parts in the brackets of a form
+abbrev pub bracketed : List (List ℕ) → List ℕ
+bracketed ts = codes "(" ++ (joined ts ++ codes ")")
+
 -- fields in their braces
 abbrev pub braced : List (List ℕ) → List ℕ
 braced [] = codes " {}"
@@ -39,6 +47,10 @@ field_text name text = written_name name ++ (codes ": " ++ text)
 abbrev pub rest_texts : (longer : Bool) → List (List ℕ)
 rest_texts true = codes ".." ∷ []
 rest_texts false = []
+
+-- a row of items of these texts
+abbrev pub row_text : (front : List (List ℕ)) → (longer : Bool) → (back : List (List ℕ)) → List ℕ
+row_text front longer back = codes "[" ++ (joined (front ++ (rest_texts longer ++ back)) ++ codes "]")
 
 -- the text that a witness is, where it is one
 abbrev pub text_of : WitnessTree → Option (List ℕ)
@@ -61,12 +73,12 @@ abbrev mutual
   pattern_text (OfChars low high) = chars_text low high
   pattern_text (OfText t) = codes "*" ++ string_literal t
   pattern_text (OfOthers ts) = codes "_"
-  pattern_text (OfTuple ws) = codes "(" ++ (joined (part_texts ws) ++ tuple_end (part_texts ws))
+  pattern_text (OfTuple ws) = tuple_text (part_texts ws)
   pattern_text (OfUnitForm name) = name_text name
-  pattern_text (OfTupleForm name ws) = name_text name ++ (codes "(" ++ (joined (part_texts ws) ++ codes ")"))
+  pattern_text (OfTupleForm name ws) = name_text name ++ bracketed (part_texts ws)
   pattern_text (OfBraceForm name fs) = name_text name ++ braced (field_texts fs)
   pattern_text (OfPoint mutable w) = point_text mutable (text_of w) (pattern_text w)
-  pattern_text (OfRow front longer back) = codes "[" ++ (joined (part_texts front ++ (rest_texts longer ++ part_texts back)) ++ codes "]")
+  pattern_text (OfRow front longer back) = row_text (part_texts front) longer (part_texts back)
 
   -- the parts, each by itself
   pub part_texts : WitnessTrees → List (List ℕ)

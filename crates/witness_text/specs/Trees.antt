@@ -1,4 +1,5 @@
 -- Witnesses with their names, without where they lie in memory.
+use denote.Bor.{Bor}
 use Rattle.std.specs.Prelude.{ℕ, Bool, List, [], ◌∷◌, Option, map, box_value, chars}
 use Rattle.match_model.specs.declared.IntKind.{IntKind}
 use Rattle.match_model.specs.Numbers.{MRange}
@@ -22,9 +23,9 @@ name_view (names.Plain name) = PlainName name.now
 name_view (names.Variant owner variant) = VariantName owner.now variant.now
 
 mutual
-  -- a witness: anything; a variant that is not declared yet; a flag; a range of an integer type; a range of characters, by
-  -- their scalar values, an end that is free being `None`; a text; every text but these; a tuple; a struct or variant
-  -- without parts, with a list of parts, or with named fields; a reference; a row by its first and last items, `longer`
+  -- a witness: anything; a variant that is not declared yet; a flag; a range of an integer type; a range of characters
+  -- by their scalar values, `None` being a free end; a text; every text but these; a tuple; a struct or variant without
+  -- brackets, with a list of parts, or with named fields; a reference; a row by its first and last items, `longer`
   -- allowing more between them
   pub data WitnessTree : Type 0 where
     Anything Undeclared : WitnessTree
@@ -65,6 +66,10 @@ abbrev pub fields_of : List FieldTree → FieldTrees
 fields_of [] = no_fields
 fields_of (f ∷ fs) = more_fields f.name f.witness (fields_of fs)
 
+-- texts, as scalar values
+abbrev pub texts_view : List (Bor (List ℕ)) → List (List ℕ)
+texts_view ts = map (λ t. chars t.now) ts
+
 -- one level of a witness, with what its parts are in their place
 abbrev pub witness_step : NamedWitness-F WitnessTree FieldTree → WitnessTree
 witness_step w.Any = Anything
@@ -72,7 +77,7 @@ witness_step (w.Flag b) = OfFlag b
 witness_step (w.Ints kind range) = OfInts kind (plain_range range)
 witness_step (w.Chars low high) = OfChars low high
 witness_step (w.Text t) = OfText (chars t.now)
-witness_step (w.Else ts) = OfOthers (map (λ t. chars t.now) ts.items)
+witness_step (w.Else ts) = OfOthers (texts_view ts.items)
 witness_step (w.Tuple parts) = OfTuple (trees_of parts.items)
 witness_step (w.UnitForm name) = OfUnitForm (name_view name)
 witness_step (w.TupleForm name parts) = OfTupleForm (name_view name) (trees_of parts.items)

@@ -2,8 +2,8 @@
 //!
 //! The engine's witnesses tell variants and fields by their numbers. Here they have names and types
 //! ([`NamedWitness`]), so that nothing else is needed to write them. A witness is written straight into the report's
-//! text, level by level: [`push_witness`] adds it in both forms, [`push_witnesses`] adds a whole list, [`push_overlap`]
-//! two range patterns that have one number in common.
+//! text, level by level: [`push_witness`] adds it in both forms, [`push_witnesses`] a whole list, [`push_overlap`] two
+//! range patterns that have one number in common.
 //!
 //! What is written is stated in `specs/`: `Texts` says how Rust writes a witness, with `Literals` and `Ranges` for
 //! literals and ranges, and `Reported` which JSON a report has. The calls write exactly the text of that.

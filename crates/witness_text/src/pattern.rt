@@ -2,7 +2,9 @@
 ghost use Rattle.std.specs.Prelude.{◌≡◌, ◌++◌, Bool, false, IfOk, OnOk, codes, map, chars, option_map, string_bytes};
 ghost use Rattle.decl_lexer.specs.Written.{written_name};
 ghost use Rattle.witness_text.specs.Trees.{name_view, witness_view, witnesses_view, field_view, fields_view};
-ghost use Rattle.witness_text.specs.Texts.{name_text, flag_text, joined, tuple_end, braced, rest_texts, text_of, point_text, pattern_text, part_texts, field_text, field_texts};
+ghost use Rattle.witness_text.specs.Texts.{name_text, flag_text, joined, tuple_end, tuple_text, bracketed, braced};
+ghost use Rattle.witness_text.specs.Texts.{rest_texts, text_of, point_text, pattern_text, part_texts};
+ghost use Rattle.witness_text.specs.Texts.{field_text, field_texts};
 ghost use Rattle.witness_text.specs.Writing.{comma_between, listed, is_behind};
 
 use crate::literals::{push_referred, push_string};
@@ -136,7 +138,8 @@ fn push_fields(text: &mut String, fields: &[NamedField<'_>]) -> Result<(), Alloc
 #[cycle(pattern)]
 fn push_field(text: &mut String, field: &NamedField<'_>) -> Result<(), AllocError>
     ensures { OnOk result (string_bytes text.new
-        ≡ string_bytes text.old ++ field_text (field_view field.now).name (pattern_text (field_view field.now).witness)) }
+        ≡ string_bytes text.old ++ field_text (field_view field.now).name
+        (pattern_text (field_view field.now).witness)) }
 {
     push_name(text, field.name)?;
     text.push_str(": ")?;
@@ -148,7 +151,7 @@ fn push_field(text: &mut String, field: &NamedField<'_>) -> Result<(), AllocErro
 #[cycle(pattern)]
 fn push_tuple(text: &mut String, parts: &[NamedWitness<'_>]) -> Result<(), AllocError>
     ensures { OnOk result (string_bytes text.new ≡ string_bytes text.old
-        ++ (codes "(" ++ (joined (part_texts (witnesses_view parts.now)) ++ tuple_end (part_texts (witnesses_view parts.now))))) }
+        ++ tuple_text (part_texts (witnesses_view parts.now))) }
 {
     text.push('(')?;
     push_parts(text, false, parts)?;
@@ -164,7 +167,7 @@ fn push_tuple_form(
     parts: &[NamedWitness<'_>],
 ) -> Result<(), AllocError>
     ensures { OnOk result (string_bytes text.new ≡ string_bytes text.old
-        ++ (name_text (name_view name.now) ++ (codes "(" ++ (joined (part_texts (witnesses_view parts.now)) ++ codes ")")))) }
+        ++ (name_text (name_view name.now) ++ bracketed (part_texts (witnesses_view parts.now)))) }
 {
     push_form_name(text, name)?;
     text.push('(')?;
@@ -191,7 +194,8 @@ fn push_brace_form(
 // Adds named fields in their braces.
 #[cycle(pattern)]
 fn push_braces(text: &mut String, fields: &[NamedField<'_>]) -> Result<(), AllocError>
-    ensures { OnOk result (string_bytes text.new ≡ string_bytes text.old ++ braced (field_texts (fields_view fields.now))) }
+    ensures { OnOk result (string_bytes text.new
+        ≡ string_bytes text.old ++ braced (field_texts (fields_view fields.now))) }
 {
     if fields.is_empty() {
         return text.push_str(" {}");

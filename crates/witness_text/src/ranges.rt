@@ -5,7 +5,8 @@ ghost use Rattle.range_split.specs.Numbers.{num_value};
 ghost use Rattle.range_split.specs.Ends.{plain_end};
 ghost use Rattle.range_split.specs.Ranges.{plain_range};
 ghost use Rattle.witness_text.specs.Literals.{char_literal};
-ghost use Rattle.witness_text.specs.Ranges.{numbers_text, chars_text, is_above, is_below, begins_above_literals, ends_below_literals, above_text, ints_text};
+ghost use Rattle.witness_text.specs.Ranges.{numbers_text, chars_text, is_above, is_below};
+ghost use Rattle.witness_text.specs.Ranges.{begins_above_literals, ends_below_literals, above_text, ints_text};
 
 use crate::literals::push_char;
 use match_model::IntKind;

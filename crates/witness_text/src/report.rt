@@ -79,7 +79,8 @@ pub fn push_witness(
     Ok(push_entry(alloc, text, witness)?)
 }
 
-/// Adds the witnesses of a match to a report, in brackets and with commas between them. The only error is want of memory.
+/// Adds the witnesses of a match to a report, in brackets and with commas between them. The only error is want of
+/// memory.
 pub fn push_witnesses(
     alloc: Global,
     text: &mut String,

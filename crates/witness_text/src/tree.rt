@@ -6,9 +6,11 @@ ghost use Rattle.serde_json.specs.Written.{compact_text, items_text, comma_if};
 ghost use Rattle.range_split.specs.Ends.{plain_end};
 ghost use Rattle.range_split.specs.Numbers.{num_value};
 ghost use Rattle.range_split.specs.Ranges.{plain_range};
-ghost use Rattle.witness_text.specs.Trees.{name_view, witness_view, witnesses_view, fields_view};
+ghost use Rattle.witness_text.specs.Trees.{name_view, texts_view, witness_view, witnesses_view, fields_view};
 ghost use Rattle.witness_text.specs.Texts.{name_text};
-ghost use Rattle.witness_text.specs.Reported.{headed, number_data, end_data, char_data, range_data, text_data, node_data, point_mark, tree_data, parts_data, fields_data};
+ghost use Rattle.witness_text.specs.Reported.{headed, number_data, end_data, char_data, range_data};
+ghost use Rattle.witness_text.specs.Reported.{flag_data, text_data, one_text_data, others_data, node_data, point_mark, point_data};
+ghost use Rattle.witness_text.specs.Reported.{tree_data, parts_data, fields_data};
 
 use crate::names::form_name;
 use crate::pattern::flag_word;
@@ -31,7 +33,8 @@ pub fn push_number_text(text: &mut String, number: &Num) -> Result<(), AllocErro
 
 // Adds an end of a range of numbers.
 fn push_end(text: &mut String, end: &End) -> Result<(), AllocError>
-    ensures { OnOk result (string_bytes text.new ≡ string_bytes text.old ++ compact_text (end_data (plain_end end.now))) }
+    ensures { OnOk result (string_bytes text.new
+        ≡ string_bytes text.old ++ compact_text (end_data (plain_end end.now))) }
 {
     match end {
         End::Free => text.push_str("null"),
@@ -91,7 +94,8 @@ fn push_char_range(
 
 // Adds that any value fits.
 fn push_any(text: &mut String) -> Result<(), AllocError>
-    ensures { OnOk result (string_bytes text.new ≡ string_bytes text.old ++ compact_text (headed (codes "any") no_items)) }
+    ensures { OnOk result (string_bytes text.new
+        ≡ string_bytes text.old ++ compact_text (headed (codes "any") no_items)) }
 {
     text.push_str("[\"any\"]")?;
     Ok(())
@@ -99,7 +103,8 @@ fn push_any(text: &mut String) -> Result<(), AllocError>
 
 // Adds a variant that is not declared yet.
 fn push_later(text: &mut String) -> Result<(), AllocError>
-    ensures { OnOk result (string_bytes text.new ≡ string_bytes text.old ++ compact_text (headed (codes "later") no_items)) }
+    ensures { OnOk result (string_bytes text.new
+        ≡ string_bytes text.old ++ compact_text (headed (codes "later") no_items)) }
 {
     text.push_str("[\"later\"]")?;
     Ok(())
@@ -108,7 +113,7 @@ fn push_later(text: &mut String) -> Result<(), AllocError>
 // Adds a flag.
 fn push_flag(text: &mut String, flag: bool) -> Result<(), AllocError>
     ensures { OnOk result (string_bytes text.new ≡ string_bytes text.old
-        ++ compact_text (headed (codes "flag") (item (boolean flag) no_items))) }
+        ++ compact_text (flag_data flag)) }
 {
     text.push_str("[\"flag\",")?;
     text.push_str(flag_word(flag))?;
@@ -118,7 +123,8 @@ fn push_flag(text: &mut String, flag: bool) -> Result<(), AllocError>
 
 // Adds a text as a JSON string.
 fn push_text(alloc: Global, text: &mut String, shown: &str) -> Result<(), AllocError>
-    ensures { OnOk result (string_bytes text.new ≡ string_bytes text.old ++ compact_text (text_data (chars shown.now))) }
+    ensures { OnOk result (string_bytes text.new
+        ≡ string_bytes text.old ++ compact_text (text_data (chars shown.now))) }
 {
     push_quoted(alloc, text, shown)
 }
@@ -126,7 +132,7 @@ fn push_text(alloc: Global, text: &mut String, shown: &str) -> Result<(), AllocE
 // Adds the one text.
 fn push_one_text(alloc: Global, text: &mut String, shown: &str) -> Result<(), AllocError>
     ensures { OnOk result (string_bytes text.new ≡ string_bytes text.old
-        ++ compact_text (headed (codes "text") (item (text_data (chars shown.now)) no_items))) }
+        ++ compact_text (one_text_data (chars shown.now))) }
 {
     text.push_str("[\"text\",")?;
     push_text(alloc, text, shown)?;
@@ -137,7 +143,7 @@ fn push_one_text(alloc: Global, text: &mut String, shown: &str) -> Result<(), Al
 // Adds texts with commas between them, and the bracket that closes them.
 fn push_texts(alloc: Global, text: &mut String, texts: &[&str]) -> Result<(), AllocError>
     ensures { OnOk result (string_bytes text.new ≡ string_bytes text.old
-        ++ items_text false (items_of (map text_data (map (λ t. chars t.now) texts.now)))) }
+        ++ items_text false (items_of (map text_data (texts_view texts.now)))) }
 {
     let mut later = false;
     for shown in texts {
@@ -152,7 +158,7 @@ fn push_texts(alloc: Global, text: &mut String, texts: &[&str]) -> Result<(), Al
 // Adds every text but these.
 fn push_others(alloc: Global, text: &mut String, texts: &[&str]) -> Result<(), AllocError>
     ensures { OnOk result (string_bytes text.new ≡ string_bytes text.old
-        ++ compact_text (headed (codes "else") (item (array (items_of (map text_data (map (λ t. chars t.now) texts.now)))) no_items))) }
+        ++ compact_text (others_data (texts_view texts.now))) }
 {
     text.push_str("[\"else\",[")?;
     push_texts(alloc, text, texts)?;
@@ -207,7 +213,8 @@ pub fn push_tree(
     text: &mut String,
     witness: &NamedWitness<'_>,
 ) -> Result<(), AllocError>
-    ensures { OnOk result (string_bytes text.new ≡ string_bytes text.old ++ compact_text (tree_data (witness_view witness.now))) }
+    ensures { OnOk result (string_bytes text.new
+        ≡ string_bytes text.old ++ compact_text (tree_data (witness_view witness.now))) }
 {
     match witness {
         NamedWitness::Any => push_any(text),
@@ -336,7 +343,7 @@ fn push_point_tree(
     inner: &NamedWitness<'_>,
 ) -> Result<(), AllocError>
     ensures { OnOk result (string_bytes text.new ≡ string_bytes text.old
-        ++ compact_text (headed (codes "point") (item (string (point_mark mutable)) (item (tree_data (witness_view inner.now)) no_items)))) }
+        ++ compact_text (point_data mutable (tree_data (witness_view inner.now)))) }
 {
     text.push_str(point_start(mutable))?;
     push_tree(alloc, text, inner)?;

@@ -1,7 +1,5 @@
 use Rattle.std.proofs.Common.{◌∙◌, ap, sym, ◌++◌, string_bytes}
-use Rattle.std.specs.Prelude.{map, chars}
-use Rattle.serde_json.specs.View.{items_of}
-use Rattle.witness_text.specs.Reported.{text_data}
+use Rattle.witness_text.specs.Trees.{texts_view}
 use Rattle.witness_text.proofs.Adding.{three_added}
 use Rattle.witness_text.proofs.Written.{others_written}
 use Rattle.witness_text.proofs.tree.push_others.Goals as goal
@@ -10,4 +8,4 @@ pub returns : goal.returns
 unfolding lib.Utf8.encode
 returns c =
     three_added _ _ _ _ _ _ _ c.in_ok-push_str.ensures.bytes c.in_ok-push_texts.ensures c.in_ok-push.ensures.bytes
-    ∙ ap (λ z. string_bytes c.args.text.now ++ z) (sym (others_written (items_of (map text_data (map (λ t. chars t.now) c.args.texts.now)))))
+    ∙ ap (λ z. string_bytes c.args.text.now ++ z) (sym (others_written (texts_view c.args.texts.now)))
