@@ -1,8 +1,7 @@
 // Witnesses as Rust writes patterns.
-ghost use Rattle.std.specs.Prelude.{◌≡◌, ◌++◌, Bool, false, IfOk, OnOk, codes, map, chars, option_map, string_bytes};
-ghost use Rattle.decl_lexer.specs.Written.{written_name};
+ghost use Rattle.std.specs.Prelude.{◌≡◌, ◌++◌, false, IfOk, OnOk, chars, option_map, string_bytes};
 ghost use Rattle.witness_text.specs.Trees.{name_view, witness_view, witnesses_view, field_view, fields_view};
-ghost use Rattle.witness_text.specs.Texts.{name_text, flag_text, joined, tuple_end, tuple_text, bracketed, braced};
+ghost use Rattle.witness_text.specs.Texts.{name_text, flag_text, tuple_end, tuple_text, bracketed, braced};
 ghost use Rattle.witness_text.specs.Texts.{rest_texts, text_of, point_text, pattern_text, part_texts};
 ghost use Rattle.witness_text.specs.Texts.{field_text, field_texts};
 ghost use Rattle.witness_text.specs.Writing.{comma_between, listed, is_behind};

@@ -67,7 +67,8 @@ fn push_entries(
     Ok(())
 }
 
-/// Adds a witness to a report: as Rust writes it, and as a tree. The only error is want of memory.
+/// Adds a witness to a report: as Rust writes it, and as a tree. The only error is want of memory; the text may then end
+/// within the witness.
 pub fn push_witness(
     alloc: Global,
     text: &mut String,
@@ -80,7 +81,7 @@ pub fn push_witness(
 }
 
 /// Adds the witnesses of a match to a report, in brackets and with commas between them. The only error is want of
-/// memory.
+/// memory; the text may then end within them.
 pub fn push_witnesses(
     alloc: Global,
     text: &mut String,
@@ -101,7 +102,7 @@ fn push_offset(text: &mut String, offset: u64) -> Result<(), AllocError>
 }
 
 /// Adds to a report that two range patterns have exactly one number in common, by the places in the file at which the
-/// earlier and the later one begin. The only error is want of memory.
+/// earlier and the later one begin. The only error is want of memory; the text may then end within this.
 pub fn push_overlap(
     text: &mut String,
     earlier: u64,

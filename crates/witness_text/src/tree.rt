@@ -1,15 +1,15 @@
 // Witnesses as trees in JSON.
-ghost use Rattle.std.specs.Prelude.{◌≡◌, ◌++◌, ◌∷◌, [], false, OnOk, codes, chars, decimal, map, string_bytes};
-ghost use Rattle.serde_json.specs.Data.{array, boolean, string, item, no_items};
+ghost use Rattle.std.specs.Prelude.{◌≡◌, ◌++◌, [], false, OnOk, codes, chars, decimal, map, string_bytes};
+ghost use Rattle.serde_json.specs.Data.{boolean, string, no_items};
 ghost use Rattle.serde_json.specs.View.{items_of};
-ghost use Rattle.serde_json.specs.Written.{compact_text, items_text, comma_if};
+ghost use Rattle.serde_json.specs.Written.{compact_text, items_text};
 ghost use Rattle.range_split.specs.Ends.{plain_end};
 ghost use Rattle.range_split.specs.Numbers.{num_value};
-ghost use Rattle.range_split.specs.Ranges.{plain_range};
 ghost use Rattle.witness_text.specs.Trees.{name_view, texts_view, witness_view, witnesses_view, fields_view};
 ghost use Rattle.witness_text.specs.Texts.{name_text};
 ghost use Rattle.witness_text.specs.Reported.{headed, number_data, end_data, char_data, range_data};
-ghost use Rattle.witness_text.specs.Reported.{flag_data, text_data, one_text_data, others_data, node_data, point_mark, point_data};
+ghost use Rattle.witness_text.specs.Reported.{flag_data, text_data, one_text_data, others_data, node_data};
+ghost use Rattle.witness_text.specs.Reported.{point_mark, point_data};
 ghost use Rattle.witness_text.specs.Reported.{tree_data, parts_data, fields_data};
 
 use crate::names::form_name;
