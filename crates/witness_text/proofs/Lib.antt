@@ -1,0 +1,5 @@
+mod Examples
+pub mod Adding
+pub mod Digits
+pub mod Lists
+pub mod Written

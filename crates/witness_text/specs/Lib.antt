@@ -1,0 +1,6 @@
+pub mod Literals
+pub mod Ranges
+pub mod Reported
+pub mod Texts
+pub mod Trees
+pub mod Writing

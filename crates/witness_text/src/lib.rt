@@ -1,0 +1,24 @@
+//! Witnesses as a report shows them: as Rust writes patterns, and as trees in JSON.
+//!
+//! The engine's witnesses tell variants and fields by their numbers. Here they have names and types
+//! ([`NamedWitness`]), so that nothing else is needed to write them. [`push_witness`] adds one to a report in both forms,
+//! [`push_witnesses`] a whole list, [`push_overlap`] two range patterns that have one number in common. Each form is
+//! written from left to right, level by level, so that nothing is copied once for each level above it.
+//!
+//! What is written is stated in `specs/`: `Texts` says how Rust writes a witness, with `Literals` and `Ranges` for
+//! literals and ranges, and `Reported` which JSON a report has. The calls write exactly the text of that.
+#![tactic(auto)]
+
+mod literals;
+mod named;
+mod names;
+mod pattern;
+mod quoting;
+mod ranges;
+mod report;
+#[cfg(test)]
+mod tests;
+mod tree;
+
+pub use named::{FormName, NamedField, NamedWitness};
+pub use report::{push_overlap, push_witness, push_witnesses};

@@ -1,0 +1,226 @@
+// Witnesses as Rust writes patterns.
+ghost use Rattle.std.specs.Prelude.{◌≡◌, ◌++◌, false, IfOk, OnOk, chars, option_map, string_bytes};
+ghost use Rattle.witness_text.specs.Trees.{name_view, witness_view, witnesses_view, field_view, fields_view};
+ghost use Rattle.witness_text.specs.Texts.{name_text, flag_text, tuple_end, tuple_text, bracketed, braced};
+ghost use Rattle.witness_text.specs.Texts.{rest_texts, text_of, point_text, pattern_text, part_texts};
+ghost use Rattle.witness_text.specs.Texts.{field_text, field_texts};
+ghost use Rattle.witness_text.specs.Writing.{comma_between, listed, is_behind};
+
+use crate::literals::{push_referred, push_string};
+use crate::names::push_form_name;
+use crate::ranges::{push_chars, push_ints};
+use crate::{FormName, NamedField, NamedWitness};
+use decl_lexer::push_name;
+use std::alloc::AllocError;
+
+// A truth value as it is written.
+pub fn flag_word(flag: bool) -> &'static str
+    ensures { result.now ≡ flag_text flag }
+{
+    if flag { "true" } else { "false" }
+}
+
+// The text that a witness is, where it is one.
+fn literal_of<'a>(witness: &NamedWitness<'a>) -> Option<&'a str>
+    ensures { option_map (λ t. chars t.now) result ≡ text_of (witness_view witness.now) }
+{
+    match witness {
+        NamedWitness::Text(text) => Some(text),
+        NamedWitness::Any | NamedWitness::Flag(_) | NamedWitness::Ints { .. } => None,
+        NamedWitness::Chars { .. } | NamedWitness::Else(_) | NamedWitness::Tuple(_) => None,
+        NamedWitness::UnitForm(_) | NamedWitness::TupleForm { .. } => None,
+        NamedWitness::BraceForm { .. } | NamedWitness::Point { .. } => None,
+        NamedWitness::Row { .. } | NamedWitness::Later => None,
+    }
+}
+
+// What closes a tuple of these parts.
+fn tuple_end(parts: &[NamedWitness<'_>]) -> &'static str
+    ensures { result.now ≡ tuple_end (part_texts (witnesses_view parts.now)) }
+{
+    if parts.len() == 1 { ",)" } else { ")" }
+}
+
+// Adds what stands between two texts of a list, where something stands before.
+fn push_between(text: &mut String, later: bool) -> Result<(), AllocError>
+    ensures { OnOk result (string_bytes text.new ≡ string_bytes text.old ++ comma_between later) }
+{
+    if later {
+        return text.push_str(", ");
+    }
+    Ok(())
+}
+
+// Adds what stands for the items that are not shown, and tells whether something stands before what follows.
+fn push_rest(text: &mut String, later: bool, longer: bool) -> Result<bool, AllocError>
+    ensures text { OnOk result (string_bytes text.new ≡ string_bytes text.old ++ listed later (rest_texts longer)) }
+    ensures later { IfOk result (λ b. b ≡ is_behind later (rest_texts longer)) }
+{
+    if !longer {
+        return Ok(later);
+    }
+    push_between(text, later)?;
+    text.push_str("..")?;
+    Ok(true)
+}
+
+// Adds the witness. It goes down level by level.
+#[cycle(pattern)]
+pub fn push_pattern(text: &mut String, witness: &NamedWitness<'_>) -> Result<(), AllocError>
+    ensures { OnOk result (string_bytes text.new ≡ string_bytes text.old ++ pattern_text (witness_view witness.now)) }
+{
+    match witness {
+        NamedWitness::Any => text.push('_'),
+        NamedWitness::Flag(flag) => text.push_str(flag_word(*flag)),
+        NamedWitness::Ints { kind, range } => push_ints(text, *kind, range),
+        NamedWitness::Chars { low, high } => push_chars(text, *low, *high),
+        NamedWitness::Text(shown) => push_referred(text, shown),
+        NamedWitness::Else(_) => text.push('_'),
+        NamedWitness::Tuple(parts) => push_tuple(text, parts),
+        NamedWitness::UnitForm(name) => push_form_name(text, name),
+        NamedWitness::TupleForm { name, parts } => push_tuple_form(text, name, parts),
+        NamedWitness::BraceForm { name, fields } => push_brace_form(text, name, fields),
+        NamedWitness::Point { mutable, inner } => push_point(text, *mutable, inner),
+        NamedWitness::Row {
+            front,
+            longer,
+            back,
+        } => {
+            text.push('[')?;
+            let later = push_parts(text, false, front)?;
+            let later = push_rest(text, later, *longer)?;
+            push_parts(text, later, back)?;
+            text.push(']')?;
+            Ok(())
+        }
+        NamedWitness::Later => text.push('_'),
+    }
+}
+
+// Adds the witnesses with commas between them, and one in front where something stands before; tells whether something
+// stands before what follows.
+#[cycle(pattern)]
+fn push_parts(
+    text: &mut String,
+    before: bool,
+    parts: &[NamedWitness<'_>],
+) -> Result<bool, AllocError>
+    ensures text { OnOk result (string_bytes text.new
+        ≡ string_bytes text.old ++ listed before (part_texts (witnesses_view parts.now))) }
+    ensures later { IfOk result (λ b. b ≡ is_behind before (part_texts (witnesses_view parts.now))) }
+{
+    let mut later = before;
+    for part in parts {
+        push_between(text, later)?;
+        push_pattern(text, part)?;
+        later = true;
+    }
+    Ok(later)
+}
+
+// Adds the fields, each with its name, and commas between them.
+#[cycle(pattern)]
+fn push_fields(text: &mut String, fields: &[NamedField<'_>]) -> Result<(), AllocError>
+    ensures { OnOk result (string_bytes text.new
+        ≡ string_bytes text.old ++ listed false (field_texts (fields_view fields.now))) }
+{
+    let mut later = false;
+    for field in fields {
+        push_between(text, later)?;
+        push_field(text, field)?;
+        later = true;
+    }
+    Ok(())
+}
+
+// Adds a field with its name.
+#[cycle(pattern)]
+fn push_field(text: &mut String, field: &NamedField<'_>) -> Result<(), AllocError>
+    ensures { OnOk result (string_bytes text.new
+        ≡ string_bytes text.old ++ field_text (field_view field.now).name
+        (pattern_text (field_view field.now).witness)) }
+{
+    push_name(text, field.name)?;
+    text.push_str(": ")?;
+    push_pattern(text, &field.witness)?;
+    Ok(())
+}
+
+// Adds a tuple.
+#[cycle(pattern)]
+fn push_tuple(text: &mut String, parts: &[NamedWitness<'_>]) -> Result<(), AllocError>
+    ensures { OnOk result (string_bytes text.new ≡ string_bytes text.old
+        ++ tuple_text (part_texts (witnesses_view parts.now))) }
+{
+    text.push('(')?;
+    push_parts(text, false, parts)?;
+    text.push_str(tuple_end(parts))?;
+    Ok(())
+}
+
+// Adds a form with a list of parts.
+#[cycle(pattern)]
+fn push_tuple_form(
+    text: &mut String,
+    name: &FormName<'_>,
+    parts: &[NamedWitness<'_>],
+) -> Result<(), AllocError>
+    ensures { OnOk result (string_bytes text.new ≡ string_bytes text.old
+        ++ (name_text (name_view name.now) ++ bracketed (part_texts (witnesses_view parts.now)))) }
+{
+    push_form_name(text, name)?;
+    text.push('(')?;
+    push_parts(text, false, parts)?;
+    text.push(')')?;
+    Ok(())
+}
+
+// Adds a form with named fields.
+#[cycle(pattern)]
+fn push_brace_form(
+    text: &mut String,
+    name: &FormName<'_>,
+    fields: &[NamedField<'_>],
+) -> Result<(), AllocError>
+    ensures { OnOk result (string_bytes text.new ≡ string_bytes text.old
+        ++ (name_text (name_view name.now) ++ braced (field_texts (fields_view fields.now)))) }
+{
+    push_form_name(text, name)?;
+    push_braces(text, fields)?;
+    Ok(())
+}
+
+// Adds named fields in their braces.
+#[cycle(pattern)]
+fn push_braces(text: &mut String, fields: &[NamedField<'_>]) -> Result<(), AllocError>
+    ensures { OnOk result (string_bytes text.new
+        ≡ string_bytes text.old ++ braced (field_texts (fields_view fields.now))) }
+{
+    if fields.is_empty() {
+        return text.push_str(" {}");
+    }
+    text.push_str(" { ")?;
+    push_fields(text, fields)?;
+    text.push_str(" }")?;
+    Ok(())
+}
+
+// Adds a reference. Behind `&` a text is its literal alone.
+#[cycle(pattern)]
+fn push_point(text: &mut String, mutable: bool, inner: &NamedWitness<'_>) -> Result<(), AllocError>
+    ensures { OnOk result (string_bytes text.new ≡ string_bytes text.old
+        ++ point_text mutable (text_of (witness_view inner.now)) (pattern_text (witness_view inner.now))) }
+{
+    if mutable {
+        text.push_str("&mut ")?;
+        return push_pattern(text, inner);
+    }
+    match literal_of(inner) {
+        Some(shown) => push_string(text, shown),
+        None => {
+            text.push('&')?;
+            push_pattern(text, inner)?;
+            Ok(())
+        }
+    }
+}
