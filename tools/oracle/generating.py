@@ -1,0 +1,2 @@
+def source_of(seed, number):
+    return ""
