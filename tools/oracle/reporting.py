@@ -129,8 +129,8 @@ def entry(declarations, number, twice):
     judge = Judge(declarations, match)
     witnesses = judge.witnesses()
     unreachable = judge.unreachable()
-    if twice:
-        cross_check(declarations, number, match, witnesses, unreachable)
+    if twice is not None:
+        twice.append(cross_check(declarations, number, match, witnesses, unreachable))
     writer = WitnessWriter(declarations)
     return {
         "exhaustive": not witnesses,
@@ -141,8 +141,11 @@ def entry(declarations, number, twice):
     }
 
 
-def check(data, twice=False):
-    """What `check` writes for a file of these bytes, and its status; with `twice` each judgement is made a second way too."""
+def check(data, twice=None):
+    """What `check` writes for a file of these bytes, and its status.
+
+    Where `twice` is a list, each judgement is made a second way too, and the list gets whether there were few enough values for it.
+    """
     try:
         if len(data) > GREATEST_FILE:
             raise Fault(7)
