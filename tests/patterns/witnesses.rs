@@ -41,3 +41,4 @@ fn what_is_unseen_within_is_missing(x:&(!,bool)){match *x{(_,true)=>1}}
 fn an_or_pattern_is_expanded_in_its_place(x:(u8,bool)){match x{(0|1,true)|(1|2,false)=>1}}
 fn guarded_arms_cover_nothing(x:Option<bool>){match x{Some(_) if g()=>1,None=>2}}
 fn guarded_arms_cut_nothing(x:u8){match x{5..=9 if g()=>1,0=>2}}
+fn control_characters_in_a_text(x:(&str,bool)){match x{("\t\u{0}\u{7f}\u{1f}~",true)=>1,(_,true)=>2,("",false)=>3}}

@@ -1,8 +1,8 @@
 """Names, types and declarations: what they mean, and the rules 10 to 19 and 36.
 
 A type is a tuple: `("bool",)`, `("char",)`, `("int", kind)`, `("str",)`, `("never",)`, `("opaque", name, arguments)`,
-`("tuple", parts)`, `("point", mutable, type)`, `("slice", type)`, `("array", type, length)` or `("named", owner, arguments)`, the
-owner being the number of an item, `Option` or `Result`.
+`("tuple", parts)`, `("point", mutable, type)`, `("slice", type)`, `("array", type, length)` or
+`("named", owner, arguments)`, the owner being the number of an item, `Option` or `Result`.
 """
 from dataclasses import dataclass
 
@@ -40,7 +40,7 @@ def literals_of(ty):
 
 @dataclass
 class VariantOf:
-    """A variant of a type, or a struct, which has the one variant 0. `labels` are the names of its fields as patterns name them."""
+    """A variant of a type, or a struct, which has the one variant 0. `labels` are its fields as patterns name them."""
 
     name: str
     kind: str
@@ -160,7 +160,8 @@ class Declarations:
             found = [VariantOf("Ok", "tuple", ["0"], [arguments[0]]), VariantOf("Err", "tuple", ["0"], [arguments[1]])]
         else:
             kind = self.items[owner].kind
-            forms = [(it.name, it.form) for it in kind.variants] if isinstance(kind, s.Enum) else [(kind.name, kind.form)]
+            named = kind.variants if isinstance(kind, s.Enum) else [kind]
+            forms = [(it.name, it.form) for it in named]
             found = [
                 VariantOf(name, form.kind, labels(form), [self.type_of(field.type) for field in form.fields])
                 for name, form in forms
@@ -185,7 +186,8 @@ class Declarations:
         if ty[0] == "array":
             return ty[2] == 0 or self.has_value(ty[1], True)
         if ty[0] == "named":
-            return self.is_marked(ty[1]) or any(self.variant_has_value(ty, k, True) for k in range(len(self.variants(ty))))
+            numbers = range(len(self.variants(ty)))
+            return self.is_marked(ty[1]) or any(self.variant_has_value(ty, number, True) for number in numbers)
         return True
 
     def variant_has_value(self, ty, number, sure):

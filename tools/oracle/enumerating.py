@@ -1,8 +1,8 @@
-"""A second way to the judgement: values of the domain are made one by one, and each meets the patterns as they are written.
+"""A second way to the judgement: values are made one by one, and each meets the patterns as they are written.
 
-A value is `("flag", b)`, `("num", n)`, `("text", t)`, `("node", k, parts)`, `("point", mutable, v)`, `("row", items)`, `("thing",)`,
-`("later",)` or `("unseen",)`. Numbers stand for all numbers that no literal or end of a range of the match tells apart from them, and
-deep within a value, where no pattern looks, one value stands for all.
+A value is `("flag", b)`, `("num", n)`, `("text", t)`, `("node", k, parts)`, `("point", mutable, v)`, `("row", items)`,
+`("thing",)`, `("later",)` or `("unseen",)`. A number stands for all numbers that no literal or end of a range of the
+match tells apart from it, and deep within a value, where no pattern looks, one value stands for all.
 """
 from itertools import product
 
@@ -122,7 +122,9 @@ class Values:
     def look_at(self, node):
         if isinstance(node, s.Literal) and node.literal.kind == "str":
             self.texts.add(node.literal.value)
-        ends = [node.literal] if isinstance(node, s.Literal) else [node.low, node.high] if isinstance(node, s.Range) else []
+        ends = [node.low, node.high] if isinstance(node, s.Range) else []
+        if isinstance(node, s.Literal):
+            ends = [node.literal]
         for end in ends:
             if end is not None and end.kind in ("int", "char", "byte"):
                 self.edges |= {end.value, end.value + 1}
@@ -295,7 +297,8 @@ class Reached:
 
 
 def cross_check(declarations, number, match, witnesses, unreachable):
-    """Compares a judgement with what values one by one show; Differs is raised where it is another. Answers whether it was tried."""
+    """Compares a judgement with what values one by one show. Differs is raised where it is another; the answer tells
+    whether there were few enough values for it."""
     arms = declarations.items[number].kind.arms
     values = Values(declarations, [arm.pattern for arm in arms])
     depth = max([depth_of(arm.pattern) for arm in match.arms], default=0) + 1

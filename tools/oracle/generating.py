@@ -1,10 +1,11 @@
 """Sources made by chance: a few declarations, and functions whose patterns mostly suit their types.
 
-`slip` of a source is the part of its choices that go wrong; spoiling.py then makes white space, comments and faults of other kinds.
+`slip` of a source is the part of its choices that go wrong. White space, comments and other faults come from
+spoiling.py.
 
 A type is `("bool",)`, `("char",)`, `("int", kind)`, `("str",)`, `("never",)`, `("opaque", text)`, `("tuple", parts)`,
-`("point", mutable, type)`, `("slice", item)`, `("array", item, length)`, `("option", type)`, `("result", one, other)` or
-`("declared", number)`.
+`("point", mutable, type)`, `("slice", item)`, `("array", item, length)`, `("option", type)`, `("result", one, other)`
+or `("declared", number)`.
 """
 import random
 
@@ -15,8 +16,10 @@ EDGES = {kind + str(bits): ((0, 2**bits - 1) if kind == "u" else (-(2 ** (bits -
          for kind in "ui" for bits in (8, 16, 32, 64, 128)}
 EDGES["usize"] = (0, 2**64 - 1)
 EDGES["isize"] = (-(2**63), 2**63 - 1)
-CHARS = ["'a'", "'b'", "'c'", "'z'", r"'\0'", r"'\n'", r"'\u{d7ff}'", r"'\u{e000}'", r"'\u{10ffff}'", r"'\''", r"'\\'", "'é'"]
+CHARS = ["'a'", "'b'", "'c'", "'z'", "'é'", r"'\0'", r"'\n'",
+         r"'\''", r"'\\'", r"'\u{d7ff}'", r"'\u{e000}'", r"'\u{10ffff}'"]
 TEXTS = ['""', '"a"', '"b"', '"ab"', r'"\n"', 'r"a"', '"é"', r'"\""', r'"\x61"']
+STRANGE = ["1.5", 'b"a"', "a::b::C", "1x", "&_", "&mut _", "ref q", "mut q", '"s"', "()", "[..]", "Nothing"]
 UNIT, TUPLE, BRACE = "unit", "tuple", "brace"
 
 
@@ -135,7 +138,8 @@ class Source:
         if self.fresh and self.chance(self.slip):
             return "v" + str(self.rng.randint(1, self.fresh))
         if self.chance(self.slip):
-            return self.rng.choice(["None", "Some", "r#in"] + [variant[0] for entry in self.declared for variant in entry[2]])
+            declared = [variant[0] for entry in self.declared for variant in entry[2]]
+            return self.rng.choice(["None", "Some", "r#in"] + declared)
         self.fresh += 1
         return "v" + str(self.fresh)
 
@@ -153,7 +157,7 @@ class Source:
         if ty[0] == "point":
             return self.at_reference(ty, mode, depth, binds)
         if self.chance(self.slip) or (ty[0] in ("never", "opaque") and self.chance(0.02)):
-            return rng.choice(["1.5", 'b"a"', "a::b::C", "1x", "&_", "&mut _", "ref q", "mut q", '"s"', "()", "[..]", "Nothing"])
+            return rng.choice(STRANGE)
         return self.of_kind(ty, mode, depth, binds)
 
     def written_mode(self, mode):
@@ -239,7 +243,8 @@ class Source:
             return f"..={one}"
         if form == 2 and (one != other or self.chance(self.slip * 3)):
             return f"{one}..{other}"
-        if form == 3 and (ty == ("int", "isize") or self.order(one) > self.order(self.least(ty)) or self.chance(self.slip * 3)):
+        above = ty == ("int", "isize") or self.order(one) > self.order(self.least(ty))
+        if form == 3 and (above or self.chance(self.slip * 3)):
             return f"..{one}"
         return f"{one}..={other}"
 
@@ -310,7 +315,10 @@ class Source:
         written = []
         for label, field in chosen:
             short = binds and label.isalpha() and self.chance(0.1)
-            written.append(self.written_mode(mode) + label if short else label + ":" + self.inside(field, mode, depth, binds))
+            if short:
+                written.append(self.written_mode(mode) + label)
+            else:
+                written.append(label + ":" + self.inside(field, mode, depth, binds))
         if self.chance(self.slip):
             written.append(self.rng.choice(written + ["q", "0:_", "a:_", "b"]))
         return path + "{" + ",".join(written + [".."] * rest) + "}"
@@ -331,7 +339,8 @@ class Source:
     def arm(self, ty):
         self.fresh = 0
         depth = self.rng.choice([1, 2, 3])
-        whole = self.alternatives(ty, "move", depth, True) if self.chance(0.2) else self.pattern(ty, "move", depth, True)
+        make = self.alternatives if self.chance(0.2) else self.pattern
+        whole = make(ty, "move", depth, True)
         before = self.rng.choice([""] * 8 + ["|", "#[a] "])
         guard = self.rng.choice([" "] * 4 + [" if g() "])
         return f"{before}{whole}{guard}=>" + self.rng.choice(["0,", "0,", "0,", "{}", "{1},", "f(1,2),"])

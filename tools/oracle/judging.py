@@ -14,8 +14,8 @@ class Places:
         self.declarations = declarations
 
     def pieces(self, ty, sure, heads):
-        """The pieces of a column that have a value, in constructor order. A piece is a constructor as of a head, `("later",)` or
-        `("else", texts)`."""
+        """The pieces of a column that have a value, in constructor order. A piece is a constructor as of a head,
+        `("later",)` or `("else", texts)`."""
         kind = ty[0]
         if kind == "bool":
             return [("flag", False), ("flag", True)]
@@ -29,7 +29,8 @@ class Places:
         if kind == "tuple":
             return [("single",)] if self.declarations.has_value(ty, sure) else []
         if kind == "slice":
-            return [piece for piece in self.lengths(heads) if self.declarations.has_value(ty[1], sure) or self.least(piece) == 0]
+            has_item = self.declarations.has_value(ty[1], sure)
+            return [piece for piece in self.lengths(heads) if has_item or self.least(piece) == 0]
         if kind == "array":
             return [self.array_piece(ty[2], heads)] if self.declarations.has_value(ty, sure) else []
         if kind == "named":
@@ -89,7 +90,7 @@ class Places:
         return []
 
     def parts_of(self, pattern, piece, count):
-        """What a pattern that is no or-pattern asks of the parts of a piece; None where it has nothing of the piece."""
+        """What a pattern that is no or-pattern asks of a piece's parts; None where it has nothing of the piece."""
         if pattern is ANY:
             return [ANY] * count
         constructor, parts = pattern.constructor, pattern.parts

@@ -6,9 +6,9 @@ from dataclasses import dataclass
 from fault import Fault
 
 KEYWORDS = frozenset("""
-    as async await break const continue crate dyn else enum extern false fn for if impl in let loop match mod move mut pub ref
-    return self Self static struct super trait true type unsafe use where while abstract become box do final macro override priv
-    try typeof unsized virtual yield
+    as async await break const continue crate dyn else enum extern false fn for if impl in let loop match mod move mut
+    pub ref return self Self static struct super trait true type unsafe use where while abstract become box do final
+    macro override priv try typeof unsized virtual yield
 """.split())
 NEVER_RAW = frozenset(["crate", "self", "super", "Self", "_"])
 WHITE = frozenset("\t\n\x0b\x0c\r \x85\u200e\u200f\u2028\u2029")

@@ -81,7 +81,7 @@ class Parser:
             ]
 
     def run(self, *stops):
-        """A balanced list of tokens that isn't empty, up to a stop outside brackets or a bracket that closes nothing."""
+        """A balanced list of tokens that isn't empty, up to a stop outside or a bracket that closes nothing."""
         begin, open_brackets = self.here, []
         while True:
             token = self.peek()
@@ -351,7 +351,7 @@ class Parser:
 
     # Patterns.
     def whole_pattern(self):
-        """An arm's pattern. While it is read only its forms are counted; whether it has too many levels the tree tells."""
+        """An arm's pattern. While it is read only forms are counted; whether it has too many levels the tree tells."""
         found = self.pattern(1)
         if s.levels(found) > LEVELS:
             raise NoItem

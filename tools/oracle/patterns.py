@@ -1,8 +1,9 @@
 """The rules 20 to 35 on a function, and its patterns with every reference written out.
 
-A checked pattern is `Any`, an `Alternatives` or a `Head`. The constructor of a head is `("flag", b)`, `("range", low, high)` with
-`None` for a free end, `("text", t)`, `("point", mutable)`, `("single",)` for tuples and structs, `("variant", k)`, `("fixed", n)` or
-`("longer", front, back)`; of the last two the parts are the items from the front and then those from the back.
+A checked pattern is `Any`, an `Alternatives` or a `Head`. The constructor of a head is `("flag", b)`,
+`("range", low, high)` with `None` for a free end, `("text", t)`, `("point", mutable)`, `("single",)` for tuples and
+structs, `("variant", k)`, `("fixed", n)` or `("longer", front, back)`; of the last two the parts are the items from
+the front and then those from the back.
 """
 from dataclasses import dataclass
 
@@ -35,7 +36,7 @@ class Head:
 
 @dataclass
 class CheckedArm:
-    """`offsets` has the offset of each alternative of the arm, in reading order, and `parents` the alternative around it."""
+    """`offsets` has the offset of each alternative of the arm in reading order, `parents` the alternative around."""
 
     at: int
     pattern: object
@@ -68,7 +69,7 @@ def behind(points, pattern):
 
 
 class ArmChecker:
-    """Checks the nodes of an arm in reading order. `alternatives_of` has what the alternatives of each or-pattern bind."""
+    """Checks the nodes of an arm in reading order. `alternatives_of` has what each or-pattern's alternatives bind."""
 
     def __init__(self, declarations):
         self.declarations = declarations

@@ -144,7 +144,8 @@ def entry(declarations, number, twice):
 def check(data, twice=None):
     """What `check` writes for a file of these bytes, and its status.
 
-    Where `twice` is a list, each judgement is made a second way too, and the list gets whether there were few enough values for it.
+    Where `twice` is a list, each judgement is made a second way too, and the list gets whether there were few enough
+    values for it.
     """
     try:
         if len(data) > GREATEST_FILE:

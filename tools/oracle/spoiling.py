@@ -1,18 +1,20 @@
-"""What else may be in a source: white space and comments, faults of declarations, and a character too many or too few."""
+"""What else may be in a source: white space, comments, faults of declarations, a character too many or too few."""
 from lexing import lex
 
 BLANKS = [" ", "\n", "\t", "\r\n", "/* */", "// a line\n", "/* a /* nested */ one */", "\u200e", "\u2028"]
 CHARACTERS = "(){}[]<>|&.,:;=!@#'\"\\/*-+_ \nabEe019rx" + "é\u00b7\u2028"
 DECLARATIONS = [
     "struct Self_(Self_);", "struct Round(Option<Round>);", "struct Row([Row;0]);", "enum Ring{A(Ring)}",
-    "struct Endless<'a>(&'a Endless<'a>);", "enum Fine{A(Box<Fine>),B}", "struct Hidden(Nothing);", "struct Sized_(str);",
-    "struct Slice([u8]);", "struct Boxed(Box<str>,Rc<[u8]>);", "struct Long([u8;4294967296]);", "struct Longest([u8;4294967295usize]);",
-    "struct Kind([u8;3u8]);", "struct Few(Option);", "struct Many(u8<u8>);", "struct Lives<'a>(String<'a>);", "use Nothing::*;",
-    "use u8::*;", "use Option::{Some,Any};", "use Option::{None,None};", "use Result::*;", "#[cfg(a)]struct Marked;",
-    "#[non_exhaustive]struct Left;", "enum Part{#[cfg_attr(a,b)]A}", "enum Part{A(#[non_exhaustive]u8)}", "enum Same{A,B,A}",
-    "struct Field{a:u8,a:bool}", "enum Field{V{a:u8,b:u8,a:u8}}", "struct E0;", "struct S0;", "enum T1{}", "fn f0(x:u8){match x{}}",
-    "struct f0;", "struct f1{}", "enum Number{A=1,B=-2,C=(1,2)}", "pub(in a::b)struct Seen(pub u8,pub(crate)u8);", "impl E0{}",
-    "struct Wide(" + "u8," * 257 + ");", "struct Narrow(" + "u8," * 256 + ");", "struct Deep(" + "&'static " * 64 + "u8);",
+    "struct Endless<'a>(&'a Endless<'a>);", "enum Fine{A(Box<Fine>),B}", "struct Hidden(Nothing);",
+    "struct Sized_(str);", "struct Slice([u8]);", "struct Boxed(Box<str>,Rc<[u8]>);", "struct Long([u8;4294967296]);",
+    "struct Longest([u8;4294967295usize]);", "struct Kind([u8;3u8]);", "struct Few(Option);", "struct Many(u8<u8>);",
+    "struct Lives<'a>(String<'a>);", "use Nothing::*;", "use u8::*;", "use Option::{Some,Any};",
+    "use Option::{None,None};", "use Result::*;", "#[cfg(a)]struct Marked;", "#[non_exhaustive]struct Left;",
+    "enum Part{#[cfg_attr(a,b)]A}", "enum Part{A(#[non_exhaustive]u8)}", "enum Same{A,B,A}",
+    "struct Field{a:u8,a:bool}", "enum Field{V{a:u8,b:u8,a:u8}}", "struct E0;", "struct S0;", "enum T1{}",
+    "fn f0(x:u8){match x{}}", "struct f0;", "struct f1{}", "enum Number{A=1,B=-2,C=(1,2)}",
+    "pub(in a::b)struct Seen(pub u8,pub(crate)u8);", "impl E0{}", "struct Wide(" + "u8," * 257 + ");",
+    "struct Narrow(" + "u8," * 256 + ");", "struct Deep(" + "&'static " * 64 + "u8);",
     "struct Flat(" + "&'static " * 63 + "u8);",
 ]
 
