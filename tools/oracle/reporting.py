@@ -1,0 +1,167 @@
+"""The bytes that `check FILE` writes."""
+import json
+
+from declarations import Declarations
+from enumerating import cross_check
+from fault import Fault
+from judging import Judge
+from lexing import KEYWORDS, lex
+from parsing import parse
+from patterns import check_match
+import syntax as s
+
+GREATEST_FILE = 16_777_216
+CLEAN, FOUND, REFUSED = 0, 1, 3
+
+
+def written(name):
+    """A name, raw where it is a keyword."""
+    return "r#" + name if name in KEYWORDS else name
+
+
+def quoted(text, quote):
+    parts = [quote]
+    for char in text:
+        if char in (quote, "\\"):
+            parts.append("\\" + char)
+        elif " " <= char <= "~":
+            parts.append(char)
+        else:
+            parts.append("\\u{%x}" % ord(char))
+    return "".join(parts) + quote
+
+
+class WitnessWriter:
+    def __init__(self, declarations):
+        self.declarations = declarations
+
+    def name(self, ty, variant):
+        if ty[0] == "tuple":
+            return ""
+        own = written(self.declarations.variants(ty)[variant].name)
+        if isinstance(ty[1], str) or not self.declarations.is_enum(ty[1]):
+            return own
+        return written(self.declarations.items[ty[1]].kind.name) + "::" + own
+
+    def types(self, ty, variant):
+        return list(ty[1]) if ty[0] == "tuple" else self.declarations.variants(ty)[variant].types
+
+    # The tree.
+    def tree(self, ty, witness):
+        kind = witness[0]
+        if kind == "range":
+            return ["range"] + [None if end is None else str(end) for end in witness[1:]]
+        if kind == "else":
+            return ["else", list(witness[1])]
+        if kind == "node":
+            types = self.types(ty, witness[1])
+            return ["node", self.name(ty, witness[1]), [self.tree(*pair) for pair in zip(types, witness[2])]]
+        if kind == "point":
+            return ["point", "&mut" if witness[1] else "&", self.tree(ty[2], witness[2])]
+        if kind == "row":
+            front, longer, back = witness[1:]
+            return ["row", [self.tree(ty[1], it) for it in front], longer, [self.tree(ty[1], it) for it in back]]
+        return list(witness)
+
+    # The text.
+    def text(self, ty, witness):
+        """The text of a witness at the scrutinee."""
+        return "*" + quoted(witness[1], '"') if witness[0] == "text" else self.inner(ty, witness)
+
+    def inner(self, ty, witness):
+        kind = witness[0]
+        if kind in ("any", "later", "else"):
+            return "_"
+        if kind == "flag":
+            return "true" if witness[1] else "false"
+        if kind == "range":
+            return self.range(ty, *witness[1:])
+        if kind == "point":
+            behind = witness[2]
+            if behind[0] == "text":
+                return ("&mut *" if witness[1] else "") + quoted(behind[1], '"')
+            return ("&mut " if witness[1] else "&") + self.inner(ty[2], behind)
+        if kind == "row":
+            front, longer, back = witness[1:]
+            items = [self.inner(ty[1], it) for it in front] + [".."] * longer + [self.inner(ty[1], it) for it in back]
+            return "[" + ", ".join(items) + "]"
+        return self.node(ty, witness)
+
+    def node(self, ty, witness):
+        parts = [self.inner(*pair) for pair in zip(self.types(ty, witness[1]), witness[2])]
+        if ty[0] == "tuple":
+            return "(" + ", ".join(parts) + (",)" if len(parts) == 1 else ")")
+        variant = self.declarations.variants(ty)[witness[1]]
+        name = self.name(ty, witness[1])
+        if variant.kind == "unit":
+            return name
+        if variant.kind == "tuple":
+            return name + "(" + ", ".join(parts) + ")"
+        if not parts:
+            return name + " {}"
+        fields = [written(label) + ": " + part for label, part in zip(variant.labels, parts)]
+        return name + " { " + ", ".join(fields) + " }"
+
+    @staticmethod
+    def range(ty, low, high):
+        def one(number):
+            return quoted(chr(number), "'") if ty == ("char",) else str(number)
+
+        if low is None and high is None:
+            return "_"
+        if low is not None and low == high:
+            return one(low)
+        if high is None:
+            greatest = {"usize": 2**64 - 1, "isize": 2**63 - 1}[ty[1]]
+            return ty[1] + "::MAX.." if low > greatest else one(low) + ".."
+        if low is None:
+            return "..isize::MIN" if high < -(2**63) else "..=" + one(high)
+        return one(low) + "..=" + one(high)
+
+
+def entry(declarations, number, twice):
+    """The entry of a function in the report."""
+    name = declarations.items[number].kind.name
+    try:
+        match = check_match(declarations, number)
+    except Fault as fault:
+        return {"name": name, "refused": fault.tree()}
+    judge = Judge(declarations, match)
+    witnesses = judge.witnesses()
+    unreachable = judge.unreachable()
+    if twice is not None:
+        twice.append(cross_check(declarations, number, match, witnesses, unreachable))
+    writer = WitnessWriter(declarations)
+    return {
+        "exhaustive": not witnesses,
+        "name": name,
+        "overlaps": [],
+        "unreachable": [{"arm": arm, "at": at, "whole": whole} for arm, at, whole in unreachable],
+        "witnesses": [{"text": writer.text(match.type, it), "tree": writer.tree(match.type, it)} for it in witnesses],
+    }
+
+
+def check(data, twice=None):
+    """What `check` writes for a file of these bytes, and its status.
+
+    Where `twice` is a list, each judgement is made a second way too, and the list gets whether there were few enough
+    values for it.
+    """
+    try:
+        if len(data) > GREATEST_FILE:
+            raise Fault(7)
+        items = parse(lex(data))
+        declarations = Declarations(items)
+        fault = declarations.fault()
+        if fault is not None:
+            raise fault
+    except Fault as fault:
+        return output({"refused": fault.tree()}), REFUSED
+    functions = [number for number, item in enumerate(items) if isinstance(item.kind, s.Function)]
+    entries = [entry(declarations, number, twice) for number in functions]
+    status = CLEAN if all(it.get("exhaustive") for it in entries) else FOUND
+    return output({"functions": entries}), status
+
+
+def output(tree):
+    return (json.dumps(tree, ensure_ascii=False, separators=(",", ":"), sort_keys=True) + "\n").encode("utf-8")
