@@ -11,7 +11,7 @@ DECLARATIONS = [
     "struct Lives<'a>(String<'a>);", "use Nothing::*;", "use u8::*;", "use Option::{Some,Any};",
     "use Option::{None,None};", "use Result::*;", "#[cfg(a)]struct Marked;", "#[non_exhaustive]struct Left;",
     "enum Part{#[cfg_attr(a,b)]A}", "enum Part{A(#[non_exhaustive]u8)}", "enum Same{A,B,A}",
-    "struct Field{a:u8,a:bool}", "enum Field{V{a:u8,b:u8,a:u8}}", "struct E0;", "struct S0;", "enum T1{}",
+    "struct Field{a:u8,a:bool}", "enum Field{V{a:u8,b:u8,a:u8}}", "struct E0;", "struct S0;", "enum E1{}",
     "fn f0(x:u8){match x{}}", "struct f0;", "struct f1{}", "enum Number{A=1,B=-2,C=(1,2)}",
     "pub(in a::b)struct Seen(pub u8,pub(crate)u8);", "impl E0{}", "struct Wide(" + "u8," * 257 + ");",
     "struct Narrow(" + "u8," * 256 + ");", "struct Deep(" + "&'static " * 64 + "u8);",
