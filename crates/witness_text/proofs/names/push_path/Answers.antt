@@ -1,0 +1,5 @@
+use Rattle.witness_text.proofs.Adding.{three_added}
+use Rattle.witness_text.proofs.names.push_path.Goals as goal
+
+pub returns : goal.returns
+returns c = three_added _ _ _ _ _ _ _ c.in_ok-push_name.ensures c.in_ok-push_str.ensures.bytes c.in_ok-push_name-2.ensures
