@@ -1,40 +1,37 @@
 -- A column is chosen and found among the open ones.
-use Rattle.std.proofs.Common.{◌≡◌, ◌<◌, ℕ, zero, suc, true, List, [], ◌∷◌, map, length, get_or, Some, refl, ap, sym, subst, arith, slice_get}
-use Rattle.std.specs.List.{Contains}
+use Rattle.std.proofs.Common.{◌≡◌, ◌<◌, ◌∙◌, ℕ, zero, suc, true, List, [], ◌∷◌, map, length, get_or, Some, refl, ap, sym, subst, arith, slice_get}
 use Rattle.match_model.proofs.Basics.{untrue}
 use Rattle.pattern_matrix.specs.declared.rows.Head.{Head}
 use Rattle.pattern_matrix.specs.Views.{plain_head}
-use Rattle.pattern_matrix.proofs.HandingOn.{here}
+use Rattle.pattern_matrix.proofs.HandingOn.{contains-map}
 use Rattle.usefulness.specs.declared.frames.OpenColumn.{OpenColumn}
 use Rattle.usefulness.specs.declared.frames.Asked.{Asked}
 use Rattle.usefulness.specs.Frames.{has_start, has_heads, numbers}
-use Rattle.usefulness.specs.States.{plain_asked, plain_askeds, plain_opens, IsChosen}
-
-pub some_row : {T : Type 0} (rows : List (Asked T)) → has_start (plain_askeds rows) ≡ true → 0 < length rows
-some_row [] e = untrue e
-some_row (x ∷ rows) e = omega arith
+use Rattle.usefulness.specs.States.{plain_asked, plain_askeds, plain_opens, IsChosen, ListsHeads}
 
 some_heads : {T : Type 0} (heads : List (Head T)) → has_heads (map plain_head heads) ≡ true → 0 < length heads
 some_heads [] e = untrue e
 some_heads (h ∷ heads) e = omega arith
 
-pub some_head : {T : Type 0} (rows : List (Asked T)) (x : Asked T) → has_start (plain_askeds rows) ≡ true → x ≡ get_or rows 0 x → 0 < length x.row.heads.items
-some_head [] x e f = untrue e
-some_head (y ∷ rows) x e f = some_heads x.row.heads.items (subst (λ z. has_heads (plain_asked z).row.heads ≡ true) (sym f) e)
+-- the first row lists a head
+pub first_lists : {T : Type 0} (rows : List (Asked T)) → has_start (plain_askeds rows) ≡ true → ListsHeads 0 rows
+first_lists [] e = untrue e
+first_lists (x ∷ rows) e = (omega arith, λ d. some_heads x.row.heads.items e)
 
-head_in : {T : Type 0} (heads : List (Head T)) (h : Head T) → 0 < length heads → h ≡ get_or heads 0 h → Contains (map plain_head heads) (plain_head h)
-head_in [] h l e = absurd (omega (arith, l))
-head_in (g ∷ heads) h l e = subst (λ z. Contains (map plain_head (g ∷ heads)) (plain_head z)) (sym e) (here (plain_head g) (map plain_head heads))
+same_got : {A : Type 0} (xs : List A) (k : ℕ) (d e : A) → k < length xs → get_or xs k d ≡ get_or xs k e
+same_got [] k d e l = absurd (omega (arith, l))
+same_got (x ∷ xs) zero d e l = refl
+same_got (x ∷ xs) (suc k) d e l = same_got xs k d e (omega (arith, l))
 
-row_in : {T : Type 0} (rows : List (Asked T)) (x : Asked T) → 0 < length rows → x ≡ get_or rows 0 x → Contains (plain_askeds rows) (plain_asked x)
-row_in [] x l e = absurd (omega (arith, l))
-row_in (y ∷ rows) x l e = subst (λ z. Contains (plain_askeds (y ∷ rows)) (plain_asked z)) (sym e) (here (plain_asked y) (plain_askeds rows))
+-- a row that lists one
+pub one_lists : {T : Type 0} (rows : List (Asked T)) (i : ℕ) (x : Asked T) → i < length rows → x ≡ get_or rows i x → 0 < length x.row.heads.items → ListsHeads i rows
+one_lists rows i x l e h = (l, λ d. subst (λ z. 0 < length z.row.heads.items) (e ∙ same_got rows i x d l) h)
 
--- the first head of the first row is in a column that may be chosen
-pub chosen_first : {T : Type 0} (rows : List (Asked T)) (x : Asked T) (h : Head T) → has_start (plain_askeds rows) ≡ true → x ≡ get_or rows 0 x → h ≡ get_or x.row.heads.items 0 h →
-    IsChosen h.column (plain_askeds rows)
-chosen_first rows x h s e f =
-    (plain_asked x, plain_head h, row_in rows x (some_row rows s) e, head_in x.row.heads.items h (some_head rows x s e) f, refl)
+-- a head of a row is in a column that may be chosen
+pub chosen_at : {T : Type 0} (rows : List (Asked T)) (i : ℕ) (x : Asked T) (k : ℕ) (h : Head T) → i < length rows → x ≡ get_or rows i x → k < length x.row.heads.items →
+    h ≡ get_or x.row.heads.items k h → IsChosen h.column (plain_askeds rows)
+chosen_at rows i x k h l e m f =
+    (plain_asked x, plain_head h, contains-map plain_asked rows x (i, l, sym e), contains-map plain_head x.row.heads.items h (k, m, sym f), refl)
 
 -- the number stands at its place
 pub number_at : {T : Type 0} (columns : List (OpenColumn T)) (i : ℕ) (o : OpenColumn T) → i < length columns → o ≡ get_or columns i o → slice_get (numbers (plain_opens columns)) i ≡ Some o.number

@@ -4,6 +4,9 @@ pub mod ChildRows
 pub mod Commute
 pub mod Entered
 pub mod Looking
+pub mod Through
+pub mod DoneRows
+pub mod Settled
 pub mod Listed
 pub mod ColumnFacts
 pub mod RowFacts
@@ -19,8 +22,10 @@ pub mod Steps
 pub mod Left
 pub mod Adding
 pub mod Choosing
+pub mod Relisting
 pub mod Reading
 pub mod Having
 pub mod Pieces
 pub mod FirstRows
 pub mod FirstFrames
+mod TwoArms

@@ -10,13 +10,13 @@ use Rattle.match_model.proofs.Basics.{untrue, either, both}
 use Rattle.pat_context.specs.Parts.{AreValues}
 use Rattle.pattern_matrix.specs.Sparse.{head_at, heads_at}
 use Rattle.pattern_matrix.specs.Counting.{Question, WantedRow, has_chosen, counts}
-use Rattle.pattern_matrix.specs.Searching.{Submatrix, DoFor, StandFor, AreListed}
+use Rattle.pattern_matrix.specs.Searching.{Submatrix, IsDone, DoFor, StandFor, AreListed}
 use Rattle.pattern_matrix.proofs.HandingOn.{here, in_cons}
 use Rattle.pattern_matrix.proofs.SearchSteps.{values_long}
 use Rattle.pattern_matrix.proofs.ListedRows as listing
 use Rattle.usefulness.specs.Frames.{SparseAsked, asked_view, asked_views, has_heads, numbers, places, sub_view, subs_of}
 use Rattle.usefulness.specs.Marking.{is_answer}
-use Rattle.usefulness.specs.Listing.{IsListing, IsListedAs}
+use Rattle.usefulness.specs.Listing.{as_wanted, IsWantedAs, IsListing, IsListedAs}
 
 -- a row that lists no head has wildcards alone
 bare_heads : {T : Type 0} (heads : List (ℕ × MDePat T)) (columns : List ℕ) → has_heads heads ≡ false → list_all is_wild (heads_at heads columns) ≡ true
@@ -61,34 +61,35 @@ module _ {T : Type 0} (old now : Question → Bool) (columns : List ℕ) (throug
       DoFor now (length columns) (asked_views columns more) (asked_views columns kept)
   does_more kept d = subst (λ ys. DoFor now (length columns) ys (asked_views columns kept)) (sym view_more) d
 
-  -- a guarded row of which nothing is wanted
-  pub left_guarded : IsListing old now columns through kept false → x.row.guarded ≡ true → x.wanted ≡ false → IsListing old now columns more kept false
-  left_guarded l g w = record {
+  -- a guarded row of which nothing new is wanted
+  pub left_guarded : IsListing old now columns through kept false → x.row.guarded ≡ true → IsDone now (asked_view columns x) → IsListing old now columns more kept false
+  left_guarded l g d = record {
     grow = l.grow;
     right = more_right l.right;
-    does = λ e. does_more kept (listing.leave_guarded now (length columns) (asked_views columns through) (asked_views columns kept) (asked_view columns x) (l.does refl) g (λ k. untrue (sym w ∙ k)));
+    does = λ e. does_more kept (listing.leave_guarded now (length columns) (asked_views columns through) (asked_views columns kept) (asked_view columns x) (l.does refl) g d);
     stands = λ e. untrue e;
   }
 
-  -- a row that is kept
-  pub kept_more : IsListing old now columns through kept false → IsListing old now columns more (kept ++ x ∷ []) false
-  kept_more l = record {
+  -- a row that is kept, and wanted no more where nothing new is wanted of it
+  pub kept_more : (w : Bool) → IsWantedAs now columns x w → IsListing old now columns through kept false → IsListing old now columns more (kept ++ as_wanted w x ∷ []) false
+  kept_more w h l = record {
     grow = l.grow;
     right = more_right l.right;
-    does = λ e. does_more (kept ++ x ∷ []) (subst (DoFor now (length columns) (asked_views columns through ++ asked_view columns x ∷ [])) (sym (map-append (asked_view columns) kept (x ∷ [])))
-        (listing.list_row now (length columns) (asked_views columns through) (asked_views columns kept) (asked_view columns x) x.wanted (l.does refl) (λ k. k) (λ k j. untrue (sym k ∙ j))));
+    does = λ e. does_more (kept ++ as_wanted w x ∷ []) (subst (DoFor now (length columns) (asked_views columns through ++ asked_view columns x ∷ [])) (sym (map-append (asked_view columns) kept (as_wanted w x ∷ [])))
+        (listing.list_row now (length columns) (asked_views columns through) (asked_views columns kept) (asked_view columns x) w (l.does refl) h.0 h.1));
     stands = λ e. untrue e;
   }
 
   -- a row that is kept and stops all values
-  pub kept_last : IsListing old now columns through kept false → has_heads x.row.heads ≡ false → x.row.guarded ≡ false → IsListing old now columns more (kept ++ x ∷ []) true
-  kept_last l b g = record {
+  pub kept_last : (w : Bool) → IsWantedAs now columns x w → IsListing old now columns through kept false → has_heads x.row.heads ≡ false → x.row.guarded ≡ false →
+      IsListing old now columns more (kept ++ as_wanted w x ∷ []) true
+  kept_last w h l b g = record {
     grow = l.grow;
     right = more_right l.right;
     does = λ e. untrue (sym e);
-    stands = λ e rest. subst (λ ys. StandFor now (length columns) ys (asked_views columns (kept ++ x ∷ []))) (sym (view_rest rest))
-        (listing.close now (length columns) (asked_views columns through) (asked_views columns (kept ++ x ∷ [])) (asked_view columns x) (asked_views columns rest)
-        (subst (λ ys. DoFor now (length columns) ys (asked_views columns (kept ++ x ∷ []))) view_more ((kept_more l).does refl)) (long_heads columns x) (bare_heads x.row.heads columns b) g);
+    stands = λ e rest. subst (λ ys. StandFor now (length columns) ys (asked_views columns (kept ++ as_wanted w x ∷ []))) (sym (view_rest rest))
+        (listing.close now (length columns) (asked_views columns through) (asked_views columns (kept ++ as_wanted w x ∷ [])) (asked_view columns x) (asked_views columns rest)
+        (subst (λ ys. DoFor now (length columns) ys (asked_views columns (kept ++ as_wanted w x ∷ []))) view_more ((kept_more w h l).does refl)) (long_heads columns x) (bare_heads x.row.heads columns b) g);
   }
 
 -- a row without heads before which none is kept: what it answers is marked, where it is wanted
@@ -206,15 +207,16 @@ noted_row {T} old now then columns through kept x closed l e f b m =
     go false h = noted_last old now then columns through x begun b m h
 
 -- a row that is kept, as the code does it
-pub kept_row : {T : Type 0} (old now : Question → Bool) (columns : List ℕ) (through kept after : List (SparseAsked T)) (x : SparseAsked T) (closed : Bool) → IsListing old now columns through kept closed →
-    closed ≡ false → after ≡ kept ++ x ∷ [] → (bare : Bool) → (bare ≡ true → has_heads x.row.heads ≡ false) → IsListing old now columns (through ++ x ∷ []) after (bare && not x.row.guarded)
-kept_row old now columns through kept after x closed l f e bare h =
+pub kept_row : {T : Type 0} (old now : Question → Bool) (columns : List ℕ) (through kept after : List (SparseAsked T)) (x : SparseAsked T) (w closed : Bool) → IsListing old now columns through kept closed →
+    closed ≡ false → IsWantedAs now columns x w → after ≡ kept ++ as_wanted w x ∷ [] → (bare : Bool) → (bare ≡ true → has_heads x.row.heads ≡ false) →
+    IsListing old now columns (through ++ x ∷ []) after (bare && not x.row.guarded)
+kept_row old now columns through kept after x w closed l f a e bare h =
     subst (λ ks. IsListing old now columns (through ++ x ∷ []) ks (bare && not x.row.guarded)) (sym e) (go bare x.row.guarded refl h)
   where
     begun : IsListing old now columns through kept false
     begun = subst (λ c. IsListing old now columns through kept c) f l
 
-    go : (b g : Bool) → x.row.guarded ≡ g → (b ≡ true → has_heads x.row.heads ≡ false) → IsListing old now columns (through ++ x ∷ []) (kept ++ x ∷ []) (b && not g)
-    go true true m h = kept_more old now columns through kept x begun
-    go true false m h = kept_last old now columns through kept x begun (h refl) m
-    go false g m h = kept_more old now columns through kept x begun
+    go : (b g : Bool) → x.row.guarded ≡ g → (b ≡ true → has_heads x.row.heads ≡ false) → IsListing old now columns (through ++ x ∷ []) (kept ++ as_wanted w x ∷ []) (b && not g)
+    go true true m h = kept_more old now columns through kept x w a begun
+    go true false m h = kept_last old now columns through kept x w a begun (h refl) m
+    go false g m h = kept_more old now columns through kept x w a begun

@@ -1,20 +1,24 @@
 -- One row more is listed, as the code does it.
-use Rattle.std.proofs.Common.{Result, Ok, Err, zero, suc, ◌<◌, ◌≡◌, ◌==◌, ℕ, ◌+◌, Bool, true, false, List, [], ◌∷◌, ◌++◌, map, length, drop, refl, ap, sym, subst, ◌∙◌, arith}
+use Rattle.std.proofs.Common.{Result, Ok, Err, zero, suc, ◌<◌, ◌≡◌, ◌==◌, ℕ, ◌+◌, Bool, true, false, not, ◌&&◌, List, [], ◌∷◌, ◌++◌, map, length, drop, refl, ap, sym, subst, ◌∙◌, arith}
 use Rattle.std.proofs.lemmas.Bool.{eqb-true, eqb-false}
 use Rattle.std.specs.Result.{OnOk}
 use Rattle.std.proofs.lemmas.List.{length-map, length-append}
 use Rattle.std.proofs.lemmas.List.Elements.{All-nil, All-cons, All-append}
 use Rattle.std.specs.List.{All, list_any}
+use Rattle.match_model.proofs.Basics.{both, untrue}
 use Rattle.pattern_matrix.specs.declared.rows.Head.{Head}
 use Rattle.pattern_matrix.specs.Views.{plain_head}
 use Rattle.pattern_matrix.specs.Counting.{Question}
+use Rattle.pattern_matrix.specs.Searching.{IsDone}
 use Rattle.usefulness.specs.declared.frames.Listing.{Listing}
 use Rattle.usefulness.specs.declared.marks.Marks.{Marks}
-use Rattle.usefulness.specs.Frames.{SparseAsked, has_heads, starts_listed, IsRowIn}
+use Rattle.usefulness.specs.Frames.{SparseAsked, asked_view, has_heads, starts_listed, IsRowIn}
 use Rattle.usefulness.specs.Marking.{is_marked}
-use Rattle.usefulness.specs.Listing.{IsListing}
+use Rattle.usefulness.specs.Listing.{IsWantedAs, IsListing}
+use Rattle.usefulness.specs.Done.{is_done}
 use Rattle.usefulness.specs.States.{plain_asked, plain_askeds, IsKept, IsListed}
 use Rattle.usefulness.proofs.Listed.{after_closed, left_guarded, listing_begins}
+use Rattle.usefulness.proofs.DoneRows.{done_row}
 use Rattle.usefulness.proofs.Finishing.{start_more, end_unwanted, end_all}
 
 -- a list without elements has no heads
@@ -85,14 +89,14 @@ module _ {T : Type 0} (arms : ℕ) (old : Question → Bool) (columns : List ℕ
   }
 
   -- the row is left out
-  pub listed_left : l.closed ≡ false → x.row.guarded ≡ true → x.wanted ≡ false → IsListed arms old m columns (through ++ x ∷ []) l
-  listed_left e g w = record {
+  pub listed_left : l.closed ≡ false → x.row.guarded ≡ true → IsDone (is_marked m) (asked_view columns x) → IsListed arms old m columns (through ++ x ∷ []) l
+  listed_left e g d = record {
     known = listed.known;
     kept = listed.kept;
     rows = listed.rows;
     listed = subst (λ c. IsListing old (is_marked m) columns (through ++ x ∷ []) (plain_askeds l.rows.items) c) (sym e)
         (left_guarded old (is_marked m) columns through (plain_askeds l.rows.items) x
-        (subst (λ c. IsListing old (is_marked m) columns through (plain_askeds l.rows.items) c) e listed.listed) g w);
+        (subst (λ c. IsListing old (is_marked m) columns through (plain_askeds l.rows.items) c) e listed.listed) g d);
   }
 
   -- what the row answers is marked
@@ -106,13 +110,13 @@ module _ {T : Type 0} (arms : ℕ) (old : Question → Bool) (columns : List ℕ
   }
 
   -- the row is kept
-  pub listed_kept : (after : Listing T) → plain_askeds after.rows.items ≡ plain_askeds l.rows.items ++ x ∷ [] → IsKept after → IsRowIn arms columns x →
+  pub listed_kept : (after : Listing T) (y : SparseAsked T) → plain_askeds after.rows.items ≡ plain_askeds l.rows.items ++ y ∷ [] → IsKept after → IsRowIn arms columns y →
       IsListing old (is_marked m) columns (through ++ x ∷ []) (plain_askeds after.rows.items) after.closed → IsListed arms old m columns (through ++ x ∷ []) after
-  listed_kept after e k r i = record {
+  listed_kept after y e k r i = record {
     known = listed.known;
     kept = k;
     rows = subst (All (IsRowIn arms columns)) (sym e)
-        (All-append (IsRowIn arms columns) (plain_askeds l.rows.items) (x ∷ []) listed.rows (All-cons (IsRowIn arms columns) x [] r (All-nil (IsRowIn arms columns))));
+        (All-append (IsRowIn arms columns) (plain_askeds l.rows.items) (y ∷ []) listed.rows (All-cons (IsRowIn arms columns) y [] r (All-nil (IsRowIn arms columns))));
     listed = i;
   }
 
@@ -129,3 +133,12 @@ on_ok_held (Err e) p = tt
 pub some_long : (n len : ℕ) → (len == 0) ≡ false → n ≡ len → 0 < n
 some_long zero len e f = absurd (eqb-false len 0 e (omega (arith, f)))
 some_long (suc n) len e f = omega arith
+
+-- whether a row is wanted, as the code finds it: unless everything is marked that it may answer
+pub wanted_as : {T : Type 0} (m : Marks) (columns : List ℕ) (x : SparseAsked T) (w : Bool) → w ≡ (x.wanted && not (is_done (is_marked m) x.row)) → IsWantedAs (is_marked m) columns x w
+wanted_as m columns x w e = ((λ f. (both x.wanted (not (is_done (is_marked m) x.row)) (sym e ∙ f)).0), (λ f. neither x.wanted refl (is_done (is_marked m) x.row) refl (sym e ∙ f)))
+  where
+    neither : (b : Bool) → x.wanted ≡ b → (d : Bool) → is_done (is_marked m) x.row ≡ d → (b && not d) ≡ false → IsDone (is_marked m) (asked_view columns x)
+    neither false i d j k = λ h. untrue (sym i ∙ h)
+    neither true i true j k = done_row m x columns j
+    neither true i false j k = untrue (sym k)

@@ -1,5 +1,6 @@
 pub mod Frames
 pub mod Marking
+pub mod Done
 pub mod Children
 pub mod Listing
 pub mod States

@@ -2,8 +2,16 @@
 use Rattle.std.specs.Prelude.{◌≡◌, ◌⊎◌, ℕ, Bool, true, false, List, [], ◌∷◌, ◌++◌, length}
 use Rattle.match_model.specs.Values.{MValue}
 use Rattle.pattern_matrix.specs.Counting.{Question, counts}
-use Rattle.pattern_matrix.specs.Searching.{Submatrix, StandFor, DoFor, Comes, SomeComes, AreListed}
-use Rattle.usefulness.specs.Frames.{SparseAsked, asked_views}
+use Rattle.pattern_matrix.specs.Searching.{Submatrix, IsDone, StandFor, DoFor, Comes, SomeComes, AreListed}
+use Rattle.usefulness.specs.Frames.{SparseAsked, asked_view, asked_views}
+
+-- the row, wanted so
+abbrev pub as_wanted : {T : Type 0} → Bool → SparseAsked T → SparseAsked T
+as_wanted w x = record { row = x.row; wanted = w }
+
+-- it may be: it is wanted no more only where nothing new is wanted of it
+abbrev pub IsWantedAs : {T : Type 0} → (is_marked : Question → Bool) → (columns : List ℕ) → SparseAsked T → Bool → Type 0
+IsWantedAs is_marked columns x w = (w ≡ true → x.wanted ≡ true) × (w ≡ false → IsDone is_marked (asked_view columns x))
 
 -- rows over these columns were gone through, and those that are kept do for them, or, once nothing behind them counts, stand
 -- for them and all that may stand behind. More is marked than was, and what is new counts for all values

@@ -1,5 +1,5 @@
 -- The states of a search, as plain data.
-use Rattle.std.specs.Prelude.{◌≡◌, ◌≤◌, ◌<◌, ℕ, Bool, true, false, List, ◌∷◌, ◌++◌, map, length, drop, Option, IsTrue}
+use Rattle.std.specs.Prelude.{◌≡◌, ◌≤◌, ◌<◌, ℕ, Bool, true, false, List, ◌∷◌, ◌++◌, map, length, drop, get_or, Option, IsTrue}
 use Rattle.match_model.specs.ArenaPatterns.{MDePat}
 use Rattle.std.specs.List.{All, Contains, list_any}
 use Rattle.std.specs.Option.{option_to_list}
@@ -124,3 +124,7 @@ wild_view a = bare_sub (left_over (other_places a) (apart_wanted a))
 -- the column was chosen: a row lists a head there
 abbrev pub IsChosen : {T : Type 0} → (column : ℕ) → List (SparseAsked T) → Type 0
 IsChosen {T} column xs = (x : SparseAsked T) × (h : ℕ × MDePat T) × Contains xs x × Contains x.row.heads h × (h.0 ≡ column)
+
+-- the row with the number is there, and lists a head
+abbrev pub ListsHeads : {T : Type 0} → (i : ℕ) → List (Asked T) → Type 0
+ListsHeads {T} i rows = (i < length rows) × ((d : Asked T) → 0 < length (get_or rows i d).row.heads.items)

@@ -137,7 +137,8 @@ fn dropped_column<'a, C: PatCx>(
     Ok(new)
 }
 
-// What is left of the pieces that were found at the column, and where one is missing of values in no head.
+// What is left of the pieces that were found at the column, and where one is missing of values in no head. The last one is
+// looked at first: where a value is in no head, and then the last piece.
 fn split_column<'a, C: PatCx>(
     alloc: Global,
     cx: &C,
@@ -158,8 +159,9 @@ fn split_column<'a, C: PatCx>(
 {
     let mut new = Vec::new(alloc);
     if found.missing {
-        add_wild(alloc, cx, marks, a, &mut new)?;
+        let wild = wild_child(alloc, cx, marks, a)?;
         add_pieces(alloc, cx, marks, a, found, spans, &mut new)?;
+        add_child(&mut new, wild)?;
         Ok(new)
     } else {
         add_pieces(alloc, cx, marks, a, found, spans, &mut new)?;

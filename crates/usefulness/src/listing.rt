@@ -4,10 +4,11 @@ ghost use Rattle.std.specs.List.{All, list_any};
 ghost use Rattle.pattern_matrix.specs.Counting.{Question};
 ghost use Rattle.usefulness.specs.Frames.{SparseAsked, IsRowIn, AreOpen, numbers, has_heads, subs_of};
 ghost use Rattle.usefulness.specs.Marking.{is_marked};
-ghost use Rattle.usefulness.specs.Listing.{IsListing};
+ghost use Rattle.usefulness.specs.Listing.{IsListing, IsWantedAs};
 ghost use Rattle.usefulness.specs.States.{plain_asked, plain_askeds, plain_opens, child_views, IsGood, IsKept, IsListed};
 
 use crate::Marks;
+use crate::done::is_wanted;
 use crate::frames::{Asked, Frame, Listing, OpenColumn};
 use no_memory::NoMemory;
 use std::alloc::Global;
@@ -49,16 +50,18 @@ fn note<'a, T: Copy>(
     Ok(())
 }
 
-// Keeps the row, which lists a head where it is the first one.
+// Keeps the row, which lists a head where it is the first one. It stands for one that was wanted where it is, and is wanted no
+// more only where nothing new is wanted of that.
 fn keep<'a, T: Copy>(listing: &mut Listing<'a, T>, asked: Asked<'a, T>) -> Result<(), NoMemory>
     requires kept { IsKept listing.old }
     requires start { plain_askeds listing.old.rows.items ≡ [] → has_heads (plain_asked asked).row.heads ≡ true }
     requires more { listing.old.closed ≡ false }
     ensures rows { OnOk result (plain_askeds listing.new.rows.items ≡ plain_askeds listing.old.rows.items ++ plain_asked asked.entry ∷ []) }
     ensures kept { OnOk result (IsKept listing.new) }
-    ensures listed { OnOk result ((old now : Question → Bool) (columns : List ℕ) (through : List (SparseAsked T))
+    ensures listed { OnOk result ((old now : Question → Bool) (columns : List ℕ) (through : List (SparseAsked T)) (x : SparseAsked T)
+        → x.row ≡ (plain_asked asked.entry).row → IsWantedAs now columns x asked.entry.wanted
         → IsListing old now columns through (plain_askeds listing.old.rows.items) listing.old.closed
-        → IsListing old now columns (through ++ plain_asked asked.entry ∷ []) (plain_askeds listing.new.rows.items) listing.new.closed) }
+        → IsListing old now columns (through ++ x ∷ []) (plain_askeds listing.new.rows.items) listing.new.closed) }
 {
     let wanted = asked.wanted;
     let closed = asked.row.heads.is_empty() && !asked.row.guarded;
@@ -87,10 +90,14 @@ pub(crate) fn list_row<'a, T: Copy>(
     }
     if asked.row.heads.is_empty() && listing.rows.is_empty() {
         note(marks, listing, &asked)
-    } else if asked.row.guarded && !asked.wanted {
-        Ok(())
     } else {
-        keep(listing, asked)
+        let wanted = is_wanted(marks, &asked);
+        if asked.row.guarded && !wanted {
+            Ok(())
+        } else {
+            let row = asked.row;
+            keep(listing, Asked { row, wanted })
+        }
     }
 }
 

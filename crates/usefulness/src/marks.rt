@@ -6,6 +6,7 @@ ghost use Rattle.usefulness.specs.Marking.{is_asked, is_marked, is_answer};
 
 use indexmap::IndexSet;
 use no_memory::NoMemory;
+use pattern_matrix::Marked;
 use std::alloc::Global;
 
 /// An alternative of an or-pattern: the number of its arm, from 0, and its uid.
@@ -70,5 +71,18 @@ impl Marks {
         self.arms[arm as usize] = true;
         add_all(&mut self.alternatives, arm, chosen)?;
         Ok(())
+    }
+}
+
+impl Marked for Marks {
+    ghost is_marked = { is_marked };
+
+    fn has_arm(&self, arm: u32) -> bool {
+        let at = arm as usize;
+        at < self.arms.len() && self.arms[at]
+    }
+
+    fn has_alternative(&self, arm: u32, uid: u64) -> bool {
+        self.alternatives.contains(&Alternative { arm, uid })
     }
 }

@@ -1,112 +1,30 @@
 // The search for what is reached.
-ghost use Rattle.std.specs.Prelude.{◌≡◌, ◌<◌, ◌+◌, ◌^◌, ◌++◌, ◌∷◌, [], length, IfOk, OnOk, Some, slice_get, true, false};
-ghost use Rattle.std.specs.List.{All, Contains};
+ghost use Rattle.std.specs.Prelude.{◌≡◌, ◌<◌, ◌+◌, ◌^◌, ◌++◌, ◌∷◌, [], length, IfOk, OnOk, false};
+ghost use Rattle.std.specs.List.{All};
 ghost use Rattle.match_model.specs.Values.{MValue};
 ghost use Rattle.match_model.specs.WellTyped.{IsWellTyped};
 ghost use Rattle.pat_context.specs.Views.{is_sure};
 ghost use Rattle.pattern_arena.specs.Trees.{plain_match};
-ghost use Rattle.pattern_matrix.specs.Spreading.{all_apart};
-ghost use Rattle.pattern_matrix.specs.Views.{plain_leaves};
 ghost use Rattle.pattern_matrix.specs.Counting.{Question};
-ghost use Rattle.pattern_matrix.specs.Searching.{IsFit, IsLookedAt, IsSearch, moved, first_submatrix};
+ghost use Rattle.pattern_matrix.specs.Searching.{IsSearch, first_submatrix};
 ghost use Rattle.pattern_matrix.specs.SearchLaws.{IsReached};
 ghost use Rattle.usefulness.specs.Children.{bare_sub};
-ghost use Rattle.usefulness.specs.Frames.{has_start, numbers, rows_of};
 ghost use Rattle.usefulness.specs.Marking.{is_marked};
 ghost use Rattle.usefulness.specs.Starting.{asked_from};
-ghost use Rattle.usefulness.specs.States.{plain_open, plain_opens, plain_askeds, frame_view, frame_views, IsGood, IsChosen, IsListed};
+ghost use Rattle.usefulness.specs.States.{frame_views, IsGood, IsListed};
 
 use crate::Marks;
-use crate::children::{add_child, children};
-use crate::frames::{Apart, Asked, Frame, Listing, OpenColumn};
+use crate::children::add_child;
+use crate::frames::{Asked, Frame, Listing, OpenColumn};
 use crate::listing::{finish, list_row, none_listed};
+use crate::look::look;
 use no_memory::NoMemory;
 use pat_context::{PatCx, has_value};
 use pattern_arena::CheckedMatch;
 use pattern_arena::laws::matches_are_made;
-use pattern_matrix::{Column, Leaf, Row, add_leaves, first_rows};
+use pattern_matrix::{Column, Row, first_rows};
 use smallvec::SmallVec;
 use std::alloc::Global;
-
-// A column where some row lists a head. The first row lists one.
-fn choose<'a, T: Copy>(rows: &[Asked<'a, T>]) -> usize
-    requires { has_start (plain_askeds rows.now) ≡ true }
-    ensures { IsChosen result (plain_askeds rows.now) }
-{
-    rows[0].row.heads[0].column
-}
-
-// Where the column with the number stands among the open ones.
-fn place_of<T: Copy>(columns: &[OpenColumn<T>], number: usize) -> usize
-    requires { Contains (numbers (plain_opens columns.now)) number }
-    ensures within { result < length columns.now }
-    ensures number { slice_get (numbers (plain_opens columns.now)) result ≡ Some number }
-{
-    for (i, column) in columns.iter().enumerate() {
-        if column.number == number {
-            return i;
-        }
-    }
-    0
-}
-
-// What stands in the rows at the column, in order.
-fn asked_leaves<'a, T: Copy>(
-    alloc: Global,
-    rows: &[Asked<'a, T>],
-    column: usize,
-) -> Result<Vec<Leaf<'a, T>>, NoMemory>
-    ensures { IfOk result (λ v. plain_leaves v.items ≡ all_apart column 0 (rows_of (plain_askeds rows.now))) }
-{
-    let mut leaves = Vec::with_capacity(alloc, rows.len())?;
-    for (i, asked) in rows.iter().enumerate() {
-        add_leaves(alloc, &mut leaves, i, &asked.row.heads, column)?;
-    }
-    Ok(leaves)
-}
-
-// The rows, with the column that stands at the place among the open ones taken from these.
-fn take_column<'a, T: Copy>(
-    alloc: Global,
-    frame: Frame<'a, T>,
-    place: usize,
-) -> Result<Apart<'a, T>, NoMemory>
-    requires within { place < length frame.columns.items }
-    ensures rows { IfOk result (λ a. plain_askeds a.rows.items ≡ plain_askeds frame.entry.rows.items) }
-    ensures moved { IfOk result (λ a. moved place (plain_opens frame.entry.columns.items) ≡ plain_open a.taken ∷ plain_opens a.others.items) }
-    ensures next { IfOk result (λ a. a.next ≡ frame.entry.next) }
-    ensures leaves { IfOk result (λ a. plain_leaves a.leaves.items ≡ all_apart a.taken.number 0 (rows_of (plain_askeds a.rows.items))) }
-{
-    let mut others = frame.columns;
-    let taken = others.remove(place);
-    let leaves = asked_leaves(alloc, &frame.rows, taken.number)?;
-    Ok(Apart {
-        taken,
-        others,
-        next: frame.next,
-        rows: frame.rows,
-        leaves,
-    })
-}
-
-// Looks at the rows: what is left of them where one of their columns is taken apart.
-fn look<'a, C: PatCx>(
-    alloc: Global,
-    cx: &C,
-    marks: &mut Marks,
-    frame: Frame<'a, C::Ty>,
-) -> Result<Vec<Frame<'a, C::Ty>>, NoMemory>
-    requires good { IsGood (length marks.old.arms.items) frame }
-    requires fit { IsFit (C.is_type cx.now) (C.is_value cx.now) (C.context cx.now) (frame_view frame) }
-    ensures arms { OnOk result (length marks.new.arms.items ≡ length marks.old.arms.items) }
-    ensures good { IfOk result (λ v. All (IsGood (length marks.old.arms.items)) v.items) }
-    ensures looked { IfOk result (λ v. IsLookedAt (C.is_type cx.now) (C.is_value cx.now) (C.context cx.now) (is_marked marks.old) (is_marked marks.new) (frame_view frame.entry) (frame_views v.items)) }
-{
-    let number = choose(&frame.rows);
-    let place = place_of(&frame.columns, number);
-    let a = take_column(alloc, frame, place)?;
-    children(alloc, cx, marks, &a)
-}
 
 // The rows of the arms and the one behind them, listed.
 fn first_listing<'a, T: Copy>(

@@ -1,6 +1,6 @@
 use Rattle.std.proofs.Common.{Some, ap, ◌∙◌}
 use Rattle.usefulness.proofs.Choosing.{number_at}
-use Rattle.usefulness.proofs.search.place_of.Goals as goal
+use Rattle.usefulness.proofs.look.place_of.Goals as goal
 
 pub returns-then-column-number-clause-number : goal.returns-then-column-number-clause-number
 returns-then-column-number-clause-number g c =

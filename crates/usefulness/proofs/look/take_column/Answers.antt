@@ -1,5 +1,5 @@
 use Rattle.usefulness.proofs.Reading.{moved_out}
-use Rattle.usefulness.proofs.search.take_column.Goals as goal
+use Rattle.usefulness.proofs.look.take_column.Goals as goal
 
 pub returns-clause-moved : goal.returns-clause-moved
 returns-clause-moved g c =

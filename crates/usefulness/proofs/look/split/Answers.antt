@@ -4,10 +4,10 @@ use Rattle.pattern_matrix.specs.Searching.{IsFit, IsLookedAt}
 use Rattle.pattern_matrix.proofs.Moving.{fit_moved}
 use Rattle.usefulness.specs.Frames.{numbers}
 use Rattle.usefulness.specs.Marking.{is_marked}
-use Rattle.usefulness.specs.States.{plain_opens, plain_askeds, frame_view, frame_views, IsChosen}
+use Rattle.usefulness.specs.States.{plain_opens, frame_view, frame_views}
 use Rattle.usefulness.proofs.Taking.{apart_of, view_of, sharp_of}
 use Rattle.usefulness.proofs.MovedFirst.{looked_moved}
-use Rattle.usefulness.proofs.search.look.Goals as goal
+use Rattle.usefulness.proofs.look.split.Goals as goal
 
 pub children-requires-clause-apart : goal.children-requires-clause-apart
 children-requires-clause-apart g c =
@@ -26,8 +26,8 @@ pub children-requires-clause-sharp : goal.children-requires-clause-sharp
 children-requires-clause-sharp g c =
     let e = c.in_ok-a.ensures in
     sharp_of (length c.args.marks.now.arms.items) c.place_of-place.result c.args.frame c.in_ok-a.a c.requires.good e.rows e.moved e.next
-    c.choose-number.result (subst (λ rows. IsChosen c.choose-number.result (plain_askeds rows)) c.deref.ensures.value c.choose-number.ensures)
-    (subst (λ columns. slice_get (numbers (plain_opens columns)) c.place_of-place.result ≡ Some c.choose-number.result) c.deref-2.ensures.value c.place_of-place.ensures.number)
+    c.in_ok-number.number c.in_ok-number.ensures
+    (subst (λ columns. slice_get (numbers (plain_opens columns)) c.place_of-place.result ≡ Some c.in_ok-number.number) c.deref.ensures.value c.place_of-place.ensures.number)
 
 pub returns-clause-looked : goal.returns-clause-looked
 returns-clause-looked g c =

@@ -3,7 +3,7 @@ use Rattle.pattern_matrix.specs.Views.{plain_leaves}
 use Rattle.pattern_matrix.specs.Spreading.{all_apart}
 use Rattle.usefulness.specs.Frames.{rows_of}
 use Rattle.usefulness.specs.States.{plain_askeds}
-use Rattle.usefulness.proofs.search.asked_leaves.Given as goal
+use Rattle.usefulness.proofs.look.asked_leaves.Given as goal
 
 abbrev pub invariant-loop-i : goal.invariant-loop-i
 invariant-loop-i g l =

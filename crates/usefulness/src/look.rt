@@ -1,0 +1,152 @@
+// A submatrix that is looked at.
+ghost use Rattle.std.specs.Prelude.{◌≡◌, ◌<◌, ◌++◌, ◌∷◌, List, length, IfOk, OnOk, IfSome, Some, slice_get};
+ghost use Rattle.std.specs.List.{All, Contains};
+ghost use Rattle.match_model.specs.Values.{MValue};
+ghost use Rattle.pat_context.specs.Parts.{AreValues};
+ghost use Rattle.pattern_matrix.specs.Spreading.{all_apart};
+ghost use Rattle.pattern_matrix.specs.Views.{plain_leaves};
+ghost use Rattle.pattern_matrix.specs.Searching.{IsFit, IsLookedAt, moved};
+ghost use Rattle.usefulness.specs.Frames.{numbers, places, rows_of, IsRowIn};
+ghost use Rattle.usefulness.specs.Listing.{IsListedAs};
+ghost use Rattle.usefulness.specs.Marking.{is_marked};
+ghost use Rattle.usefulness.specs.States.{plain_open, plain_opens, plain_askeds, frame_view, frame_views, child_views, IsGood, IsListed};
+
+use crate::Marks;
+use crate::children::children;
+use crate::choice::choose;
+use crate::frames::{Apart, Asked, Frame, Listing, OpenColumn};
+use crate::listing::{finish, list_row, none_listed};
+use no_memory::NoMemory;
+use pat_context::PatCx;
+use pattern_matrix::{Leaf, add_leaves};
+use std::alloc::Global;
+
+// Where the column with the number stands among the open ones.
+fn place_of<T: Copy>(columns: &[OpenColumn<T>], number: usize) -> usize
+    requires { Contains (numbers (plain_opens columns.now)) number }
+    ensures within { result < length columns.now }
+    ensures number { slice_get (numbers (plain_opens columns.now)) result ≡ Some number }
+{
+    for (i, column) in columns.iter().enumerate() {
+        if column.number == number {
+            return i;
+        }
+    }
+    0
+}
+
+// What stands in the rows at the column, in order.
+fn asked_leaves<'a, T: Copy>(
+    alloc: Global,
+    rows: &[Asked<'a, T>],
+    column: usize,
+) -> Result<Vec<Leaf<'a, T>>, NoMemory>
+    ensures { IfOk result (λ v. plain_leaves v.items ≡ all_apart column 0 (rows_of (plain_askeds rows.now))) }
+{
+    let mut leaves = Vec::with_capacity(alloc, rows.len())?;
+    for (i, asked) in rows.iter().enumerate() {
+        add_leaves(alloc, &mut leaves, i, &asked.row.heads, column)?;
+    }
+    Ok(leaves)
+}
+
+// The rows, with the column that stands at the place among the open ones taken from these.
+fn take_column<'a, T: Copy>(
+    alloc: Global,
+    frame: Frame<'a, T>,
+    place: usize,
+) -> Result<Apart<'a, T>, NoMemory>
+    requires within { place < length frame.columns.items }
+    ensures rows { IfOk result (λ a. plain_askeds a.rows.items ≡ plain_askeds frame.entry.rows.items) }
+    ensures moved { IfOk result (λ a. moved place (plain_opens frame.entry.columns.items) ≡ plain_open a.taken ∷ plain_opens a.others.items) }
+    ensures next { IfOk result (λ a. a.next ≡ frame.entry.next) }
+    ensures leaves { IfOk result (λ a. plain_leaves a.leaves.items ≡ all_apart a.taken.number 0 (rows_of (plain_askeds a.rows.items))) }
+{
+    let mut others = frame.columns;
+    let taken = others.remove(place);
+    let leaves = asked_leaves(alloc, &frame.rows, taken.number)?;
+    Ok(Apart {
+        taken,
+        others,
+        next: frame.next,
+        rows: frame.rows,
+        leaves,
+    })
+}
+
+// What is left of the rows where one of their columns is taken apart.
+fn split<'a, C: PatCx>(
+    alloc: Global,
+    cx: &C,
+    marks: &mut Marks,
+    frame: Frame<'a, C::Ty>,
+) -> Result<Vec<Frame<'a, C::Ty>>, NoMemory>
+    requires good { IsGood (length marks.old.arms.items) frame }
+    requires fit { IsFit (C.is_type cx.now) (C.is_value cx.now) (C.context cx.now) (frame_view frame) }
+    ensures arms { OnOk result (length marks.new.arms.items ≡ length marks.old.arms.items) }
+    ensures good { IfOk result (λ v. All (IsGood (length marks.old.arms.items)) v.items) }
+    ensures looked { IfOk result (λ v. IsLookedAt (C.is_type cx.now) (C.is_value cx.now) (C.context cx.now) (is_marked marks.old) (is_marked marks.new) (frame_view frame.entry) (frame_views v.items)) }
+{
+    let number = choose(alloc, &frame)?;
+    let place = place_of(&frame.columns, number);
+    let a = take_column(alloc, frame, place)?;
+    children(alloc, cx, marks, &a)
+}
+
+// The rows over these columns, listed once more.
+fn relisting<'a, T: Copy>(
+    alloc: Global,
+    marks: &mut Marks,
+    columns: &[OpenColumn<T>],
+    rows: Vec<Asked<'a, T>>,
+) -> Result<Listing<'a, T>, NoMemory>
+    requires rows { All (IsRowIn (length marks.old.arms.items) (numbers (plain_opens columns.now))) (plain_askeds rows.items) }
+    ensures { IfOk result (λ l. IsListed (length marks.old.arms.items) (is_marked marks.old) marks.new (numbers (plain_opens columns.now)) (plain_askeds rows.entry.items) l) }
+{
+    let mut listing = none_listed(alloc);
+    for asked in rows {
+        list_row(marks, &mut listing, asked)?;
+    }
+    Ok(listing)
+}
+
+// What is still to be looked at of the rows, by what is marked now.
+fn listed_again<'a, C: PatCx>(
+    alloc: Global,
+    cx: &C,
+    marks: &mut Marks,
+    frame: Frame<'a, C::Ty>,
+) -> Result<Option<Frame<'a, C::Ty>>, NoMemory>
+    requires good { IsGood (length marks.old.arms.items) frame }
+    ensures arms { OnOk result (length marks.new.arms.items ≡ length marks.old.arms.items) }
+    ensures good { IfOk result (λ o. IfSome o (λ f. IsGood (length marks.old.arms.items) f)) }
+    ensures listed { IfOk result (λ o. ((vs : List MValue) × AreValues (C.is_value cx.now) (frame_view frame.entry).places vs)
+        → IsListedAs (C.is_value cx.now) (is_marked marks.old) (is_marked marks.new) (frame_view frame.entry) (child_views o)) }
+{
+    let Frame {
+        columns,
+        next,
+        rows,
+    } = frame;
+    let listing = relisting(alloc, marks, &columns, rows)?;
+    Ok(finish(listing, columns, next))
+}
+
+// Looks at the rows: what is left of them, by what is marked now, where one of their columns is taken apart.
+pub(crate) fn look<'a, C: PatCx>(
+    alloc: Global,
+    cx: &C,
+    marks: &mut Marks,
+    frame: Frame<'a, C::Ty>,
+) -> Result<Vec<Frame<'a, C::Ty>>, NoMemory>
+    requires good { IsGood (length marks.old.arms.items) frame }
+    requires fit { IsFit (C.is_type cx.now) (C.is_value cx.now) (C.context cx.now) (frame_view frame) }
+    ensures arms { OnOk result (length marks.new.arms.items ≡ length marks.old.arms.items) }
+    ensures good { IfOk result (λ v. All (IsGood (length marks.old.arms.items)) v.items) }
+    ensures looked { IfOk result (λ v. IsLookedAt (C.is_type cx.now) (C.is_value cx.now) (C.context cx.now) (is_marked marks.old) (is_marked marks.new) (frame_view frame.entry) (frame_views v.items)) }
+{
+    match listed_again(alloc, cx, marks, frame)? {
+        None => Ok(Vec::new(alloc)),
+        Some(rest) => split(alloc, cx, marks, rest),
+    }
+}
