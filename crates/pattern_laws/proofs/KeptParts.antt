@@ -16,7 +16,7 @@ use Rattle.match_model.specs.Places.{some_if}
 use Rattle.pattern_rules.specs.Builders.{Built, over, types_or_none, parts_from, node_ctor, form}
 use Rattle.pattern_rules.specs.Elaborated.{standing_at, is_wide_ctor}
 use Rattle.pattern_rules.proofs.SameTypes.{both_left, both_right, numbers_are_one}
-use Rattle.pattern_rules.proofs.KeptLeaves.{with_none, EachType}
+use Rattle.pattern_laws.proofs.KeptLeaves.{with_none, EachType}
 
 -- a lone alternative is no choice
 lone_ways : (p : Built) (uid : ℕ) (ws : List Way) → map (chosen_of (more_de_pats p no_de_pats) uid) ws ++ [] ≡ ws

@@ -1,0 +1,17 @@
+pub mod KeptLeaves
+pub mod KeptParts
+pub mod KeptLists
+pub mod Fitting
+pub mod KeptRows
+pub mod WaysKept
+pub mod Typings
+pub mod FineNodes
+pub mod FoundThere
+pub mod FormsMet
+pub mod FieldNumbers
+pub mod ListCounts
+pub mod NumbersFit
+pub mod BottomTypes
+pub mod LiteralsFit
+pub mod TreeFits
+pub mod ArmsKept
