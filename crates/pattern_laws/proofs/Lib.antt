@@ -15,3 +15,9 @@ pub mod BottomTypes
 pub mod LiteralsFit
 pub mod TreeFits
 pub mod ArmsKept
+pub mod NameLists
+pub mod PatNames
+pub mod TreeNames
+pub mod BoundNames
+pub mod MadeNames
+pub mod ElaboratedNames
