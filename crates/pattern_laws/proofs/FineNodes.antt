@@ -58,18 +58,28 @@ node_fine s n h = record {
   kind = fine_rule s n 35 13 (node_rule 35 is_unsupported_pattern) refl (h 35);
 }
 
--- all nodes of a list pass them
+-- something holds of all nodes of a list
+abbrev pub AllNodes : (Node → Type 0) → List Node → Type 0
+AllNodes P [] = Unit {0}
+AllNodes P (n ∷ ns) = P n × AllNodes P ns
+
+pub nodes_left : (P : Node → Type 0) (ns ms : List Node) → AllNodes P (ns ++ ms) → AllNodes P ns
+nodes_left P [] ms h = tt
+nodes_left P (n ∷ ns) ms h = (h.0, nodes_left P ns ms h.1)
+
+pub nodes_right : (P : Node → Type 0) (ns ms : List Node) → AllNodes P (ns ++ ms) → AllNodes P ms
+nodes_right P [] ms h = h
+nodes_right P (n ∷ ns) ms h = nodes_right P ns ms h.1
+
+-- all nodes of a list pass the tests
 abbrev pub AllFine : Setting → List Node → Type 0
-AllFine s [] = Unit {0}
-AllFine s (n ∷ ns) = NodeFine s n × AllFine s ns
+AllFine s = AllNodes (λ n. NodeFine s n)
 
-pub fine_left : (s : Setting) (ns ms : List Node) → AllFine s (ns ++ ms) → AllFine s ns
-fine_left s [] ms h = tt
-fine_left s (n ∷ ns) ms h = (h.0, fine_left s ns ms h.1)
+abbrev pub fine_left : (s : Setting) (ns ms : List Node) → AllFine s (ns ++ ms) → AllFine s ns
+fine_left s = nodes_left (λ n. NodeFine s n)
 
-pub fine_right : (s : Setting) (ns ms : List Node) → AllFine s (ns ++ ms) → AllFine s ms
-fine_right s [] ms h = h
-fine_right s (n ∷ ns) ms h = fine_right s ns ms h.1
+abbrev pub fine_right : (s : Setting) (ns ms : List Node) → AllFine s (ns ++ ms) → AllFine s ms
+fine_right s = nodes_right (λ n. NodeFine s n)
 
 -- the same of the nodes of arms
 abbrev ArmsFine : Setting → List ArmNode → Type 0

@@ -73,33 +73,33 @@ FitsIf true here there = here
 FitsIf false here there = there
 
 abbrev mutual
-  -- the pattern fits the type
-  pub Fits : MProgram → MPat → MType → Type 0
-  Fits program WildPat t = Unit {0}
-  Fits program (NumPat n) t = AtBottom (λ u. RangeFits program (closed n n) u) t
-  Fits program (FlagPat b) t = AtBottom (λ u. IsBool u) t
-  Fits program (TextPat s) t = IsText t × (list_all is_scalar s ≡ true)
-  Fits program (SpanPat at r) t = AtBottom (λ u. RangeFits program r u) t
-  Fits program (BindPat name written p) t = Fits program p t
-  Fits program (FormPat k fields) t =
+  -- the pattern fits the type; of each range, a number being one, this holds at its type
+  pub Fits : MProgram → (Holds : MRange → MType → Type 0) → MPat → MType → Type 0
+  Fits program Holds WildPat t = Unit {0}
+  Fits program Holds (NumPat n) t = AtBottom (λ u. Holds (closed n n) u) t
+  Fits program Holds (FlagPat b) t = AtBottom (λ u. IsBool u) t
+  Fits program Holds (TextPat s) t = IsText t × (list_all is_scalar s ≡ true)
+  Fits program Holds (SpanPat at r) t = AtBottom (λ u. Holds r u) t
+  Fits program Holds (BindPat name written p) t = Fits program Holds p t
+  Fits program Holds (FormPat k fields) t =
       AtBottom (λ u. VariantFits program k u × FormFits program u k (numbers_in fields)
-      × EachType (λ i w. FieldFits program fields i w) 0 (types_or_none (node_types program u k))) t
-  Fits program (ListPat front rest back) t =
-      AtBottom (λ u. ListFits (λ types i. PatsFit program front types i) rest (λ types i. PatsFit program back types i) (pats_count front) (pats_count back) u) t
-  Fits program (PointPat mutable p) t = PointFits mutable (λ u. Fits program p u) t
-  Fits program (OrPat alternatives) t = (two_or_more alternatives ≡ true) × AllFit program alternatives t
+      × EachType (λ i w. FieldFits program Holds fields i w) 0 (types_or_none (node_types program u k))) t
+  Fits program Holds (ListPat front rest back) t =
+      AtBottom (λ u. ListFits (λ types i. PatsFit program Holds front types i) rest (λ types i. PatsFit program Holds back types i) (pats_count front) (pats_count back) u) t
+  Fits program Holds (PointPat mutable p) t = PointFits mutable (λ u. Fits program Holds p u) t
+  Fits program Holds (OrPat alternatives) t = (two_or_more alternatives ≡ true) × AllFit program Holds alternatives t
 
   -- the field with this number fits the type, if it is written
-  pub FieldFits : MProgram → MNumbered → ℕ → MType → Type 0
-  FieldFits program no_numbered i t = Unit {0}
-  FieldFits program (more_numbered j p ps) i t = FitsIf (nat_eq i j) (Fits program p t) (FieldFits program ps i t)
+  pub FieldFits : MProgram → (Holds : MRange → MType → Type 0) → MNumbered → ℕ → MType → Type 0
+  FieldFits program Holds no_numbered i t = Unit {0}
+  FieldFits program Holds (more_numbered j p ps) i t = FitsIf (nat_eq i j) (Fits program Holds p t) (FieldFits program Holds ps i t)
 
   -- the patterns fit the types from number `i` on
-  pub PatsFit : MProgram → MPats → (types : ℕ → MType) → (i : ℕ) → Type 0
-  PatsFit program no_pats types i = Unit {0}
-  PatsFit program (more_pats p ps) types i = Fits program p (types i) × PatsFit program ps types (suc i)
+  pub PatsFit : MProgram → (Holds : MRange → MType → Type 0) → MPats → (types : ℕ → MType) → (i : ℕ) → Type 0
+  PatsFit program Holds no_pats types i = Unit {0}
+  PatsFit program Holds (more_pats p ps) types i = Fits program Holds p (types i) × PatsFit program Holds ps types (suc i)
 
   -- the alternatives all fit the type
-  pub AllFit : MProgram → MNumbered → MType → Type 0
-  AllFit program no_numbered t = Unit {0}
-  AllFit program (more_numbered at p ps) t = Fits program p t × AllFit program ps t
+  pub AllFit : MProgram → (Holds : MRange → MType → Type 0) → MNumbered → MType → Type 0
+  AllFit program Holds no_numbered t = Unit {0}
+  AllFit program Holds (more_numbered at p ps) t = Fits program Holds p t × AllFit program Holds ps t

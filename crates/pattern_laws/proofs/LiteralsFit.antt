@@ -18,6 +18,7 @@ use Rattle.type_names.specs.Meanings.{int_kind}
 use Rattle.pattern_rules.specs.Settings.{Setting, program, bottom_type}
 use Rattle.pattern_rules.specs.Literals.{is_refused, has_type, number_of, is_outside, is_number_of, end_has_type, end_outside, end_number, range_meant, some_end_refused, end_refused, has_suffix_type, is_empty_at, same_kind}
 use Rattle.pattern_rules.specs.NodeRules.{literal_fits, is_numeric}
+use Rattle.pattern_rules.specs.Promises.{literal_range}
 use Rattle.pattern_rules.specs.Resolved.{literal_pattern, number_pattern}
 use Rattle.pattern_rules.proofs.SameTypes.{both_left, both_right}
 use Rattle.pattern_laws.specs.Spelled.{literal_is_spelled, end_is_spelled}
@@ -102,13 +103,16 @@ range_at p r CharType i h = h
 range_at p r (IntType k) i h = h
 range_at p r u i h = absurd i
 
-number_fits : (s : Setting) (l : LitTree) (t : MType) → IsNumeric (bottom_type t) → literal_is_spelled l ≡ true → is_refused l ≡ false → has_type l (bottom_type t) ≡ true →
-    is_outside s.width (bottom_type t) l ≡ false → Fits (program s) (number_pattern (number_of l)) t
+number_fits : (s : Setting) (Holds : MRange → MType → Type 0) (l : LitTree) (t : MType) →
+    ((r : MRange) → literal_range l ≡ Some r → RangeFits (program s) r (bottom_type t) → Holds r (bottom_type t)) → IsNumeric (bottom_type t) → literal_is_spelled l ≡ true → is_refused l ≡ false → has_type l (bottom_type t) ≡ true →
+    is_outside s.width (bottom_type t) l ≡ false → Fits (program s) Holds (number_pattern (number_of l)) t
 unfolding Number
-number_fits s l t i p r h o = go (literal_number s.width (bottom_type t) l i p r h o)
+number_fits s Holds l t holds i p r h o = go (literal_number s.width (bottom_type t) l i p r h o)
   where
-    go : (n : ℤ) × (number_of l ≡ Some n) × (is_literal_of s.width (bottom_type t) n ≡ true) → Fits (program s) (number_pattern (number_of l)) t
-    go (n, e, k) = rw e (at_bottom (λ u. RangeFits (program s) (closed n n) u) t (range_at (program s) (closed n n) (bottom_type t) i (number_belongs s.width (bottom_type t) n i k)))
+    go : (n : ℤ) × (number_of l ≡ Some n) × (is_literal_of s.width (bottom_type t) n ≡ true) → Fits (program s) Holds (number_pattern (number_of l)) t
+    go (n, e, k) =
+        let range : literal_range l ≡ Some (closed n n) = rw e refl in
+        rw e (at_bottom (λ u. Holds (closed n n) u) t (holds (closed n n) range (range_at (program s) (closed n n) (bottom_type t) i (number_belongs s.width (bottom_type t) n i k))))
 
 char_numeric : (u : MType) → has_type (Char 0) u ≡ true → IsNumeric u
 char_numeric CharType h = tt
@@ -119,21 +123,22 @@ byte_numeric (IntType k) h = tt
 byte_numeric u h = cc
 
 -- a literal that breaks no rule fits
-pub literal_pattern_fits : (s : Setting) (l : LitTree) (t : MType) → literal_is_spelled l ≡ true → is_refused l ≡ false →
-    (not (is_refused l) && not (literal_fits l t (bottom_type t))) ≡ false → (not (is_refused l) && is_outside s.width (bottom_type t) l) ≡ false → Fits (program s) (literal_pattern l) t
-literal_pattern_fits s (Flag b) t p r h o = at_bottom (λ u. IsBool u) t (bool_type (bottom_type t) (untwice (has_type (Flag b) (bottom_type t)) h))
-literal_pattern_fits s (Str text) t p r h o = (text_type t (untwice (literal_fits (Str text) t (bottom_type t)) h), p)
-literal_pattern_fits s (Char c) t p r h o =
+pub literal_pattern_fits : (s : Setting) (Holds : MRange → MType → Type 0) (l : LitTree) (t : MType) →
+    ((r : MRange) → literal_range l ≡ Some r → RangeFits (program s) r (bottom_type t) → Holds r (bottom_type t)) → literal_is_spelled l ≡ true → is_refused l ≡ false →
+    (not (is_refused l) && not (literal_fits l t (bottom_type t))) ≡ false → (not (is_refused l) && is_outside s.width (bottom_type t) l) ≡ false → Fits (program s) Holds (literal_pattern l) t
+literal_pattern_fits s Holds (Flag b) t holds p r h o = at_bottom (λ u. IsBool u) t (bool_type (bottom_type t) (untwice (has_type (Flag b) (bottom_type t)) h))
+literal_pattern_fits s Holds (Str text) t holds p r h o = (text_type t (untwice (literal_fits (Str text) t (bottom_type t)) h), p)
+literal_pattern_fits s Holds (Char c) t holds p r h o =
     let fits : has_type (Char c) (bottom_type t) ≡ true = untwice (has_type (Char c) (bottom_type t)) h in
-    number_fits s (Char c) t (char_numeric (bottom_type t) fits) p r fits o
-literal_pattern_fits s (Byte b) t p r h o =
+    number_fits s Holds (Char c) t holds (char_numeric (bottom_type t) fits) p r fits o
+literal_pattern_fits s Holds (Byte b) t holds p r h o =
     let fits : has_type (Byte b) (bottom_type t) ≡ true = untwice (has_type (Byte b) (bottom_type t)) h in
-    number_fits s (Byte b) t (byte_numeric (bottom_type t) fits) p r fits o
-literal_pattern_fits s (Int negative size suffix) t p r h o =
+    number_fits s Holds (Byte b) t holds (byte_numeric (bottom_type t) fits) p r fits o
+literal_pattern_fits s Holds (Int negative size suffix) t holds p r h o =
     let fits : has_type (Int negative size suffix) (bottom_type t) ≡ true =
     untwice (has_type (Int negative size suffix) (bottom_type t)) (let_in (is_refused (Int negative size suffix)) (not (has_type (Int negative size suffix) (bottom_type t))) h r) in
-    number_fits s (Int negative size suffix) t (suffix_numeric suffix (bottom_type t) fits) p r fits (let_in (is_refused (Int negative size suffix)) (is_outside s.width (bottom_type t) (Int negative size suffix)) o r)
-literal_pattern_fits s Other t p r h o = cc
+    number_fits s Holds (Int negative size suffix) t holds (suffix_numeric suffix (bottom_type t) fits) p r fits (let_in (is_refused (Int negative size suffix)) (is_outside s.width (bottom_type t) (Int negative size suffix)) o r)
+literal_pattern_fits s Holds Other t holds p r h o = cc
 
 -- an end of a range
 end_literal : (width : Width) (u : MType) (l : Option LitTree) → IsNumeric u → end_is_spelled l ≡ true → end_refused l ≡ false → end_has_type l u ≡ true → end_outside width u l ≡ false →
