@@ -52,6 +52,11 @@ abbrev pub pats_count : MPats → ℕ
 pats_count no_pats = 0
 pats_count (more_pats p ps) = suc (pats_count ps)
 
+-- how many fields or alternatives there are
+abbrev pub numbered_count : MNumbered → ℕ
+numbered_count no_numbered = 0
+numbered_count (more_numbered n p ps) = suc (numbered_count ps)
+
 -- the type is a reference of this kind, and what it refers to fits
 abbrev pub PointFits : (mutable : Bool) → (MType → Type 0) → MType → Type 0
 PointFits mutable P (PointType n t) = (mutable ≡ n) × P t
@@ -73,33 +78,34 @@ FitsIf true here there = here
 FitsIf false here there = there
 
 abbrev mutual
-  -- the pattern fits the type; of each range, a number being one, this holds at its type
-  pub Fits : MProgram → (Holds : MRange → MType → Type 0) → MPat → MType → Type 0
-  Fits program Holds WildPat t = Unit {0}
-  Fits program Holds (NumPat n) t = AtBottom (λ u. Holds (closed n n) u) t
-  Fits program Holds (FlagPat b) t = AtBottom (λ u. IsBool u) t
-  Fits program Holds (TextPat s) t = IsText t × (list_all is_scalar s ≡ true)
-  Fits program Holds (SpanPat at r) t = AtBottom (λ u. Holds r u) t
-  Fits program Holds (BindPat name written p) t = Fits program Holds p t
-  Fits program Holds (FormPat k fields) t =
+  -- the pattern fits the type; of each range, a number being one, this holds at its type, and there are at most so many
+  -- alternatives each time
+  pub Fits : MProgram → (Holds : MRange → MType → Type 0) → (most : ℕ) → MPat → MType → Type 0
+  Fits program Holds most WildPat t = Unit {0}
+  Fits program Holds most (NumPat n) t = AtBottom (λ u. Holds (closed n n) u) t
+  Fits program Holds most (FlagPat b) t = AtBottom (λ u. IsBool u) t
+  Fits program Holds most (TextPat s) t = IsText t × (list_all is_scalar s ≡ true)
+  Fits program Holds most (SpanPat at r) t = AtBottom (λ u. Holds r u) t
+  Fits program Holds most (BindPat name written p) t = Fits program Holds most p t
+  Fits program Holds most (FormPat k fields) t =
       AtBottom (λ u. VariantFits program k u × FormFits program u k (numbers_in fields)
-      × EachType (λ i w. FieldFits program Holds fields i w) 0 (types_or_none (node_types program u k))) t
-  Fits program Holds (ListPat front rest back) t =
-      AtBottom (λ u. ListFits (λ types i. PatsFit program Holds front types i) rest (λ types i. PatsFit program Holds back types i) (pats_count front) (pats_count back) u) t
-  Fits program Holds (PointPat mutable p) t = PointFits mutable (λ u. Fits program Holds p u) t
-  Fits program Holds (OrPat alternatives) t = (two_or_more alternatives ≡ true) × AllFit program Holds alternatives t
+      × EachType (λ i w. FieldFits program Holds most fields i w) 0 (types_or_none (node_types program u k))) t
+  Fits program Holds most (ListPat front rest back) t =
+      AtBottom (λ u. ListFits (λ types i. PatsFit program Holds most front types i) rest (λ types i. PatsFit program Holds most back types i) (pats_count front) (pats_count back) u) t
+  Fits program Holds most (PointPat mutable p) t = PointFits mutable (λ u. Fits program Holds most p u) t
+  Fits program Holds most (OrPat alternatives) t = (two_or_more alternatives ≡ true) × (numbered_count alternatives ≤ most) × AllFit program Holds most alternatives t
 
   -- the field with this number fits the type, if it is written
-  pub FieldFits : MProgram → (Holds : MRange → MType → Type 0) → MNumbered → ℕ → MType → Type 0
-  FieldFits program Holds no_numbered i t = Unit {0}
-  FieldFits program Holds (more_numbered j p ps) i t = FitsIf (nat_eq i j) (Fits program Holds p t) (FieldFits program Holds ps i t)
+  pub FieldFits : MProgram → (Holds : MRange → MType → Type 0) → (most : ℕ) → MNumbered → ℕ → MType → Type 0
+  FieldFits program Holds most no_numbered i t = Unit {0}
+  FieldFits program Holds most (more_numbered j p ps) i t = FitsIf (nat_eq i j) (Fits program Holds most p t) (FieldFits program Holds most ps i t)
 
   -- the patterns fit the types from number `i` on
-  pub PatsFit : MProgram → (Holds : MRange → MType → Type 0) → MPats → (types : ℕ → MType) → (i : ℕ) → Type 0
-  PatsFit program Holds no_pats types i = Unit {0}
-  PatsFit program Holds (more_pats p ps) types i = Fits program Holds p (types i) × PatsFit program Holds ps types (suc i)
+  pub PatsFit : MProgram → (Holds : MRange → MType → Type 0) → (most : ℕ) → MPats → (types : ℕ → MType) → (i : ℕ) → Type 0
+  PatsFit program Holds most no_pats types i = Unit {0}
+  PatsFit program Holds most (more_pats p ps) types i = Fits program Holds most p (types i) × PatsFit program Holds most ps types (suc i)
 
   -- the alternatives all fit the type
-  pub AllFit : MProgram → (Holds : MRange → MType → Type 0) → MNumbered → MType → Type 0
-  AllFit program Holds no_numbered t = Unit {0}
-  AllFit program Holds (more_numbered at p ps) t = Fits program Holds p t × AllFit program Holds ps t
+  pub AllFit : MProgram → (Holds : MRange → MType → Type 0) → (most : ℕ) → MNumbered → MType → Type 0
+  AllFit program Holds most no_numbered t = Unit {0}
+  AllFit program Holds most (more_numbered at p ps) t = Fits program Holds most p t × AllFit program Holds most ps t

@@ -103,13 +103,13 @@ range_at p r CharType i h = h
 range_at p r (IntType k) i h = h
 range_at p r u i h = absurd i
 
-number_fits : (s : Setting) (Holds : MRange → MType → Type 0) (l : LitTree) (t : MType) →
+number_fits : (s : Setting) (Holds : MRange → MType → Type 0) (most : ℕ) (l : LitTree) (t : MType) →
     ((r : MRange) → literal_range l ≡ Some r → RangeFits (program s) r (bottom_type t) → Holds r (bottom_type t)) → IsNumeric (bottom_type t) → literal_is_spelled l ≡ true → is_refused l ≡ false → has_type l (bottom_type t) ≡ true →
-    is_outside s.width (bottom_type t) l ≡ false → Fits (program s) Holds (number_pattern (number_of l)) t
+    is_outside s.width (bottom_type t) l ≡ false → Fits (program s) Holds most (number_pattern (number_of l)) t
 unfolding Number
-number_fits s Holds l t holds i p r h o = go (literal_number s.width (bottom_type t) l i p r h o)
+number_fits s Holds most l t holds i p r h o = go (literal_number s.width (bottom_type t) l i p r h o)
   where
-    go : (n : ℤ) × (number_of l ≡ Some n) × (is_literal_of s.width (bottom_type t) n ≡ true) → Fits (program s) Holds (number_pattern (number_of l)) t
+    go : (n : ℤ) × (number_of l ≡ Some n) × (is_literal_of s.width (bottom_type t) n ≡ true) → Fits (program s) Holds most (number_pattern (number_of l)) t
     go (n, e, k) =
         let range : literal_range l ≡ Some (closed n n) = rw e refl in
         rw e (at_bottom (λ u. Holds (closed n n) u) t (holds (closed n n) range (range_at (program s) (closed n n) (bottom_type t) i (number_belongs s.width (bottom_type t) n i k))))
@@ -123,22 +123,22 @@ byte_numeric (IntType k) h = tt
 byte_numeric u h = cc
 
 -- a literal that breaks no rule fits
-pub literal_pattern_fits : (s : Setting) (Holds : MRange → MType → Type 0) (l : LitTree) (t : MType) →
+pub literal_pattern_fits : (s : Setting) (Holds : MRange → MType → Type 0) (most : ℕ) (l : LitTree) (t : MType) →
     ((r : MRange) → literal_range l ≡ Some r → RangeFits (program s) r (bottom_type t) → Holds r (bottom_type t)) → literal_is_spelled l ≡ true → is_refused l ≡ false →
-    (not (is_refused l) && not (literal_fits l t (bottom_type t))) ≡ false → (not (is_refused l) && is_outside s.width (bottom_type t) l) ≡ false → Fits (program s) Holds (literal_pattern l) t
-literal_pattern_fits s Holds (Flag b) t holds p r h o = at_bottom (λ u. IsBool u) t (bool_type (bottom_type t) (untwice (has_type (Flag b) (bottom_type t)) h))
-literal_pattern_fits s Holds (Str text) t holds p r h o = (text_type t (untwice (literal_fits (Str text) t (bottom_type t)) h), p)
-literal_pattern_fits s Holds (Char c) t holds p r h o =
+    (not (is_refused l) && not (literal_fits l t (bottom_type t))) ≡ false → (not (is_refused l) && is_outside s.width (bottom_type t) l) ≡ false → Fits (program s) Holds most (literal_pattern l) t
+literal_pattern_fits s Holds most (Flag b) t holds p r h o = at_bottom (λ u. IsBool u) t (bool_type (bottom_type t) (untwice (has_type (Flag b) (bottom_type t)) h))
+literal_pattern_fits s Holds most (Str text) t holds p r h o = (text_type t (untwice (literal_fits (Str text) t (bottom_type t)) h), p)
+literal_pattern_fits s Holds most (Char c) t holds p r h o =
     let fits : has_type (Char c) (bottom_type t) ≡ true = untwice (has_type (Char c) (bottom_type t)) h in
-    number_fits s Holds (Char c) t holds (char_numeric (bottom_type t) fits) p r fits o
-literal_pattern_fits s Holds (Byte b) t holds p r h o =
+    number_fits s Holds most (Char c) t holds (char_numeric (bottom_type t) fits) p r fits o
+literal_pattern_fits s Holds most (Byte b) t holds p r h o =
     let fits : has_type (Byte b) (bottom_type t) ≡ true = untwice (has_type (Byte b) (bottom_type t)) h in
-    number_fits s Holds (Byte b) t holds (byte_numeric (bottom_type t) fits) p r fits o
-literal_pattern_fits s Holds (Int negative size suffix) t holds p r h o =
+    number_fits s Holds most (Byte b) t holds (byte_numeric (bottom_type t) fits) p r fits o
+literal_pattern_fits s Holds most (Int negative size suffix) t holds p r h o =
     let fits : has_type (Int negative size suffix) (bottom_type t) ≡ true =
     untwice (has_type (Int negative size suffix) (bottom_type t)) (let_in (is_refused (Int negative size suffix)) (not (has_type (Int negative size suffix) (bottom_type t))) h r) in
-    number_fits s Holds (Int negative size suffix) t holds (suffix_numeric suffix (bottom_type t) fits) p r fits (let_in (is_refused (Int negative size suffix)) (is_outside s.width (bottom_type t) (Int negative size suffix)) o r)
-literal_pattern_fits s Holds Other t holds p r h o = cc
+    number_fits s Holds most (Int negative size suffix) t holds (suffix_numeric suffix (bottom_type t) fits) p r fits (let_in (is_refused (Int negative size suffix)) (is_outside s.width (bottom_type t) (Int negative size suffix)) o r)
+literal_pattern_fits s Holds most Other t holds p r h o = cc
 
 -- an end of a range
 end_literal : (width : Width) (u : MType) (l : Option LitTree) → IsNumeric u → end_is_spelled l ≡ true → end_refused l ≡ false → end_has_type l u ≡ true → end_outside width u l ≡ false →

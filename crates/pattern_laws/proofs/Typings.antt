@@ -235,45 +235,45 @@ field_typed program false A C t x z q f h = h q
 
 mutual
   -- the pattern is well typed
-  pub is_typed : (program : MProgram) (p : MPat) (t : MType) (m : Mode) → Fits program (RangeFits program) p t → Typed program t (elaborated program p t m)
-  is_typed program WildPat t m h = wild_typed program t
-  is_typed program (NumPat n) t m h =
+  pub is_typed : (program : MProgram) (most : ℕ) (p : MPat) (t : MType) (m : Mode) → Fits program (RangeFits program) most p t → Typed program t (elaborated program p t m)
+  is_typed program most WildPat t m h = wild_typed program t
+  is_typed program most (NumPat n) t m h =
       through_typed program (λ u. RangeFits program (closed n n) u) (λ u m'. leaf (NumbersCtor (closed n n)) u) (λ u m' r. number_typed program (closed n n) 0 u r) t m h
-  is_typed program (FlagPat b) t m h = through_typed program (λ u. IsBool u) (λ u m'. leaf (FlagCtor b) u) (λ u m' r. flag_typed program b u r) t m h
-  is_typed program (TextPat s) t m h = text_typed program s t h.0 h.1
-  is_typed program (SpanPat at r) t m h =
+  is_typed program most (FlagPat b) t m h = through_typed program (λ u. IsBool u) (λ u m'. leaf (FlagCtor b) u) (λ u m' r. flag_typed program b u r) t m h
+  is_typed program most (TextPat s) t m h = text_typed program s t h.0 h.1
+  is_typed program most (SpanPat at r) t m h =
       through_typed program (λ u. RangeFits program r u) (λ u m'. span at r u) (λ u m' q. number_typed program r (if has_one_number r then 0 else at) u q) t m h
-  is_typed program (BindPat name written p) t m h =
-      bound_typed program name (mode_written to_move written m) t (elaborated program p t m) (is_typed program p t m h)
-  is_typed program (FormPat k fields) t m h =
+  is_typed program most (BindPat name written p) t m h =
+      bound_typed program name (mode_written to_move written m) t (elaborated program p t m) (is_typed program most p t m h)
+  is_typed program most (FormPat k fields) t m h =
       through_typed program (λ u. VariantFits program k u × FormFits program u k (numbers_in fields)
-      × EachType (λ i w. FieldFits program (RangeFits program) fields i w) 0 (types_or_none (node_types program u k)))
+      × EachType (λ i w. FieldFits program (RangeFits program) most fields i w) 0 (types_or_none (node_types program u k)))
       (λ u m'. form program k (λ i w. elaborated_field program fields i w m') u)
-      (λ u m' q. form_typed program (λ i w. FieldFits program (RangeFits program) fields i w) (λ i w. elaborated_field program fields i w m')
-      (λ i w r. field_is_typed program fields i w m' r) k (numbers_in fields) u q.0 q.1 q.2) t m h
-  is_typed program (ListPat front rest back) t m h =
-      through_typed program (λ u. ListFits (λ types i. PatsFit program (RangeFits program) front types i) rest (λ types i. PatsFit program (RangeFits program) back types i) (pats_count front) (pats_count back) u)
+      (λ u m' q. form_typed program (λ i w. FieldFits program (RangeFits program) most fields i w) (λ i w. elaborated_field program fields i w m')
+      (λ i w r. field_is_typed program most fields i w m' r) k (numbers_in fields) u q.0 q.1 q.2) t m h
+  is_typed program most (ListPat front rest back) t m h =
+      through_typed program (λ u. ListFits (λ types i. PatsFit program (RangeFits program) most front types i) rest (λ types i. PatsFit program (RangeFits program) most back types i) (pats_count front) (pats_count back) u)
       (λ u m'. list_of program (makers program front m') rest (makers program back m') u m')
-      (λ u m' q. list_typed program (λ types i. PatsFit program (RangeFits program) front types i) (λ types i. PatsFit program (RangeFits program) back types i) (makers program front m') (makers program back m')
-      (λ types i f. pats_typed program front types i m' f) (λ types i f. pats_typed program back types i m' f) rest u m'
-      (subst (λ n. ListFits (λ types i. PatsFit program (RangeFits program) front types i) rest (λ types i. PatsFit program (RangeFits program) back types i) (length (makers program front m')) n u) (sym (makers_count program back m'))
-      (subst (λ n. ListFits (λ types i. PatsFit program (RangeFits program) front types i) rest (λ types i. PatsFit program (RangeFits program) back types i) n (pats_count back) u) (sym (makers_count program front m')) q)))
+      (λ u m' q. list_typed program (λ types i. PatsFit program (RangeFits program) most front types i) (λ types i. PatsFit program (RangeFits program) most back types i) (makers program front m') (makers program back m')
+      (λ types i f. pats_typed program most front types i m' f) (λ types i f. pats_typed program most back types i m' f) rest u m'
+      (subst (λ n. ListFits (λ types i. PatsFit program (RangeFits program) most front types i) rest (λ types i. PatsFit program (RangeFits program) most back types i) (length (makers program front m')) n u) (sym (makers_count program back m'))
+      (subst (λ n. ListFits (λ types i. PatsFit program (RangeFits program) most front types i) rest (λ types i. PatsFit program (RangeFits program) most back types i) n (pats_count back) u) (sym (makers_count program front m')) q)))
       t m h
-  is_typed program (PointPat mutable p) t m h =
-      pointed_typed program mutable (λ u. Fits program (RangeFits program) p u) (λ u. elaborated program p u (to_move m)) (λ u q. is_typed program p u (to_move m) q) t h
-  is_typed program (OrPat alternatives) t m h = (refl, refl, alternatives_typed program alternatives t m h.1)
+  is_typed program most (PointPat mutable p) t m h =
+      pointed_typed program mutable (λ u. Fits program (RangeFits program) most p u) (λ u. elaborated program p u (to_move m)) (λ u q. is_typed program most p u (to_move m) q) t h
+  is_typed program most (OrPat alternatives) t m h = (refl, refl, alternatives_typed program most alternatives t m h.2)
 
-  field_is_typed : (program : MProgram) (ps : MNumbered) (i : ℕ) (t : MType) (m : Mode) → FieldFits program (RangeFits program) ps i t → Typed program t (elaborated_field program ps i t m)
-  field_is_typed program no_numbered i t m h = wild_typed program t
-  field_is_typed program (more_numbered j p ps) i t m h =
-      field_typed program (nat_eq i j) (Fits program (RangeFits program) p t) (FieldFits program (RangeFits program) ps i t) t (elaborated program p t m) (elaborated_field program ps i t m) h
-      (λ q. is_typed program p t m q) (λ q. field_is_typed program ps i t m q)
+  field_is_typed : (program : MProgram) (most : ℕ) (ps : MNumbered) (i : ℕ) (t : MType) (m : Mode) → FieldFits program (RangeFits program) most ps i t → Typed program t (elaborated_field program ps i t m)
+  field_is_typed program most no_numbered i t m h = wild_typed program t
+  field_is_typed program most (more_numbered j p ps) i t m h =
+      field_typed program (nat_eq i j) (Fits program (RangeFits program) most p t) (FieldFits program (RangeFits program) most ps i t) t (elaborated program p t m) (elaborated_field program ps i t m) h
+      (λ q. is_typed program most p t m q) (λ q. field_is_typed program most ps i t m q)
 
-  pats_typed : (program : MProgram) (ps : MPats) (types : ℕ → MType) (i : ℕ) (m : Mode) → PatsFit program (RangeFits program) ps types i → TypedFrom program types i (makers program ps m)
-  pats_typed program no_pats types i m h = tt
-  pats_typed program (more_pats p ps) types i m h = (is_typed program p (types i) m h.0, pats_typed program ps types (suc i) m h.1)
+  pats_typed : (program : MProgram) (most : ℕ) (ps : MPats) (types : ℕ → MType) (i : ℕ) (m : Mode) → PatsFit program (RangeFits program) most ps types i → TypedFrom program types i (makers program ps m)
+  pats_typed program most no_pats types i m h = tt
+  pats_typed program most (more_pats p ps) types i m h = (is_typed program most p (types i) m h.0, pats_typed program most ps types (suc i) m h.1)
 
-  alternatives_typed : (program : MProgram) (ps : MNumbered) (t : MType) (m : Mode) → AllFit program (RangeFits program) ps t → AreAllTyped (rust_context program) t (elaborated_alternatives program ps t m)
-  alternatives_typed program no_numbered t m h = tt
-  alternatives_typed program (more_numbered at p ps) t m h =
-      (standing_typed program at t (elaborated program p t m) (is_typed program p t m h.0), alternatives_typed program ps t m h.1)
+  alternatives_typed : (program : MProgram) (most : ℕ) (ps : MNumbered) (t : MType) (m : Mode) → AllFit program (RangeFits program) most ps t → AreAllTyped (rust_context program) t (elaborated_alternatives program ps t m)
+  alternatives_typed program most no_numbered t m h = tt
+  alternatives_typed program most (more_numbered at p ps) t m h =
+      (standing_typed program at t (elaborated program p t m) (is_typed program most p t m h.0), alternatives_typed program most ps t m h.1)
