@@ -4,7 +4,9 @@ pub mod KeptLists
 pub mod Fitting
 pub mod KeptRows
 pub mod WaysKept
+pub mod MadeLists
 pub mod Typings
+pub mod EachMade
 pub mod FineNodes
 pub mod FoundThere
 pub mod FormsMet

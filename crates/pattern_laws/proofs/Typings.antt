@@ -20,6 +20,7 @@ use Rattle.pattern_laws.proofs.KeptLeaves.{AtBottom, EachType}
 use Rattle.pattern_laws.proofs.KeptParts.{FormFits}
 use Rattle.pattern_laws.proofs.KeptRows.{next_number, no_more, replicate_length, laid_count, made_count, part_there}
 use Rattle.pattern_laws.proofs.WaysKept.{makers_count}
+use Rattle.pattern_laws.proofs.MadeLists.{MadeFrom, laid_made}
 use Rattle.pattern_laws.proofs.Fitting.{RangeFits, IsBool, IsText, IsUnbound, CountFits, IsNarrow, VariantFits, PointFits, ListFits, FitsIf, pats_count, Fits, FieldFits, PatsFit, AllFit}
 
 -- the pattern is well typed for the type
@@ -119,36 +120,7 @@ form_typed program Q f h k written u b fit q = go (rust_set program u) refl
 
 -- makers make well-typed patterns one by one, each for the type with its number, from number `i` on
 abbrev pub TypedFrom : MProgram → (types : ℕ → MType) → (i : ℕ) → List Maker → Type 0
-TypedFrom program types i [] = Unit {0}
-TypedFrom program types i (f ∷ fs) = Typed program (types i) (f (types i)) × TypedFrom program types (suc i) fs
-
-both_typed : (program : MProgram) (types : ℕ → MType) (i : ℕ) (fs gs : List Maker) → TypedFrom program types i fs → TypedFrom program types (i + length fs) gs →
-    TypedFrom program types i (fs ++ gs)
-both_typed program types i [] gs h k = subst (λ n. TypedFrom program types n gs) (no_more i) k
-both_typed program types i (f ∷ fs) gs h k =
-    (h.0, both_typed program types (suc i) fs gs h.1 (subst (λ n. TypedFrom program types n gs) (sym (next_number i (length fs))) k))
-
-wilds_typed : (program : MProgram) (types : ℕ → MType) (i n : ℕ) → TypedFrom program types i (replicate n wild_maker)
-wilds_typed program types i zero = tt
-wilds_typed program types i (suc n) = (wild_typed program (types i), wilds_typed program types (suc i) n)
-
-laid_typed : (program : MProgram) (types : ℕ → MType) (rest : MRest) (n : ℕ) (fs bs : List Maker) → CountFits rest (length fs + length bs) n →
-    TypedFrom program types 0 fs → TypedFrom program types (n - length bs) bs → TypedFrom program types 0 (laid_out wild_maker fs rest bs n)
-laid_typed program types rest n fs bs c h k = go rest c
-  where
-    there : (d : ℕ) → d ≡ n - length bs → TypedFrom program types d bs
-    there d e = subst (λ x. TypedFrom program types x bs) (sym e) k
-
-    around : length fs + length bs ≤ n → TypedFrom program types 0 (fs ++ (replicate (n - (length fs + length bs)) wild_maker ++ bs))
-    around c =
-        both_typed program types 0 fs (replicate (n - (length fs + length bs)) wild_maker ++ bs) h
-        (both_typed program types (0 + length fs) (replicate (n - (length fs + length bs)) wild_maker) bs (wilds_typed program types (0 + length fs) (n - (length fs + length bs)))
-        (there ((0 + length fs) + length (replicate (n - (length fs + length bs)) wild_maker)) (ap (λ x. (0 + length fs) + x) (replicate_length (n - (length fs + length bs)) wild_maker) ∙ omega (arith, c))))
-
-    go : (rest : MRest) → CountFits rest (length fs + length bs) n → TypedFrom program types 0 (laid_out wild_maker fs rest bs n)
-    go NoRest c = both_typed program types 0 fs bs h (there (0 + length fs) (omega (arith, c)))
-    go SomeRest c = around c
-    go (BoundRest name written) c = around c
+TypedFrom program types i fs = MadeFrom (λ t p. Typed program t p) types i fs
 
 -- makers at the types of a tuple
 made_typed : (program : MProgram) (types : ℕ → MType) (i : ℕ) (fs : List Maker) (ts : MTypes) → ((j : ℕ) (u : MType) → slice_get (types_list ts) j ≡ Some u → types (i + j) ≡ u) →
@@ -167,7 +139,7 @@ tuple_typed : (program : MProgram) (rest : MRest) (ts : MTypes) (fs bs : List Ma
     Typed program (TupleType ts) (tuple_of fs rest bs (TupleType ts) ts)
 tuple_typed program rest ts fs bs c h k =
     let parts = made_typed program (part_type (TupleType ts) (Some ts)) 0 (laid_out wild_maker fs rest bs (length (types_list ts))) ts (part_there (TupleType ts) ts)
-    (laid_count wild_maker rest (length (types_list ts)) fs bs c) (laid_typed program (part_type (TupleType ts) (Some ts)) rest (length (types_list ts)) fs bs c h k) in
+    (laid_count wild_maker rest (length (types_list ts)) fs bs c) (laid_made (λ t p. Typed program t p) (wild_typed program) (part_type (TupleType ts) (Some ts)) rest (length (types_list ts)) fs bs c h k) in
     (refl, refl, (refl, parts.0, parts.1))
 
 -- items at one type
