@@ -249,6 +249,7 @@ mutual
 
   alternatives_differ : (s : Setting) (before : List (List ℕ)) (p : Place) (ps : PatternTrees) (t : MType) → AllFine s (alternative_nodes s before p ps) → EachDiffers (alternatives s t ps)
   alternatives_differ s before p none t h = tt
-  alternatives_differ s before p (more q qs) t h =
-      (tree_differs s Elsewhere before p q t (fine_left s (nodes s Elsewhere before p q) (alternative_nodes s before p qs) h),
-        alternatives_differ s before p qs t (fine_right s (nodes s Elsewhere before p q) (alternative_nodes s before p qs) h))
+  alternatives_differ s before p (more q qs) t h = (
+    tree_differs s Elsewhere before p q t (fine_left s (nodes s Elsewhere before p q) (alternative_nodes s before p qs) h),
+    alternatives_differ s before p qs t (fine_right s (nodes s Elsewhere before p q) (alternative_nodes s before p qs) h),
+  )

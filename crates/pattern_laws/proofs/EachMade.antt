@@ -42,7 +42,6 @@ module _ (program : MProgram) (Holds : MRange → MType → Type 0) (most : ℕ)
     (choice : (t : MType) (subs : MDePats MType) → HasTwo subs → length (de_pats_list subs) ≤ most → EachIs Q subs → Q (over OrCtor t subs))
     (bound : (b : MBound) (p : Built) → Q p → Q (with_bound b p))
     (standing : (a : ℕ) (p : Built) → Q p → Q (standing_at a p)) where
-
   through_each : (P : MType → Type 0) (f : MType → Mode → Built) → ((u : MType) (m : Mode) → P u → Q (f u m)) → (t : MType) (m : Mode) → AtBottom P t → Q (through_type f t m)
   through_each P f h (PointType n t) m p = reference (PointType n t) (through_type f t (mode_behind n m)) (through_each P f h t (mode_behind n m) p)
   through_each P f h u m p = h u m p

@@ -7,6 +7,7 @@ pub mod WaysKept
 pub mod MadeLists
 pub mod Typings
 pub mod EachMade
+pub mod Everywhere
 pub mod FineNodes
 pub mod FoundThere
 pub mod FormsMet

@@ -105,11 +105,11 @@ bound_binds n name m part (de_pat c t uid at subs binds) new h = record { within
   where
     apart : are_apart (bound_names binds) (names_in_all subs) ≡ true
     apart = both_left (are_apart (bound_names binds) (names_in_all subs)) (if_or c (names_differ_in_each subs) (names_differ_in_all subs))
-      (both_right (are_distinct (bound_names binds)) (are_apart (bound_names binds) (names_in_all subs) && if_or c (names_differ_in_each subs) (names_differ_in_all subs)) h.differ)
+        (both_right (are_distinct (bound_names binds)) (are_apart (bound_names binds) (names_in_all subs) && if_or c (names_differ_in_each subs) (names_differ_in_all subs)) h.differ)
 
     below : if_or c (names_differ_in_each subs) (names_differ_in_all subs) ≡ true
     below = both_right (are_apart (bound_names binds) (names_in_all subs)) (if_or c (names_differ_in_each subs) (names_differ_in_all subs))
-      (both_right (are_distinct (bound_names binds)) (are_apart (bound_names binds) (names_in_all subs) && if_or c (names_differ_in_each subs) (names_differ_in_all subs)) h.differ)
+        (both_right (are_distinct (bound_names binds)) (are_apart (bound_names binds) (names_in_all subs) && if_or c (names_differ_in_each subs) (names_differ_in_all subs)) h.differ)
 
     within : (x : List ℕ) → In x (name ∷ (bound_names binds ++ names_in_all subs)) → In x (name ∷ n)
     within x (inl e) = inl e

@@ -353,7 +353,6 @@ module _ (Holds : MRange → MType → Type 0) (most : ℕ) where
       shape_fits standing before p from (patterns.Range low high closed) d f n h =
           at_bottom (λ u. Holds (range_meant s.width (bottom_type p.type) low high closed) u) p.type
           (holds (record { at = from; shape = patterns.Range low high closed; standing = standing; place = p; before = before }) (range_meant s.width (bottom_type p.type) low high closed) n refl (range_pattern_fits s low high closed (bottom_type p.type) f (fine (record { at = from; shape = patterns.Range low high closed; standing = standing; place = p; before = before }) n).kind (fine (record { at = from; shape = patterns.Range low high closed; standing = standing; place = p; before = before }) n).type (fine (record { at = from; shape = patterns.Range low high closed; standing = standing; place = p; before = before }) n).range (fine (record { at = from; shape = patterns.Range low high closed; standing = standing; place = p; before = before }) n).ends))
-
       shape_fits standing before p from (patterns.Or ps) d f n h =
           (two_there s p.type ps (both_left (are_two ps) (all_are_spelled ps) f), few_alternatives s p.type before p ps (few (alternative_nodes s before p ps) h), alternatives_fit before p ps d (both_right (are_two ps) (all_are_spelled ps) f) h)
 

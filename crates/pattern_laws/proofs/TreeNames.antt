@@ -115,16 +115,18 @@ ItemsFine s before (more q qs) = ((standing : Standing) × (p : Place) × AllFin
 
 pub parts_items : (s : Setting) (before : List (List ℕ)) (types : ℕ → MType) (m : Mode) (parts i : ℕ) (ps : PatternTrees) → AllFine s (part_nodes s before types m parts i ps) → ItemsFine s before ps
 parts_items s before types m parts i none h = tt
-parts_items s before types m parts i (more q qs) h =
-    ((Elsewhere, place (types i) m, fine_left s (nodes s Elsewhere before (place (types i) m) q) (part_nodes s (before ++ names_bound s q) types m parts (part_behind parts i q qs) qs) h),
-      parts_items s (before ++ names_bound s q) types m parts (part_behind parts i q qs) qs
-      (fine_right s (nodes s Elsewhere before (place (types i) m) q) (part_nodes s (before ++ names_bound s q) types m parts (part_behind parts i q qs) qs) h))
+parts_items s before types m parts i (more q qs) h = (
+  (Elsewhere, place (types i) m, fine_left s (nodes s Elsewhere before (place (types i) m) q) (part_nodes s (before ++ names_bound s q) types m parts (part_behind parts i q qs) qs) h),
+  parts_items s (before ++ names_bound s q) types m parts (part_behind parts i q qs) qs
+      (fine_right s (nodes s Elsewhere before (place (types i) m) q) (part_nodes s (before ++ names_bound s q) types m parts (part_behind parts i q qs) qs) h),
+)
 
 pub row_items : (s : Setting) (before : List (List ℕ)) (t : MType) (items : ℕ) (m : Mode) (ps : PatternTrees) → AllFine s (item_nodes s before t items m ps) → ItemsFine s before ps
 row_items s before t items m none h = tt
-row_items s before t items m (more q qs) h =
-    ((AsItem, place (slice_item_type t items q) m, fine_left s (nodes s AsItem before (place (slice_item_type t items q) m) q) (item_nodes s (before ++ names_bound s q) t items m qs) h),
-      row_items s (before ++ names_bound s q) t items m qs (fine_right s (nodes s AsItem before (place (slice_item_type t items q) m) q) (item_nodes s (before ++ names_bound s q) t items m qs) h))
+row_items s before t items m (more q qs) h = (
+  (AsItem, place (slice_item_type t items q) m, fine_left s (nodes s AsItem before (place (slice_item_type t items q) m) q) (item_nodes s (before ++ names_bound s q) t items m qs) h),
+  row_items s (before ++ names_bound s q) t items m qs (fine_right s (nodes s AsItem before (place (slice_item_type t items q) m) q) (item_nodes s (before ++ names_bound s q) t items m qs) h),
+)
 
 pub list_new : (s : Setting) (before : List (List ℕ)) (ps : PatternTrees) → ItemsFine s before ps → New (names_of_all s ps) before
 list_new s before none h = λ x a b. a
