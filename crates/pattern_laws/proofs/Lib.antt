@@ -8,6 +8,8 @@ pub mod MadeLists
 pub mod Typings
 pub mod EachMade
 pub mod Everywhere
+pub mod Choices
+pub mod TreeCounts
 pub mod FineNodes
 pub mod FoundThere
 pub mod FormsMet
