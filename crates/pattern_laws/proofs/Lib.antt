@@ -19,10 +19,10 @@ pub mod NumbersFit
 pub mod BottomTypes
 pub mod LiteralsFit
 pub mod TreeFits
-pub mod ArmsKept
 pub mod NameLists
 pub mod PatNames
 pub mod TreeNames
 pub mod BoundNames
 pub mod MadeNames
 pub mod ElaboratedNames
+pub mod ArmsKept

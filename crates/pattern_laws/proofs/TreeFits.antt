@@ -37,6 +37,10 @@ use Rattle.pattern_laws.proofs.ListCounts.{behind, backs_behind, count_fits, nar
 use Rattle.pattern_laws.proofs.LiteralsFit.{let_in, literal_pattern_fits, range_pattern_fits}
 use Rattle.pattern_laws.proofs.BottomTypes.{at_bottom, bottom_is_type, inner_is_type, part_is_type}
 
+-- a pattern has a node
+pub some_nodes : (s : Setting) (standing : Standing) (before : List (List ℕ)) (p : Place) (q : PatternTree) → 1 ≤ length (nodes s standing before p q)
+some_nodes s standing before p (At from shape) = omega arith
+
 module _ (Holds : MRange → MType → Type 0) (most : ℕ) where
   -- the written fields all fit the types of their numbers
   abbrev pub NumberedFit : MProgram → (types : ℕ → MType) → MNumbered → Type 0
@@ -253,9 +257,6 @@ module _ (Holds : MRange → MType → Type 0) (most : ℕ) where
   name_fits s name t d false e h = rw e tt
 
   -- there are at most as many alternatives as nodes
-  some_nodes : (s : Setting) (standing : Standing) (before : List (List ℕ)) (p : Place) (q : PatternTree) → 1 ≤ length (nodes s standing before p q)
-  some_nodes s standing before p (At from shape) = omega arith
-
   few_alternatives : (s : Setting) (t : MType) (before : List (List ℕ)) (p : Place) (ps : PatternTrees) → length (alternative_nodes s before p ps) ≤ most → numbered_count (alternatives s t ps) ≤ most
   few_alternatives s t before p ps h = omega (arith, h, at_most ps)
     where
