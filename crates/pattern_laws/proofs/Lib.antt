@@ -25,4 +25,6 @@ pub mod TreeNames
 pub mod BoundNames
 pub mod MadeNames
 pub mod ElaboratedNames
+pub mod Renamed
+pub mod Settled
 pub mod ArmsKept
