@@ -27,4 +27,6 @@ pub mod MadeNames
 pub mod ElaboratedNames
 pub mod Renamed
 pub mod Settled
+pub mod Reading
+pub mod ReadingOrder
 pub mod ArmsKept
