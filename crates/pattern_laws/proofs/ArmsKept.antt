@@ -15,7 +15,7 @@ use Rattle.pattern_rules.specs.Settings.{Setting, program, place}
 use Rattle.pattern_rules.specs.Nodes.{Node, Elsewhere, nodes, offset_of}
 use Rattle.pattern_rules.specs.Faults.{ArmNode, scrutinee_type, nodes_of_arm}
 use Rattle.pattern_rules.specs.NodeRules.{type_met}
-use Rattle.pattern_rules.specs.ArenaForms.{all_within, is_or}
+use Rattle.pattern_rules.specs.ArenaForms.{all_within, is_or, in_reading}
 use Rattle.pattern_rules.specs.Promises.{range_written, IsWritten}
 use Rattle.pattern_rules.specs.Builders.{Built}
 use Rattle.pattern_rules.specs.Resolved.{resolved}
@@ -31,6 +31,13 @@ use Rattle.pattern_laws.proofs.MadeNames.{standing_binds}
 use Rattle.pattern_laws.proofs.ElaboratedNames.{binds}
 use Rattle.pattern_laws.proofs.Everywhere.{Every, every_at, RangeHolds, FewChoices, lone_made, texts_made, ranges_made, few_made}
 use Rattle.pattern_laws.proofs.Choices.{choices, chooses, standing_chooses}
+use Rattle.pattern_laws.specs.Spelled.{choice_offsets}
+use Rattle.match_model.specs.Match.{alternatives_in}
+use Rattle.match_model.specs.SourcePatterns.{ids_in}
+use Rattle.match_model.specs.ArenaWays.{arena_alternatives}
+use Rattle.pattern_laws.proofs.Reading.{Rising, rising, same_reading}
+use Rattle.pattern_laws.proofs.ReadingOrder.{standing_has, has_alternatives, are_named}
+use Rattle.pattern_laws.proofs.ChoiceOffsets.{tree_offsets, some_rising}
 use Rattle.pattern_laws.proofs.TreeCounts.{tree_choices, node_count}
 use Rattle.pattern_laws.proofs.WaysKept.{keeps}
 use Rattle.pattern_laws.proofs.Typings.{is_typed, standing_typed}
@@ -127,16 +134,37 @@ some_node s f a = some_nodes s Elsewhere [] (place (scrutinee_type s f) Move) a.
 among_every : (E : Built → Type 0) (xs : List Built) (q : Built) → Contains xs q → Every E xs → E q
 among_every E xs q c h = every_at E xs c.0 q (slice_get_read xs (length xs) c.0 q refl c.1 (sym c.2)) h
 
+-- its ranges and its alternatives
+pub arm_ranges : (s : Setting) (f : FunctionTree) (a : ArmTree) → IsSoundArm s f a → Every (RangeHolds (λ w t. IsWritten s f a t w)) (all_within (elaborated_arm s f a))
+arm_ranges s f a h =
+    ranges_made (program s) (λ w t. IsWritten s f a t w) (length (arm_nodes s f a)) (offset_of a.pattern) (resolved s (scrutinee_type s f) a.pattern) (scrutinee_type s f) Move (arm_written s f a h)
+
+pub arm_few : (s : Setting) (f : FunctionTree) (a : ArmTree) → IsSoundArm s f a → Every (FewChoices (length (arm_nodes s f a))) (all_within (elaborated_arm s f a))
+arm_few s f a h =
+    few_made (program s) (RangeFits (program s)) (length (arm_nodes s f a)) (offset_of a.pattern) (resolved s (scrutinee_type s f) a.pattern) (scrutinee_type s f) Move (some_node s f a) (arm_fits s f a h)
+
+-- in reading order its alternatives are those of the pattern that the written one means
+pub arm_reading : (s : Setting) (f : FunctionTree) (a : ArmTree) → IsSoundArm s f a →
+    in_reading (arena_alternatives (elaborated_arm s f a)) ≡ alternatives_in (resolved s (scrutinee_type s f) a.pattern)
+arm_reading s f a h =
+    same_reading (arena_alternatives (elaborated_arm s f a)) (alternatives_in (resolved s (scrutinee_type s f) a.pattern))
+    (standing_has (alternatives_in (resolved s (scrutinee_type s f) a.pattern)) (offset_of a.pattern) (elaborated (program s) (resolved s (scrutinee_type s f) a.pattern) (scrutinee_type s f) Move)
+    (has_alternatives (program s) (RangeFits (program s)) (length (arm_nodes s f a)) (resolved s (scrutinee_type s f) a.pattern) (scrutinee_type s f) Move (arm_fits s f a h) rises))
+    (are_named (resolved s (scrutinee_type s f) a.pattern)) rises
+  where
+    rises : Rising (ids_in (alternatives_in (resolved s (scrutinee_type s f) a.pattern)))
+    rises = some_rising (ids_in (alternatives_in (resolved s (scrutinee_type s f) a.pattern))) (choice_offsets a.pattern) (tree_offsets s (scrutinee_type s f) a.pattern) (rising (choice_offsets a.pattern) h.ascend)
+
 pub arms_in_form : ArmsAreInForm
 arms_in_form s f a h = record {
   offset = (standing_keeps (offset_of a.pattern) (elaborated (program s) (resolved s (scrutinee_type s f) a.pattern) (scrutinee_type s f) Move) Unseen).2;
   lone = lone_made (program s) (RangeFits (program s)) (length (arm_nodes s f a)) (offset_of a.pattern) (resolved s (scrutinee_type s f) a.pattern) (scrutinee_type s f) Move (arm_fits s f a h);
   text = texts_made (program s) (RangeFits (program s)) (length (arm_nodes s f a)) (offset_of a.pattern) (resolved s (scrutinee_type s f) a.pattern) (scrutinee_type s f) Move (arm_fits s f a h);
   range = λ q r c e. among_every (RangeHolds (λ w t. IsWritten s f a t w)) (all_within (elaborated_arm s f a)) q c
-    (ranges_made (program s) (λ w t. IsWritten s f a t w) (length (arm_nodes s f a)) (offset_of a.pattern) (resolved s (scrutinee_type s f) a.pattern) (scrutinee_type s f) Move (arm_written s f a h)) r e;
+    (arm_ranges s f a h) r e;
   few = omega (arith, standing_chooses (choices (resolved s (scrutinee_type s f) a.pattern)) (offset_of a.pattern) (elaborated (program s) (resolved s (scrutinee_type s f) a.pattern) (scrutinee_type s f) Move)
     (chooses (program s) (resolved s (scrutinee_type s f) a.pattern) (scrutinee_type s f) Move), tree_choices s (scrutinee_type s f) a.pattern);
   narrow = λ q c o. omega (arith, among_every (FewChoices (length (arm_nodes s f a))) (all_within (elaborated_arm s f a)) q c
-    (few_made (program s) (RangeFits (program s)) (length (arm_nodes s f a)) (offset_of a.pattern) (resolved s (scrutinee_type s f) a.pattern) (scrutinee_type s f) Move (some_node s f a) (arm_fits s f a h)) o,
+    (arm_few s f a h) o,
     node_count s Elsewhere [] (place (scrutinee_type s f) Move) a.pattern);
 }

@@ -29,4 +29,6 @@ pub mod Renamed
 pub mod Settled
 pub mod Reading
 pub mod ReadingOrder
+pub mod ChoiceOffsets
 pub mod ArmsKept
+pub mod ShownKept

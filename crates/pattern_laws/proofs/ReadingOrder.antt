@@ -74,7 +74,7 @@ bound_has : (x : Alternatives) (b : MBound) (p : Built) → Has x p → Has x (w
 bound_has x b (de_pat c t u a subs binds) h = h
 
 -- an alternative
-standing_has : (x : Alternatives) (here : ℕ) (p : Built) → Has x p → Has x (standing_at here p)
+pub standing_has : (x : Alternatives) (here : ℕ) (p : Built) → Has x p → Has x (standing_at here p)
 standing_has x here (de_pat c t u a subs binds) h = go (is_wide_ctor c && not (nat_eq here a))
   where
     go : (b : Bool) → Has x (if b then de_pat OrCtor t here here (more_de_pats (de_pat c t a a subs binds) no_de_pats) [] else de_pat c t here here subs binds)

@@ -6,6 +6,7 @@ use Rattle.match_model.specs.Values.{MValue}
 use Rattle.match_model.specs.Typing.{InDomain}
 use Rattle.match_model.specs.RustTypes.{rust_context, is_type, IsSoundProgram}
 use Rattle.match_model.specs.Matching.{ways}
+use Rattle.match_model.specs.SourcePatterns.{ascend}
 use Rattle.match_model.specs.ArenaPatterns.{at_of}
 use Rattle.match_model.specs.ArenaWays.{arena_ways}
 use Rattle.match_model.specs.WellTyped.{IsTyped, names_differ}
@@ -20,15 +21,17 @@ use Rattle.pattern_rules.specs.ArenaForms.{all_within, subs_in, is_or, lone_rang
 use Rattle.pattern_rules.specs.Promises.{texts_are_referred, HasWrittenRanges}
 use Rattle.pattern_rules.specs.Builders.{Built}
 use Rattle.pattern_rules.specs.Elaborated.{elaborated, standing_at}
-use Rattle.pattern_laws.specs.Spelled.{is_spelled}
+use Rattle.pattern_laws.specs.Spelled.{is_spelled, choice_offsets}
 
--- a function that breaks no rule, in a file whose types are sound, and one of its arms, as tokens spell it
+-- a function that breaks no rule, in a file whose types are sound, and one of its arms, as tokens spell it; offsets ascend from
+-- left to right
 pub record IsSoundArm (s : Setting) (f : FunctionTree) (a : ArmTree) : Type 0 where
   pub sound : IsSoundProgram (program s)
   pub type_is : IsTrue (is_type (program s) (scrutinee_type s f))
   pub fine : BreaksNone s f
   pub among : Contains f.arms a
   pub spelled : IsTrue (is_spelled a.pattern)
+  pub ascend : IsTrue (ascend (choice_offsets a.pattern))
 
 -- what the arm's pattern becomes, at its offset
 abbrev pub elaborated_arm : Setting → FunctionTree → ArmTree → Built

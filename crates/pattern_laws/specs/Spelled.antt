@@ -1,11 +1,11 @@
--- What every pattern has that tokens spell: none that a table of rules tests, but which the trees of patterns alone do not keep.
-use Rattle.std.specs.Prelude.{ℕ, Bool, true, false, not, ◌&&◌, ◌||◌, chars, nat_le, Option, Some, None}
+-- What every pattern has that tokens spell, and that no rule tests.
+use Rattle.std.specs.Prelude.{ℕ, Bool, true, false, not, ◌&&◌, ◌||◌, List, [], ◌∷◌, ◌++◌, chars, nat_le, Option, Some, None}
 use Rattle.std.specs.List.{list_all}
 use Rattle.match_model.specs.Texts.{is_scalar}
 use Rattle.decl_syntax.specs.Patterns.{PatternTree, At, Shape, PatternTrees, FieldTrees, no_field, and_field, LitTree, Flag, Char, Byte, Int, Str, Other}
 use Rattle.decl_syntax.specs.Patterns as patterns
 use Rattle.decl_syntax.specs.Widths.{pattern_count, most_parts}
-use Rattle.pattern_rules.specs.Nodes.{shape_of, is_dots}
+use Rattle.pattern_rules.specs.Nodes.{offset_of, shape_of, is_dots}
 
 -- a character is a scalar value, a byte is at most 255, and a text is one of scalar values
 abbrev pub literal_is_spelled : LitTree → Bool
@@ -66,3 +66,35 @@ abbrev mutual
   pub fields_are_spelled : FieldTrees → Bool
   fields_are_spelled no_field = true
   fields_are_spelled (and_field name short attrs p fs) = is_spelled p && fields_are_spelled fs
+
+abbrev mutual
+  -- the offsets of the alternatives in a pattern, in reading order
+  pub choice_offsets : PatternTree → List ℕ
+  choice_offsets (At from shape) = offsets_within shape
+
+  -- those in a form
+  pub offsets_within : Shape → List ℕ
+  offsets_within (patterns.BindAs name by_ref mutable p) = choice_offsets p
+  offsets_within (patterns.TupleForm path ps) = offsets_in_all ps
+  offsets_within (patterns.Brace path fs rest) = offsets_in_fields fs
+  offsets_within (patterns.Tuple ps) = offsets_in_all ps
+  offsets_within (patterns.Group p) = choice_offsets p
+  offsets_within (patterns.Slice ps) = offsets_in_all ps
+  offsets_within (patterns.Point mutable p) = choice_offsets p
+  offsets_within (patterns.Or ps) = offsets_of_each ps
+  offsets_within _ = []
+
+  -- those in the patterns of a list
+  pub offsets_in_all : PatternTrees → List ℕ
+  offsets_in_all patterns.none = []
+  offsets_in_all (patterns.more p ps) = choice_offsets p ++ offsets_in_all ps
+
+  -- those in the patterns of fields
+  pub offsets_in_fields : FieldTrees → List ℕ
+  offsets_in_fields no_field = []
+  offsets_in_fields (and_field name short attrs p fs) = choice_offsets p ++ offsets_in_fields fs
+
+  -- those of alternatives, and those inside each
+  pub offsets_of_each : PatternTrees → List ℕ
+  offsets_of_each patterns.none = []
+  offsets_of_each (patterns.more p ps) = offset_of p ∷ (choice_offsets p ++ offsets_of_each ps)

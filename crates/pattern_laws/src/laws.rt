@@ -1,5 +1,6 @@
 //! Each function has an empty body, and its contract is a law.
 ghost use Rattle.pattern_laws.specs.Laws.{ArmsAreInForm, ArmsAreTyped, NamesAreApart, WaysAreKept};
+ghost use Rattle.pattern_laws.specs.ShownLaws.{ShownMatchIsKept, ShownNamesDiffer};
 
 /// The pattern that an arm's becomes has the ways that the written one means.
 pub fn ways_are_kept()
@@ -20,3 +21,25 @@ pub fn names_are_apart()
 pub fn arms_are_in_form()
     ensures { ArmsAreInForm }
 {}
+
+/// A match that shows the function's arms, without their uids, keeps all that is promised of it.
+pub fn shown_match_is_kept<T>()
+    ensures { ShownMatchIsKept T }
+{}
+
+/// The names of each of its patterns differ.
+pub fn shown_names_differ<T>()
+    ensures { ShownNamesDiffer T }
+{}
+
+#[cfg(test)]
+mod tests {
+    use super::*;
+
+    // a generic law is proved from its bounds alone, so each is called once at a type
+    #[test]
+    fn generic_laws_hold_at_a_type(_rt: HostRuntime) {
+        shown_match_is_kept::<u32>();
+        shown_names_differ::<u32>();
+    }
+}
