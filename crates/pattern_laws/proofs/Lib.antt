@@ -32,3 +32,4 @@ pub mod ReadingOrder
 pub mod ChoiceOffsets
 pub mod ArmsKept
 pub mod ShownKept
+pub mod TypedShown

@@ -1,6 +1,6 @@
 //! Each function has an empty body, and its contract is a law.
 ghost use Rattle.pattern_laws.specs.Laws.{ArmsAreInForm, ArmsAreTyped, NamesAreApart, WaysAreKept};
-ghost use Rattle.pattern_laws.specs.ShownLaws.{ShownMatchIsKept, ShownNamesDiffer};
+ghost use Rattle.pattern_laws.specs.ShownLaws.{ShownArmIsTyped, ShownMatchIsKept, ShownNamesDiffer};
 
 /// The pattern that an arm's becomes has the ways that the written one means.
 pub fn ways_are_kept()
@@ -32,6 +32,11 @@ pub fn shown_names_differ<T>()
     ensures { ShownNamesDiffer T }
 {}
 
+/// Each of its patterns is well typed, for a context that is seen through the types of the program.
+pub fn shown_arm_is_typed<T>()
+    ensures { ShownArmIsTyped T }
+{}
+
 #[cfg(test)]
 mod tests {
     use super::*;
@@ -41,5 +46,6 @@ mod tests {
     fn generic_laws_hold_at_a_type(_rt: HostRuntime) {
         shown_match_is_kept::<u32>();
         shown_names_differ::<u32>();
+        shown_arm_is_typed::<u32>();
     }
 }
