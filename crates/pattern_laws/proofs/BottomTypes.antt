@@ -30,12 +30,14 @@ inner_is_type p (ArrayType t n) d = both_left (is_type p t) (nat_lt n (2 ^ 32)) 
 inner_is_type p t d = d
 
 -- a type of a list of types of the program
-one_is_type : (p : MProgram) (t : MType) (ts : MTypes) (i : ℕ) → is_type p t ≡ true → are_types p ts ≡ true → is_type p (type_or t (slice_get (types_list ts) i)) ≡ true
+one_is_type : (p : MProgram) (t : MType) (ts : MTypes) (i : ℕ) → is_type p t ≡ true → are_types p ts ≡ true →
+    is_type p (type_or t (slice_get (types_list ts) i)) ≡ true
 one_is_type p t no_types i d e = d
 one_is_type p t (more_types u us) zero d e = both_left (is_type p u) (are_types p us) e
 one_is_type p t (more_types u us) (suc i) d e = one_is_type p t us i d (both_right (is_type p u) (are_types p us) e)
 
-pub part_is_type : (p : MProgram) → IsSoundProgram p → (u : MType) (k i : ℕ) → is_type p u ≡ true → is_type p (part_type u (node_types p u k) i) ≡ true
+pub part_is_type : (p : MProgram) → IsSoundProgram p → (u : MType) (k i : ℕ) → is_type p u ≡ true →
+    is_type p (part_type u (node_types p u k) i) ≡ true
 part_is_type p sound u k i d = go (node_types p u k) refl
   where
     go : (o : Option MTypes) → node_types p u k ≡ o → is_type p (part_type u o i) ≡ true

@@ -22,7 +22,8 @@ either_right true b h = cc
 either_right false b h = h
 
 -- what no element passes
-pub none_passes : {A : Type 0} (f : A → Bool) (xs : List A) (k : ℕ) (x : A) → slice_get xs k ≡ Some x → list_any f xs ≡ false → f x ≡ false
+pub none_passes : {A : Type 0} (f : A → Bool) (xs : List A) (k : ℕ) (x : A) → slice_get xs k ≡ Some x →
+    list_any f xs ≡ false → f x ≡ false
 none_passes f [] k x e h = cc
 none_passes f (y ∷ ys) zero x e h = let same : y ≡ x = cc in ap f (sym same) ∙ either_left (f y) (list_any f ys) h
 none_passes f (y ∷ ys) (suc k) x e h = none_passes f ys k x e (either_right (f y) (list_any f ys) h)
@@ -41,7 +42,8 @@ pub record NodeFine (s : Setting) (n : Node) : Type 0 where
   pub kind : is_unsupported_pattern s n ≡ false
 
 -- a rule that the node does not break
-fine_rule : (s : Setting) (n : Node) (rule k : ℕ) (r : NodeRule) → slice_get node_rules k ≡ Some r → breaks node_rules s n rule ≡ false → (nat_eq r.rule rule && r.broken s n) ≡ false
+fine_rule : (s : Setting) (n : Node) (rule k : ℕ) (r : NodeRule) → slice_get node_rules k ≡ Some r →
+    breaks node_rules s n rule ≡ false → (nat_eq r.rule rule && r.broken s n) ≡ false
 fine_rule s n rule k r e h = none_passes (λ q. nat_eq q.rule rule && q.broken s n) node_rules k r e h
 
 pub node_fine : (s : Setting) (n : Node) → ((rule : ℕ) → breaks node_rules s n rule ≡ false) → NodeFine s n
@@ -88,7 +90,8 @@ ArmsFine s (n ∷ ns) = NodeFine s n.node × ArmsFine s ns
 
 arms_fine : (s : Setting) (ns : List ArmNode) → NoNodeBreaks node_rules s ns → ArmsFine s ns
 arms_fine s [] h = tt
-arms_fine s (n ∷ ns) h = (node_fine s n.node (λ rule. h 0 rule n refl), arms_fine s ns (λ i rule m e. h (suc i) rule m e))
+arms_fine s (n ∷ ns) h =
+    (node_fine s n.node (λ rule. h 0 rule n refl), arms_fine s ns (λ i rule m e. h (suc i) rule m e))
 
 arms_left : (s : Setting) (ns ms : List ArmNode) → ArmsFine s (ns ++ ms) → ArmsFine s ns
 arms_left s [] ms h = tt
@@ -98,22 +101,30 @@ arms_right : (s : Setting) (ns ms : List ArmNode) → ArmsFine s (ns ++ ms) → 
 arms_right s [] ms h = h
 arms_right s (n ∷ ns) ms h = arms_right s ns ms h.1
 
-of_arm : (s : Setting) (i : ℕ) (ns : List Node) → ArmsFine s (map (λ n. record { arm = i; node = n }) ns) → AllFine s ns
+of_arm : (s : Setting) (i : ℕ) (ns : List Node) → ArmsFine s (map (λ n. record { arm = i; node = n }) ns) →
+    AllFine s ns
 of_arm s i [] h = tt
 of_arm s i (n ∷ ns) h = (h.0, of_arm s i ns h.1)
 
 -- the nodes of an arm among these
-arm_among : (s : Setting) (t : MType) (i : ℕ) (arms : List ArmTree) (k : ℕ) (a : ArmTree) → ArmsFine s (nodes_of_arms s t i arms) → slice_get arms k ≡ Some a →
+arm_among : (s : Setting) (t : MType) (i : ℕ) (arms : List ArmTree) (k : ℕ) (a : ArmTree) →
+    ArmsFine s (nodes_of_arms s t i arms) → slice_get arms k ≡ Some a →
     AllFine s (nodes s Elsewhere [] (place t Move) a.pattern)
 arm_among s t i [] k a h e = cc
 arm_among s t i (b ∷ arms) zero a h e =
     let same : b ≡ a = cc in
-    subst (λ c. AllFine s (nodes s Elsewhere [] (place t Move) c.pattern)) same (of_arm s i (nodes s Elsewhere [] (place t Move) b.pattern) (arms_left s (nodes_of_arm s t i b) (nodes_of_arms s t (suc i) arms) h))
-arm_among s t i (b ∷ arms) (suc k) a h e = arm_among s t (suc i) arms k a (arms_right s (nodes_of_arm s t i b) (nodes_of_arms s t (suc i) arms) h) e
+    subst (λ c. AllFine s (nodes s Elsewhere [] (place t Move) c.pattern)) same
+    (of_arm s i (nodes s Elsewhere [] (place t Move) b.pattern)
+    (arms_left s (nodes_of_arm s t i b) (nodes_of_arms s t (suc i) arms) h))
+arm_among s t i (b ∷ arms) (suc k) a h e = arm_among s t (suc i) arms k a
+    (arms_right s (nodes_of_arm s t i b) (nodes_of_arms s t (suc i) arms) h) e
 
-there : {A : Type 0} (xs : List A) (k : ℕ) (x : A) → k < length xs → slice_index_or xs k x ≡ x → slice_get xs k ≡ Some x
+there : {A : Type 0} (xs : List A) (k : ℕ) (x : A) → k < length xs → slice_index_or xs k x ≡ x →
+    slice_get xs k ≡ Some x
 there xs k x lt e = slice_get_read xs (length xs) k x refl lt (sym e)
 
 -- in a function that breaks no rule the nodes of each arm pass the tests
-pub arm_fine : (s : Setting) (f : FunctionTree) (a : ArmTree) → BreaksNone s f → Contains f.arms a → AllFine s (nodes s Elsewhere [] (place (scrutinee_type s f) Move) a.pattern)
-arm_fine s f a h c = arm_among s (scrutinee_type s f) 0 f.arms c.0 a (arms_fine s (function_nodes s f) h.nodes_fine) (there f.arms c.0 a c.1 c.2)
+pub arm_fine : (s : Setting) (f : FunctionTree) (a : ArmTree) → BreaksNone s f → Contains f.arms a →
+    AllFine s (nodes s Elsewhere [] (place (scrutinee_type s f) Move) a.pattern)
+arm_fine s f a h c = arm_among s (scrutinee_type s f) 0 f.arms c.0 a (arms_fine s (function_nodes s f) h.nodes_fine)
+    (there f.arms c.0 a c.1 c.2)

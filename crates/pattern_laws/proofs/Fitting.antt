@@ -63,13 +63,16 @@ PointFits mutable P (PointType n t) = (mutable ≡ n) × P t
 PointFits mutable P _ = ⊥
 
 -- what a list asks of the type: of a slice or array that both ends fit the items, of a tuple that each item fits its part
-abbrev pub ListFits : (front : (ℕ → MType) → ℕ → Type 0) → MRest → (back : (ℕ → MType) → ℕ → Type 0) → (fronts backs : ℕ) → MType → Type 0
-ListFits front rest back fronts backs (SliceType item) = IsNarrow (fronts + backs) × front (λ i. item) 0 × back (λ i. item) 0
+abbrev pub ListFits : (front : (ℕ → MType) → ℕ → Type 0) → MRest → (back : (ℕ → MType) → ℕ → Type 0) →
+    (fronts backs : ℕ) → MType → Type 0
+ListFits front rest back fronts backs (SliceType item) = IsNarrow (fronts + backs) × front (λ i. item) 0
+    × back (λ i. item) 0
 ListFits front rest back fronts backs (ArrayType item n) =
     IsNarrow (fronts + backs) × CountFits rest (fronts + backs) n × front (λ i. item) 0 × back (λ i. item) 0
 ListFits front rest back fronts backs (TupleType ts) =
     IsUnbound rest × CountFits rest (fronts + backs) (length (types_list ts))
-    × front (part_type (TupleType ts) (Some ts)) 0 × back (part_type (TupleType ts) (Some ts)) (length (types_list ts) - backs)
+    × front (part_type (TupleType ts) (Some ts)) 0 × back (part_type (TupleType ts) (Some ts))
+    (length (types_list ts) - backs)
 ListFits front rest back fronts backs _ = ⊥
 
 -- of two facts the one that the test says
@@ -91,19 +94,24 @@ abbrev mutual
       AtBottom (λ u. VariantFits program k u × FormFits program u k (numbers_in fields)
       × EachType (λ i w. FieldFits program Holds most fields i w) 0 (types_or_none (node_types program u k))) t
   Fits program Holds most (ListPat front rest back) t =
-      AtBottom (λ u. ListFits (λ types i. PatsFit program Holds most front types i) rest (λ types i. PatsFit program Holds most back types i) (pats_count front) (pats_count back) u) t
+      AtBottom (λ u. ListFits (λ types i. PatsFit program Holds most front types i) rest
+      (λ types i. PatsFit program Holds most back types i) (pats_count front) (pats_count back) u) t
   Fits program Holds most (PointPat mutable p) t = PointFits mutable (λ u. Fits program Holds most p u) t
-  Fits program Holds most (OrPat alternatives) t = (two_or_more alternatives ≡ true) × (numbered_count alternatives ≤ most) × AllFit program Holds most alternatives t
+  Fits program Holds most (OrPat alternatives) t = (two_or_more alternatives ≡ true)
+      × (numbered_count alternatives ≤ most) × AllFit program Holds most alternatives t
 
   -- the field with this number fits the type, if it is written
   pub FieldFits : MProgram → (Holds : MRange → MType → Type 0) → (most : ℕ) → MNumbered → ℕ → MType → Type 0
   FieldFits program Holds most no_numbered i t = Unit {0}
-  FieldFits program Holds most (more_numbered j p ps) i t = FitsIf (nat_eq i j) (Fits program Holds most p t) (FieldFits program Holds most ps i t)
+  FieldFits program Holds most (more_numbered j p ps) i t = FitsIf (nat_eq i j) (Fits program Holds most p t)
+      (FieldFits program Holds most ps i t)
 
   -- the patterns fit the types from number `i` on
-  pub PatsFit : MProgram → (Holds : MRange → MType → Type 0) → (most : ℕ) → MPats → (types : ℕ → MType) → (i : ℕ) → Type 0
+  pub PatsFit : MProgram → (Holds : MRange → MType → Type 0) → (most : ℕ) → MPats → (types : ℕ → MType) → (i : ℕ) →
+      Type 0
   PatsFit program Holds most no_pats types i = Unit {0}
-  PatsFit program Holds most (more_pats p ps) types i = Fits program Holds most p (types i) × PatsFit program Holds most ps types (suc i)
+  PatsFit program Holds most (more_pats p ps) types i = Fits program Holds most p (types i)
+      × PatsFit program Holds most ps types (suc i)
 
   -- the alternatives all fit the type
   pub AllFit : MProgram → (Holds : MRange → MType → Type 0) → (most : ℕ) → MNumbered → MType → Type 0

@@ -39,7 +39,8 @@ suffix_numeric suffix (IntType k) h = tt
 suffix_numeric suffix CharType h = tt
 suffix_numeric suffix u h = absurd (clash (go (nat_eq (length suffix) 0) (int_kind suffix) refl refl))
   where
-    go : (b : Bool) (o : Option IntKind) → nat_eq (length suffix) 0 ≡ b → int_kind suffix ≡ o → has_suffix_type suffix u ≡ false
+    go : (b : Bool) (o : Option IntKind) → nat_eq (length suffix) 0 ≡ b → int_kind suffix ≡ o →
+        has_suffix_type suffix u ≡ false
     go true o e f = rw e refl
     go false None e f = rw (e, f) refl
     go false (Some k) e f = rw (e, f) refl
@@ -50,7 +51,8 @@ suffix_numeric suffix u h = absurd (clash (go (nat_eq (length suffix) 0) (int_ki
 no_char_suffix : (suffix : List ℕ) → has_suffix_type suffix CharType ≡ true → ⊥
 no_char_suffix suffix h = clash (go (nat_eq (length suffix) 0) (int_kind suffix) refl refl)
   where
-    go : (b : Bool) (o : Option IntKind) → nat_eq (length suffix) 0 ≡ b → int_kind suffix ≡ o → has_suffix_type suffix CharType ≡ false
+    go : (b : Bool) (o : Option IntKind) → nat_eq (length suffix) 0 ≡ b → int_kind suffix ≡ o →
+        has_suffix_type suffix CharType ≡ false
     go true o e f = rw e refl
     go false None e f = rw (e, f) refl
     go false (Some k) e f = rw (e, f) refl
@@ -74,13 +76,15 @@ Number : Width → MType → LitTree → Type 0
 Number width u l = (n : ℤ) × (number_of l ≡ Some n) × (is_literal_of width u n ≡ true)
 
 sized : (width : Width) (k : IntKind) (negative : Bool) (size : Option ℕ) (suffix : List ℕ) →
-    is_number_of width (IntType k) (number_of (Int negative size suffix)) ≡ true → Number width (IntType k) (Int negative size suffix)
+    is_number_of width (IntType k) (number_of (Int negative size suffix)) ≡ true → Number width (IntType k)
+    (Int negative size suffix)
 unfolding Number
 sized w k negative None suffix h = cc
 sized w k negative (Some m) suffix h = (signed negative m, refl, h)
 
 -- a literal of a numeric type is a number of it
-literal_number : (width : Width) (u : MType) (l : LitTree) → IsNumeric u → literal_is_spelled l ≡ true → is_refused l ≡ false → has_type l u ≡ true → is_outside width u l ≡ false →
+literal_number : (width : Width) (u : MType) (l : LitTree) → IsNumeric u → literal_is_spelled l ≡ true →
+    is_refused l ≡ false → has_type l u ≡ true → is_outside width u l ≡ false →
     Number width u l
 unfolding Number
 literal_number w CharType (Char c) i p r t o = (pos c, refl, scalar_literal w c p)
@@ -90,29 +94,37 @@ literal_number w CharType (Str text) i p r t o = cc
 literal_number w CharType Other i p r t o = cc
 literal_number w CharType (Int negative size suffix) i p r t o = absurd (no_char_suffix suffix t)
 literal_number w (IntType k) (Char c) i p r t o = cc
-literal_number w (IntType k) (Byte b) i p r t o = (pos b, refl, ap (λ j. is_literal_of w (IntType j) (pos b)) (sym (byte_kind k t)) ∙ byte_literal w b p)
+literal_number w (IntType k) (Byte b) i p r t o =
+    (pos b, refl, ap (λ j. is_literal_of w (IntType j) (pos b)) (sym (byte_kind k t)) ∙ byte_literal w b p)
 literal_number w (IntType k) (Flag b) i p r t o = cc
 literal_number w (IntType k) (Str text) i p r t o = cc
 literal_number w (IntType k) Other i p r t o = cc
-literal_number w (IntType k) (Int negative size suffix) i p r t o = sized w k negative size suffix (untwice (is_number_of w (IntType k) (number_of (Int negative size suffix))) o)
+literal_number w (IntType k) (Int negative size suffix) i p r t o = sized w k negative size suffix
+    (untwice (is_number_of w (IntType k) (number_of (Int negative size suffix))) o)
 literal_number w u l i p r t o = absurd i
 
 -- a range of numbers of a numeric type
-range_at : (p : MProgram) (r : MRange) (u : MType) → IsNumeric u → belongs (number_set (numbers_of p.width u)) (NumbersCtor r) ≡ true → RangeFits p r u
+range_at : (p : MProgram) (r : MRange) (u : MType) → IsNumeric u → belongs (number_set (numbers_of p.width u))
+    (NumbersCtor r) ≡ true → RangeFits p r u
 range_at p r CharType i h = h
 range_at p r (IntType k) i h = h
 range_at p r u i h = absurd i
 
 number_fits : (s : Setting) (Holds : MRange → MType → Type 0) (most : ℕ) (l : LitTree) (t : MType) →
-    ((r : MRange) → literal_range l ≡ Some r → RangeFits (program s) r (bottom_type t) → Holds r (bottom_type t)) → IsNumeric (bottom_type t) → literal_is_spelled l ≡ true → is_refused l ≡ false → has_type l (bottom_type t) ≡ true →
+    ((r : MRange) → literal_range l ≡ Some r → RangeFits (program s) r (bottom_type t) → Holds r (bottom_type t)) →
+    IsNumeric (bottom_type t) → literal_is_spelled l ≡ true → is_refused l ≡ false →
+    has_type l (bottom_type t) ≡ true →
     is_outside s.width (bottom_type t) l ≡ false → Fits (program s) Holds most (number_pattern (number_of l)) t
 unfolding Number
 number_fits s Holds most l t holds i p r h o = go (literal_number s.width (bottom_type t) l i p r h o)
   where
-    go : (n : ℤ) × (number_of l ≡ Some n) × (is_literal_of s.width (bottom_type t) n ≡ true) → Fits (program s) Holds most (number_pattern (number_of l)) t
+    go : (n : ℤ) × (number_of l ≡ Some n) × (is_literal_of s.width (bottom_type t) n ≡ true) →
+        Fits (program s) Holds most (number_pattern (number_of l)) t
     go (n, e, k) =
         let range : literal_range l ≡ Some (closed n n) = rw e refl in
-        rw e (at_bottom (λ u. Holds (closed n n) u) t (holds (closed n n) range (range_at (program s) (closed n n) (bottom_type t) i (number_belongs s.width (bottom_type t) n i k))))
+        rw e (at_bottom (λ u. Holds (closed n n) u) t
+        (holds (closed n n) range
+        (range_at (program s) (closed n n) (bottom_type t) i (number_belongs s.width (bottom_type t) n i k))))
 
 char_numeric : (u : MType) → has_type (Char 0) u ≡ true → IsNumeric u
 char_numeric CharType h = tt
@@ -124,10 +136,15 @@ byte_numeric u h = cc
 
 -- a literal that breaks no rule fits
 pub literal_pattern_fits : (s : Setting) (Holds : MRange → MType → Type 0) (most : ℕ) (l : LitTree) (t : MType) →
-    ((r : MRange) → literal_range l ≡ Some r → RangeFits (program s) r (bottom_type t) → Holds r (bottom_type t)) → literal_is_spelled l ≡ true → is_refused l ≡ false →
-    (not (is_refused l) && not (literal_fits l t (bottom_type t))) ≡ false → (not (is_refused l) && is_outside s.width (bottom_type t) l) ≡ false → Fits (program s) Holds most (literal_pattern l) t
-literal_pattern_fits s Holds most (Flag b) t holds p r h o = at_bottom (λ u. IsBool u) t (bool_type (bottom_type t) (untwice (has_type (Flag b) (bottom_type t)) h))
-literal_pattern_fits s Holds most (Str text) t holds p r h o = (text_type t (untwice (literal_fits (Str text) t (bottom_type t)) h), p)
+    ((r : MRange) → literal_range l ≡ Some r → RangeFits (program s) r (bottom_type t) → Holds r (bottom_type t)) →
+    literal_is_spelled l ≡ true → is_refused l ≡ false →
+    (not (is_refused l) && not (literal_fits l t (bottom_type t))) ≡ false →
+    (not (is_refused l) && is_outside s.width (bottom_type t) l) ≡ false → Fits (program s) Holds most
+    (literal_pattern l) t
+literal_pattern_fits s Holds most (Flag b) t holds p r h o = at_bottom (λ u. IsBool u) t
+    (bool_type (bottom_type t) (untwice (has_type (Flag b) (bottom_type t)) h))
+literal_pattern_fits s Holds most (Str text) t holds p r h o =
+    (text_type t (untwice (literal_fits (Str text) t (bottom_type t)) h), p)
 literal_pattern_fits s Holds most (Char c) t holds p r h o =
     let fits : has_type (Char c) (bottom_type t) ≡ true = untwice (has_type (Char c) (bottom_type t)) h in
     number_fits s Holds most (Char c) t holds (char_numeric (bottom_type t) fits) p r fits o
@@ -136,12 +153,17 @@ literal_pattern_fits s Holds most (Byte b) t holds p r h o =
     number_fits s Holds most (Byte b) t holds (byte_numeric (bottom_type t) fits) p r fits o
 literal_pattern_fits s Holds most (Int negative size suffix) t holds p r h o =
     let fits : has_type (Int negative size suffix) (bottom_type t) ≡ true =
-    untwice (has_type (Int negative size suffix) (bottom_type t)) (let_in (is_refused (Int negative size suffix)) (not (has_type (Int negative size suffix) (bottom_type t))) h r) in
-    number_fits s Holds most (Int negative size suffix) t holds (suffix_numeric suffix (bottom_type t) fits) p r fits (let_in (is_refused (Int negative size suffix)) (is_outside s.width (bottom_type t) (Int negative size suffix)) o r)
+    untwice (has_type (Int negative size suffix) (bottom_type t))
+    (let_in (is_refused (Int negative size suffix))
+    (not (has_type (Int negative size suffix) (bottom_type t))) h r) in
+    number_fits s Holds most (Int negative size suffix) t holds (suffix_numeric suffix (bottom_type t) fits) p r fits
+    (let_in (is_refused (Int negative size suffix))
+    (is_outside s.width (bottom_type t) (Int negative size suffix)) o r)
 literal_pattern_fits s Holds most Other t holds p r h o = cc
 
 -- an end of a range
-end_literal : (width : Width) (u : MType) (l : Option LitTree) → IsNumeric u → end_is_spelled l ≡ true → end_refused l ≡ false → end_has_type l u ≡ true → end_outside width u l ≡ false →
+end_literal : (width : Width) (u : MType) (l : Option LitTree) → IsNumeric u → end_is_spelled l ≡ true →
+    end_refused l ≡ false → end_has_type l u ≡ true → end_outside width u l ≡ false →
     IsLiteral width u (end_number l)
 unfolding Number
 end_literal w u None i p r t o = tt
@@ -151,17 +173,29 @@ end_literal w u (Some l) i p r t o = go (literal_number w u l i p r t o)
     go (n, e, k) = rw e k
 
 -- a range that breaks no rule fits
-pub range_pattern_fits : (s : Setting) (low high : Option LitTree) (closed : Bool) (u : MType) → (end_is_spelled low && end_is_spelled high) ≡ true → some_end_refused low high ≡ false →
+pub range_pattern_fits : (s : Setting) (low high : Option LitTree) (closed : Bool) (u : MType) →
+    (end_is_spelled low && end_is_spelled high) ≡ true → some_end_refused low high ≡ false →
     (not (some_end_refused low high) && not (is_numeric u && (end_has_type low u && end_has_type high u))) ≡ false →
     (not (some_end_refused low high) && (end_outside s.width u low || end_outside s.width u high)) ≡ false →
-    (not (some_end_refused low high) && is_empty_at s.width u low high closed) ≡ false → RangeFits (program s) (range_meant s.width u low high closed) u
+    (not (some_end_refused low high) && is_empty_at s.width u low high closed) ≡ false → RangeFits (program s)
+    (range_meant s.width u low high closed) u
 range_pattern_fits s low high closed u p r t o e =
-    let types : (is_numeric u && (end_has_type low u && end_has_type high u)) ≡ true = untwice (is_numeric u && (end_has_type low u && end_has_type high u)) (let_in (some_end_refused low high) (not (is_numeric u && (end_has_type low u && end_has_type high u))) t r) in
-    let ends : (end_has_type low u && end_has_type high u) ≡ true = both_right (is_numeric u) (end_has_type low u && end_has_type high u) types in
-    let outside : (end_outside s.width u low || end_outside s.width u high) ≡ false = let_in (some_end_refused low high) (end_outside s.width u low || end_outside s.width u high) o r in
-    let i : IsNumeric u = numeric_type u (both_left (is_numeric u) (end_has_type low u && end_has_type high u) types) in
+    let types : (is_numeric u && (end_has_type low u && end_has_type high u)) ≡ true = untwice
+    (is_numeric u && (end_has_type low u && end_has_type high u))
+    (let_in (some_end_refused low high)
+    (not (is_numeric u && (end_has_type low u && end_has_type high u))) t r) in
+    let ends : (end_has_type low u && end_has_type high u) ≡ true = both_right (is_numeric u)
+    (end_has_type low u && end_has_type high u) types in
+    let outside : (end_outside s.width u low || end_outside s.width u high) ≡ false = let_in
+    (some_end_refused low high) (end_outside s.width u low || end_outside s.width u high) o r in
+    let i : IsNumeric u = numeric_type u
+    (both_left (is_numeric u) (end_has_type low u && end_has_type high u) types) in
     range_at (program s) (range_meant s.width u low high closed) u i
     (range_belongs s.width u (end_number low) closed (end_number high) i
-    (end_literal s.width u low i (both_left (end_is_spelled low) (end_is_spelled high) p) (either_left (end_refused low) (end_refused high) r) (both_left (end_has_type low u) (end_has_type high u) ends) (either_left (end_outside s.width u low) (end_outside s.width u high) outside))
-    (end_literal s.width u high i (both_right (end_is_spelled low) (end_is_spelled high) p) (either_right (end_refused low) (end_refused high) r) (both_right (end_has_type low u) (end_has_type high u) ends) (either_right (end_outside s.width u low) (end_outside s.width u high) outside))
+    (end_literal s.width u low i (both_left (end_is_spelled low) (end_is_spelled high) p)
+    (either_left (end_refused low) (end_refused high) r) (both_left (end_has_type low u) (end_has_type high u) ends)
+    (either_left (end_outside s.width u low) (end_outside s.width u high) outside))
+    (end_literal s.width u high i (both_right (end_is_spelled low) (end_is_spelled high) p)
+    (either_right (end_refused low) (end_refused high) r) (both_right (end_has_type low u) (end_has_type high u) ends)
+    (either_right (end_outside s.width u low) (end_outside s.width u high) outside))
     (let_in (some_end_refused low high) (is_empty_at s.width u low high closed) e r))

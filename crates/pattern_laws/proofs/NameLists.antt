@@ -61,7 +61,8 @@ pub joined_right : (x : List ℕ) (ns ms : List (List (List ℕ))) → In x (joi
 joined_right x [] ms h = h
 joined_right x (n ∷ ns) ms h = in_right x n (joined (ns ++ ms)) (joined_right x ns ms h)
 
-pub joined_either : (x : List ℕ) (ns ms : List (List (List ℕ))) → In x (joined (ns ++ ms)) → In x (joined ns) ⊎ In x (joined ms)
+pub joined_either : (x : List ℕ) (ns ms : List (List (List ℕ))) → In x (joined (ns ++ ms)) → In x (joined ns) ⊎ In x
+    (joined ms)
 joined_either x [] ms h = inr h
 joined_either x (n ∷ ns) ms h = go (in_either x n (joined (ns ++ ms)) h) (λ k. joined_either x ns ms k)
   where
@@ -69,24 +70,28 @@ joined_either x (n ∷ ns) ms h = go (in_either x n (joined (ns ++ ms)) h) (λ k
     later (inl k) = inl (in_right x n (joined ns) k)
     later (inr k) = inr k
 
-    go : In x n ⊎ In x (joined (ns ++ ms)) → (In x (joined (ns ++ ms)) → In x (joined ns) ⊎ In x (joined ms)) → In x (n ++ joined ns) ⊎ In x (joined ms)
+    go : In x n ⊎ In x (joined (ns ++ ms)) → (In x (joined (ns ++ ms)) → In x (joined ns) ⊎ In x (joined ms)) →
+        In x (n ++ joined ns) ⊎ In x (joined ms)
     go (inl k) rest = inl (in_left x n (joined ns) k)
     go (inr k) rest = later (rest k)
 
 -- one list left out
-without_names : (x : List ℕ) (ns ms : List (List (List ℕ))) (r : List (List ℕ)) → In x (joined (ns ++ ms)) → In x (joined (ns ++ (r ∷ ms)))
+without_names : (x : List ℕ) (ns ms : List (List (List ℕ))) (r : List (List ℕ)) → In x (joined (ns ++ ms)) →
+    In x (joined (ns ++ (r ∷ ms)))
 without_names x ns ms r h = go (joined_either x ns ms h)
   where
     go : In x (joined ns) ⊎ In x (joined ms) → In x (joined (ns ++ (r ∷ ms)))
     go (inl k) = joined_left x ns (r ∷ ms) k
     go (inr k) = joined_right x ns (r ∷ ms) (in_right x r (joined ms) k)
 
-pub without_apart : (ns ms : List (List (List ℕ))) (r : List (List ℕ)) → AllApart (ns ++ (r ∷ ms)) → AllApart (ns ++ ms)
+pub without_apart : (ns ms : List (List (List ℕ))) (r : List (List ℕ)) → AllApart (ns ++ (r ∷ ms)) →
+    AllApart (ns ++ ms)
 without_apart [] ms r h = h.1
 without_apart (n ∷ ns) ms r h = (λ x a b. h.0 x a (without_names x ns ms r b), without_apart ns ms r h.1)
 
 -- that list has no name in common with the others
-pub apart_within : (ns ms : List (List (List ℕ))) (r : List (List ℕ)) → AllApart (ns ++ (r ∷ ms)) → Apart r (joined (ns ++ ms))
+pub apart_within : (ns ms : List (List (List ℕ))) (r : List (List ℕ)) → AllApart (ns ++ (r ∷ ms)) →
+    Apart r (joined (ns ++ ms))
 apart_within [] ms r h = h.0
 apart_within (n ∷ ns) ms r h = λ x a b. go x a (in_either x n (joined (ns ++ ms)) b) (apart_within ns ms r h.1)
   where
@@ -95,7 +100,8 @@ apart_within (n ∷ ns) ms r h = λ x a b. go x a (in_either x n (joined (ns ++ 
     go x a (inr k) rest = rest x a k
 
 -- lists without names in between
-joined_nones : (x : List ℕ) (k : ℕ) (ms : List (List (List ℕ))) → In x (joined (replicate k [] ++ ms)) → In x (joined ms)
+joined_nones : (x : List ℕ) (k : ℕ) (ms : List (List (List ℕ))) → In x (joined (replicate k [] ++ ms)) →
+    In x (joined ms)
 joined_nones x zero ms h = h
 joined_nones x (suc k) ms h = joined_nones x k ms h
 
@@ -103,9 +109,13 @@ nones_apart : (k : ℕ) (ms : List (List (List ℕ))) → AllApart ms → AllApa
 nones_apart zero ms h = h
 nones_apart (suc k) ms h = (λ x a b. a, nones_apart k ms h)
 
-pub filled_apart : (ns ms : List (List (List ℕ))) (k : ℕ) → AllApart (ns ++ ms) → AllApart (ns ++ (replicate k [] ++ ms))
+pub filled_apart : (ns ms : List (List (List ℕ))) (k : ℕ) → AllApart (ns ++ ms) →
+    AllApart (ns ++ (replicate k [] ++ ms))
 filled_apart [] ms k h = nones_apart k ms h
-filled_apart (n ∷ ns) ms k h = (λ x a b. h.0 x a (go x (joined_either x ns (replicate k [] ++ ms) b)), filled_apart ns ms k h.1)
+filled_apart (n ∷ ns) ms k h = (
+  λ x a b. h.0 x a (go x (joined_either x ns (replicate k [] ++ ms) b)),
+  filled_apart ns ms k h.1,
+)
   where
     go : (x : List ℕ) → In x (joined ns) ⊎ In x (joined (replicate k [] ++ ms)) → In x (joined (ns ++ ms))
     go x (inl q) = joined_left x ns ms q
@@ -126,7 +136,8 @@ pub any_in : (x : List ℕ) (ys : List (List ℕ)) → list_any (text_eq x) ys �
 any_in x [] h = cc
 any_in x (y ∷ ys) h = go (text_eq x y) refl h (λ k. any_in x ys k)
   where
-    go : (b : Bool) → text_eq x y ≡ b → (b || list_any (text_eq x) ys) ≡ true → (list_any (text_eq x) ys ≡ true → In x ys) → In x (y ∷ ys)
+    go : (b : Bool) → text_eq x y ≡ b → (b || list_any (text_eq x) ys) ≡ true →
+        (list_any (text_eq x) ys ≡ true → In x ys) → In x (y ∷ ys)
     go true e k rest = inl ((bytes_eq-Decides x y).0 e)
     go false e k rest = inr (rest k)
 
@@ -135,7 +146,11 @@ new_name names x h = rw (none_any x names h) refl
 
 pub apart_names : (names others : List (List ℕ)) → Apart names others → are_apart names others ≡ true
 apart_names names [] h = refl
-apart_names names (x ∷ others) h = rw (new_name names x (λ k. h x k (inl refl)), apart_names names others (λ y a b. h y a (inr b))) refl
+apart_names names (x ∷ others) h = rw (
+  new_name names x (λ k. h x k (inl refl)),
+  apart_names names others
+      (λ y a b. h y a (inr b)),
+) refl
 
 new_not_in : (names : List (List ℕ)) (x : List ℕ) → is_new names x ≡ true → In x names → ⊥
 new_not_in names x h k = go (list_any (text_eq x) names) refl h
@@ -158,12 +173,14 @@ new_not_in names x h k = go (list_any (text_eq x) names) refl h
 
 pub names_apart : (names others : List (List ℕ)) → are_apart names others ≡ true → Apart names others
 names_apart names [] h x a b = b
-names_apart names (y ∷ others) h x a (inl e) = new_not_in names y (first (is_new names y) (are_apart names others) h) (subst (λ z. In z names) e a)
+names_apart names (y ∷ others) h x a (inl e) = new_not_in names y (first (is_new names y) (are_apart names others) h)
+    (subst (λ z. In z names) e a)
   where
     first : (a b : Bool) → (a && b) ≡ true → a ≡ true
     first true b h = refl
     first false b h = cc
-names_apart names (y ∷ others) h x a (inr k) = names_apart names others (second (is_new names y) (are_apart names others) h) x a k
+names_apart names (y ∷ others) h x a (inr k) = names_apart names others
+    (second (is_new names y) (are_apart names others) h) x a k
   where
     second : (a b : Bool) → (a && b) ≡ true → b ≡ true
     second true b h = h

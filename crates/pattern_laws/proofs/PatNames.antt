@@ -43,7 +43,8 @@ abbrev mutual
   NamesDiffer (SpanPat at r) = Unit {0}
   NamesDiffer (BindPat name written p) = (In name (pat_names p) → ⊥) × NamesDiffer p
   NamesDiffer (FormPat k fields) = EachDiffers fields × AllApart (names_of_numbered fields)
-  NamesDiffer (ListPat front rest back) = PatsDiffer front × PatsDiffer back × AllApart (names_of_pats front ++ (rest_names rest ∷ names_of_pats back))
+  NamesDiffer (ListPat front rest back) = PatsDiffer front × PatsDiffer back × AllApart
+      (names_of_pats front ++ (rest_names rest ∷ names_of_pats back))
   NamesDiffer (PointPat mutable p) = NamesDiffer p
   NamesDiffer (OrPat alternatives) = EachDiffers alternatives
 

@@ -36,20 +36,24 @@ pub record IsSoundArm (s : Setting) (f : FunctionTree) (a : ArmTree) : Type 0 wh
 -- what the arm's pattern becomes, at its offset
 abbrev pub elaborated_arm : Setting → FunctionTree → ArmTree → Built
 elaborated_arm s f a =
-    standing_at (offset_of a.pattern) (elaborated (program s) (resolved s (scrutinee_type s f) a.pattern) (scrutinee_type s f) Move)
+    standing_at (offset_of a.pattern) (elaborated (program s) (resolved s (scrutinee_type s f) a.pattern)
+    (scrutinee_type s f) Move)
 
 -- law: its ways are those of the pattern that the written one means
 abbrev pub WaysAreKept : Type 0
-WaysAreKept = (s : Setting) (f : FunctionTree) (a : ArmTree) (v : MValue) → IsSoundArm s f a → InDomain (program s) (is_some f.deref) (scrutinee_type s f) v →
+WaysAreKept = (s : Setting) (f : FunctionTree) (a : ArmTree) (v : MValue) → IsSoundArm s f a → InDomain (program s)
+    (is_some f.deref) (scrutinee_type s f) v →
     arena_ways (elaborated_arm s f a) v ≡ ways (resolved s (scrutinee_type s f) a.pattern) Move v
 
 -- law: it is well typed for the scrutinee's type
 abbrev pub ArmsAreTyped : Type 0
-ArmsAreTyped = (s : Setting) (f : FunctionTree) (a : ArmTree) → IsSoundArm s f a → IsTyped (rust_context (program s)) (scrutinee_type s f) (elaborated_arm s f a)
+ArmsAreTyped = (s : Setting) (f : FunctionTree) (a : ArmTree) → IsSoundArm s f a → IsTyped (rust_context (program s))
+    (scrutinee_type s f) (elaborated_arm s f a)
 
 -- law: no two of its names are one, but for those of different alternatives
 abbrev pub NamesAreApart : Type 0
-NamesAreApart = (s : Setting) (f : FunctionTree) (a : ArmTree) → IsSoundArm s f a → IsTrue (names_differ (elaborated_arm s f a))
+NamesAreApart = (s : Setting) (f : FunctionTree) (a : ArmTree) → IsSoundArm s f a →
+    IsTrue (names_differ (elaborated_arm s f a))
 
 -- the pattern stands at the offset of the written one, is in the form that the engine's definitions ask for, has the written
 -- ranges, and has at most as many or-patterns as the written one has nodes, none with more alternatives
@@ -59,8 +63,10 @@ pub record IsInForm (s : Setting) (f : FunctionTree) (a : ArmTree) (p : Built) :
   pub text : IsTrue (texts_are_referred (λ t. t) p)
   pub range : HasWrittenRanges (λ t. t) s f a p
   pub few : length (filter is_or (all_within p)) ≤ pattern_nodes a.pattern
-  pub narrow : (q : Built) → Contains (all_within p) q → IsTrue (is_or q) → length (subs_in q) ≤ pattern_nodes a.pattern
+  pub narrow : (q : Built) → Contains (all_within p) q → IsTrue (is_or q) →
+      length (subs_in q) ≤ pattern_nodes a.pattern
 
 -- law: so is what the arm's pattern becomes
 abbrev pub ArmsAreInForm : Type 0
-ArmsAreInForm = (s : Setting) (f : FunctionTree) (a : ArmTree) → IsSoundArm s f a → IsInForm s f a (elaborated_arm s f a)
+ArmsAreInForm = (s : Setting) (f : FunctionTree) (a : ArmTree) → IsSoundArm s f a →
+    IsInForm s f a (elaborated_arm s f a)
