@@ -5,17 +5,15 @@ use Rattle.std.specs.List.{Contains}
 use Rattle.std.proofs.lemmas.Option.{slice_get-map, slice_get_read, slice_get_within, get_or_from_slice_get}
 use Rattle.match_model.specs.Types.{MType}
 use Rattle.match_model.specs.Numbers.{MRange}
-use Rattle.match_model.specs.Constructors.{NumbersCtor}
-use Rattle.match_model.specs.ArenaPatterns.{ctor_of, type_of}
 use Rattle.match_model.specs.declared.Mode.TheVariants.{Move}
-use Rattle.match_model.specs.Values.{MValue, Unseen}
+use Rattle.match_model.specs.Values.{Unseen}
 use Rattle.decl_syntax.specs.Items.{ArmTree}
 use Rattle.decl_syntax.specs.Functions.{FunctionTree}
 use Rattle.pattern_rules.specs.Settings.{Setting, program, place}
 use Rattle.pattern_rules.specs.Nodes.{Node, Elsewhere, nodes, offset_of}
 use Rattle.pattern_rules.specs.Faults.{ArmNode, scrutinee_type, nodes_of_arm}
 use Rattle.pattern_rules.specs.NodeRules.{type_met}
-use Rattle.pattern_rules.specs.ArenaForms.{all_within, is_or, in_reading}
+use Rattle.pattern_rules.specs.ArenaForms.{all_within, in_reading}
 use Rattle.pattern_rules.specs.Promises.{range_written, IsWritten}
 use Rattle.pattern_rules.specs.Builders.{Built}
 use Rattle.pattern_rules.specs.Resolved.{resolved}

@@ -1,5 +1,5 @@
 -- The pattern that a written one means binds no other names, and they differ.
-use Rattle.std.proofs.Common.{◌≡◌, ◌⊎◌, inl, inr, ℕ, ℤ, suc, ◌-◌, Bool, true, false, List, [], ◌∷◌, ◌++◌, Option, Some, None, refl, if◌then◌else◌}
+use Rattle.std.proofs.Common.{◌⊎◌, inl, inr, ℕ, ℤ, suc, ◌-◌, Bool, true, false, List, [], ◌∷◌, ◌++◌, Option, Some, None, refl, if◌then◌else◌}
 use Rattle.match_model.specs.declared.Mode.{Mode}
 use Rattle.match_model.specs.Types.{MType}
 use Rattle.match_model.specs.Constructors.{SingleCtor}
@@ -12,12 +12,12 @@ use Rattle.type_names.specs.Finding.{FoundTree}
 use Rattle.pattern_rules.specs.Settings.{Setting, program, Place, place, bottom_type, bottom_mode, pointed}
 use Rattle.pattern_rules.specs.Namings.{is_path_name, found_by, found_ctor, field_names, field_number, fields_found}
 use Rattle.pattern_rules.specs.Literals.{number_of}
-use Rattle.pattern_rules.specs.Nodes.{Standing, AsItem, Elsewhere, Node, nodes, nodes_within, part_nodes, field_nodes, item_nodes, alternative_nodes, names_bound, names_within, names_of_all, names_of_fields, name_if, is_rest, part_behind, part_types, slice_item_type, field_standing}
+use Rattle.pattern_rules.specs.Nodes.{Standing, Elsewhere, nodes, nodes_within, field_nodes, alternative_nodes, names_bound, names_within, names_of_all, names_of_fields, name_if, is_rest, part_behind, part_types, field_standing}
 use Rattle.pattern_rules.specs.Resolved.{resolved, resolved_shape, literal_pattern, number_pattern, name_pattern, form_parts, form_fields, front_items, back_items, alternatives, rest_of, rest_in}
-use Rattle.pattern_laws.proofs.FineNodes.{NodeFine, AllFine, fine_left, fine_right}
-use Rattle.pattern_laws.proofs.NameLists.{In, Apart, Within, in_left, in_right, in_either, joined, AllApart, not_among}
+use Rattle.pattern_laws.proofs.FineNodes.{AllFine, fine_left, fine_right}
+use Rattle.pattern_laws.proofs.NameLists.{In, Apart, Within, in_left, in_right, in_either, joined, AllApart}
 use Rattle.pattern_laws.proofs.PatNames.{rest_names, pat_names, names_of_numbered, names_of_pats, NamesDiffer, EachDiffers, PatsDiffer}
-use Rattle.pattern_laws.proofs.TreeNames.{New, names_new, fields_new, alternatives_new, ItemsFine, parts_items, row_items, list_new, apart_from}
+use Rattle.pattern_laws.proofs.TreeNames.{New, names_new, fields_new, ItemsFine, parts_items, row_items, list_new, apart_from}
 
 number_names : (n : Option ℤ) → Within (pat_names (number_pattern n)) []
 number_names None = λ x a. a

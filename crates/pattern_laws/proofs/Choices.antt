@@ -1,17 +1,17 @@
 -- How many or-patterns an elaborated pattern has.
-use Rattle.std.proofs.Common.{◌≡◌, ℕ, zero, suc, ◌+◌, ◌-◌, ◌<◌, ◌≤◌, Bool, true, false, not, ◌&&◌, List, [], ◌∷◌, ◌++◌, length, replicate, filter, nat_eq, refl, sym, ap, subst, ◌∙◌, arith, length-append, if◌then◌else◌}
+use Rattle.std.proofs.Common.{◌≡◌, ℕ, zero, suc, ◌+◌, ◌-◌, ◌≤◌, Bool, true, false, not, ◌&&◌, List, [], ◌∷◌, ◌++◌, length, replicate, filter, nat_eq, refl, ap, arith, if◌then◌else◌}
 use Rattle.std.proofs.lemmas.Bool.Decides.{nat_tests}
 use Rattle.match_model.specs.declared.Mode.{Mode}
 use Rattle.match_model.specs.Types.{MType, PointType, SliceType, ArrayType, MTypes, no_types, more_types, types_list}
-use Rattle.match_model.specs.Numbers.{closed, has_one_number}
+use Rattle.match_model.specs.Numbers.{closed}
 use Rattle.match_model.specs.Declarations.{MProgram, node_types}
 use Rattle.match_model.specs.RustTypes.{rust_set, inner_type}
-use Rattle.match_model.specs.Constructors.{MCtor, SingleCtor, VariantCtor, PointCtor, RowCtor, WildCtor, OrCtor, FlagCtor, NumbersCtor, TextCtor, MSet, SingleSet}
+use Rattle.match_model.specs.Constructors.{MCtor, SingleCtor, RowCtor, OrCtor, FlagCtor, NumbersCtor, TextCtor, MSet, SingleSet}
 use Rattle.match_model.specs.Patterns.{MRest, NoRest, SomeRest, BoundRest, MPat, WildPat, NumPat, FlagPat, TextPat, SpanPat, BindPat, FormPat, ListPat, PointPat, OrPat, MPats, no_pats, more_pats, MNumbered, no_numbered, more_numbered}
 use Rattle.match_model.specs.Matching.{to_move, mode_written, mode_behind, laid_out}
 use Rattle.match_model.specs.ArenaPatterns.{WholePart, MBound, de_pat, MDePats, no_de_pats, more_de_pats}
 use Rattle.pattern_rules.specs.ArenaForms.{all_within, all_below, is_or}
-use Rattle.pattern_rules.specs.Builders.{Built, Maker, over, leaf, span, point, through_type, types_or_none, parts_from, node_ctor, form, made, made_at, and_pats, wild_maker, shape, rest_bound, row_of, tuple_of, list_of}
+use Rattle.pattern_rules.specs.Builders.{Built, Maker, over, leaf, span, point, through_type, types_or_none, parts_from, node_ctor, form, made, made_at, and_pats, wild_maker, shape, rest_bound, list_of}
 use Rattle.pattern_rules.specs.Elaborated.{with_bound, is_wide_ctor, standing_at, elaborated, elaborated_field, elaborated_alternatives, makers}
 
 -- how many of the patterns are or-patterns

@@ -1,7 +1,7 @@
 -- What holds of each way of making a pattern holds of the elaborated pattern of one that fits.
-use Rattle.std.proofs.Common.{◌≡◌, ℕ, suc, ◌+◌, ◌-◌, ◌≤◌, Bool, true, false, List, [], ◌∷◌, length, Some, nat_eq, refl, sym, ap, subst, if◌then◌else◌}
+use Rattle.std.proofs.Common.{◌≡◌, ℕ, suc, ◌-◌, ◌≤◌, Bool, true, false, List, [], length, Some, nat_eq, refl, sym, ap, subst, if◌then◌else◌}
 use Rattle.match_model.specs.declared.Mode.{Mode}
-use Rattle.match_model.specs.Types.{MType, BoolType, StrType, TupleType, PointType, SliceType, ArrayType, MTypes, no_types, more_types, types_list}
+use Rattle.match_model.specs.Types.{MType, TupleType, PointType, SliceType, ArrayType, MTypes, no_types, more_types, types_list}
 use Rattle.match_model.specs.Numbers.{MRange, closed, has_one_number}
 use Rattle.match_model.specs.Declarations.{MProgram, node_types}
 use Rattle.match_model.specs.RustTypes.{rust_set, part_type, inner_type}
@@ -10,14 +10,14 @@ use Rattle.match_model.specs.Patterns.{MRest, NoRest, SomeRest, BoundRest, MPat,
 use Rattle.match_model.specs.SourcePatterns.{two_or_more}
 use Rattle.match_model.specs.Matching.{to_move, mode_written, mode_behind, laid_out}
 use Rattle.match_model.specs.ArenaPatterns.{WholePart, MiddlePart, MBound, de_pat, MDePats, no_de_pats, more_de_pats, de_pats_list}
-use Rattle.pattern_rules.specs.Builders.{Built, Maker, over, leaf, span, point, through_type, types_or_none, parts_from, node_ctor, form, made, made_at, and_pats, wild_maker, shape, row_of, tuple_of, list_of}
+use Rattle.pattern_rules.specs.Builders.{Built, Maker, over, leaf, span, point, through_type, types_or_none, parts_from, node_ctor, form, made, made_at, and_pats, wild_maker, shape, row_of, list_of}
 use Rattle.pattern_rules.specs.Elaborated.{with_bound, standing_at, elaborated, elaborated_field, elaborated_alternatives, makers}
 use Rattle.pattern_laws.proofs.KeptLeaves.{AtBottom, EachType}
 use Rattle.pattern_laws.proofs.KeptParts.{FormFits}
 use Rattle.pattern_laws.proofs.KeptRows.{part_there}
 use Rattle.pattern_laws.proofs.WaysKept.{makers_count}
 use Rattle.pattern_laws.proofs.MadeLists.{MadeFrom, laid_made, EachIs, made_each, items_each}
-use Rattle.pattern_laws.proofs.Fitting.{IsBool, IsText, VariantFits, CountFits, PointFits, ListFits, FitsIf, pats_count, numbered_count, Fits, FieldFits, PatsFit, AllFit}
+use Rattle.pattern_laws.proofs.Fitting.{IsBool, IsText, VariantFits, PointFits, ListFits, FitsIf, pats_count, numbered_count, Fits, FieldFits, PatsFit, AllFit}
 
 -- a constructor of a struct, tuple, variant or row
 abbrev pub IsNode : MCtor → Type 0

@@ -1,18 +1,18 @@
 -- The elaborated pattern binds the names of the pattern of the definitions, and they differ.
-use Rattle.std.proofs.Common.{◌≡◌, ◌⊎◌, inl, inr, ℕ, zero, suc, ◌+◌, ◌-◌, Bool, true, false, ◌&&◌, List, [], ◌∷◌, ◌++◌, length, nat_eq, refl, if◌then◌else◌}
+use Rattle.std.proofs.Common.{◌⊎◌, inl, inr, ℕ, ◌+◌, ◌-◌, Bool, true, false, List, [], ◌∷◌, ◌++◌, length, nat_eq, refl, if◌then◌else◌}
 use Rattle.match_model.specs.declared.Mode.{Mode}
-use Rattle.match_model.specs.Types.{MType, PointType, TupleType, SliceType, ArrayType, MTypes, no_types, more_types, types_list}
+use Rattle.match_model.specs.Types.{MType, SliceType, ArrayType, MTypes, no_types, more_types, types_list}
 use Rattle.match_model.specs.Numbers.{closed, has_one_number}
 use Rattle.match_model.specs.Declarations.{MProgram, node_types}
-use Rattle.match_model.specs.Constructors.{MCtor, OrCtor, NumbersCtor, FlagCtor, TextCtor, WildCtor, SingleCtor, RowCtor}
+use Rattle.match_model.specs.Constructors.{OrCtor, NumbersCtor, FlagCtor, TextCtor, WildCtor, SingleCtor, RowCtor}
 use Rattle.match_model.specs.RustTypes.{inner_type}
 use Rattle.match_model.specs.Patterns.{MRest, NoRest, SomeRest, BoundRest, MPat, WildPat, NumPat, FlagPat, TextPat, SpanPat, BindPat, FormPat, ListPat, PointPat, OrPat, MPats, no_pats, more_pats, MNumbered, no_numbered, more_numbered}
 use Rattle.match_model.specs.Matching.{to_move, mode_written, laid_out}
-use Rattle.match_model.specs.ArenaPatterns.{WholePart, MiddlePart, MDePats, no_de_pats, more_de_pats}
+use Rattle.match_model.specs.ArenaPatterns.{WholePart, MiddlePart, MDePats}
 use Rattle.match_model.specs.WellTyped.{are_apart, names_in_all, names_differ_in_each}
-use Rattle.pattern_rules.specs.Builders.{Built, Maker, over, leaf, span, point, types_or_none, form, made, made_at, wild_maker, and_pats, row_of, tuple_of, list_of, shape}
-use Rattle.pattern_rules.specs.Elaborated.{standing_at, elaborated, elaborated_field, elaborated_alternatives, makers}
-use Rattle.pattern_laws.proofs.NameLists.{In, Apart, Within, in_left, in_right, in_either, joined, AllApart, joined_left, joined_right, joined_either, without_apart, apart_within}
+use Rattle.pattern_rules.specs.Builders.{Built, Maker, over, leaf, span, types_or_none, form, made, made_at, wild_maker, and_pats, row_of, tuple_of, list_of, shape}
+use Rattle.pattern_rules.specs.Elaborated.{elaborated, elaborated_field, elaborated_alternatives, makers}
+use Rattle.pattern_laws.proofs.NameLists.{In, Within, in_left, in_right, in_either, joined, AllApart, joined_left, joined_right, joined_either, without_apart, apart_within}
 use Rattle.pattern_laws.proofs.PatNames.{rest_names, pat_names, names_of_numbered, names_of_pats, NamesDiffer, EachDiffers, PatsDiffer}
 use Rattle.pattern_laws.proofs.MadeNames.{Binds, EachBinds, both_true, nothing_new, each_within, each_differ, over_binds, wider, leaf_binds, point_binds, through_binds, bound_binds, standing_binds, names_at, form_binds, MakersBind, laid_names, laid_bind, laid_apart, laid_within}
 

@@ -1,13 +1,13 @@
 -- What holds of a pattern and of all below it.
-use Rattle.std.proofs.Common.{◌≡◌, ℕ, zero, suc, ◌<◌, ◌≤◌, Bool, true, false, not, ◌&&◌, ◌||◌, List, [], ◌∷◌, ◌++◌, length, slice_get, Some, nat_eq, refl, sym, ap, subst, ◌∙◌, arith, if◌then◌else◌}
+use Rattle.std.proofs.Common.{◌≡◌, ℕ, zero, suc, ◌≤◌, Bool, true, false, not, ◌&&◌, ◌||◌, List, [], ◌∷◌, ◌++◌, length, slice_get, Some, nat_eq, refl, ap, subst, ◌∙◌, arith, if◌then◌else◌}
 use Rattle.std.proofs.lemmas.Bool.Decides.{nat_tests}
 use Rattle.std.specs.List.{list_any, list_all}
 use Rattle.match_model.specs.declared.Mode.{Mode}
 use Rattle.match_model.specs.Types.{MType, StrType, PointType}
-use Rattle.match_model.specs.Numbers.{MRange, has_one_number}
+use Rattle.match_model.specs.Numbers.{MRange}
 use Rattle.match_model.specs.Declarations.{MProgram}
 use Rattle.match_model.specs.RustTypes.{inner_type}
-use Rattle.match_model.specs.Constructors.{MCtor, SingleCtor, PointCtor, LaterCtor, OtherTextCtor, WildCtor, OrCtor, VariantCtor, FlagCtor, NumbersCtor, TextCtor, RowCtor}
+use Rattle.match_model.specs.Constructors.{MCtor, SingleCtor, PointCtor, WildCtor, OrCtor, VariantCtor, FlagCtor, NumbersCtor, TextCtor, RowCtor}
 use Rattle.match_model.specs.Patterns.{MPat}
 use Rattle.match_model.specs.ArenaPatterns.{MBound, de_pat, MDePats, no_de_pats, more_de_pats, de_pats_list, ctor_of, type_of}
 use Rattle.pattern_rules.specs.ArenaForms.{all_within, all_below, subs_in, is_or, is_wide, is_text, is_lone_range, lone_ranges_only}

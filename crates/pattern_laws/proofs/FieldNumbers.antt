@@ -1,5 +1,5 @@
 -- The numbers of written fields: they are those of parts, and none stands twice.
-use Rattle.std.proofs.Common.{◌≡◌, ℕ, zero, suc, ◌+◌, ◌-◌, ◌<◌, ◌≤◌, Bool, true, false, not, ◌&&◌, ◌||◌, List, [], ◌∷◌, ◌++◌, length, map, Option, Some, None, slice_get, nat_lt, nat_le, nat_eq, refl, sym, ap, subst, ◌∙◌, arith, if◌then◌else◌, get_or}
+use Rattle.std.proofs.Common.{◌≡◌, ℕ, zero, suc, ◌+◌, ◌-◌, ◌<◌, ◌≤◌, Bool, true, false, not, List, [], ◌∷◌, ◌++◌, length, map, Option, Some, None, slice_get, nat_lt, nat_eq, refl, sym, ap, ◌∙◌, arith, if◌then◌else◌, get_or}
 use Rattle.std.proofs.lemmas.Bool.Decides.{nat_tests}
 use Rattle.std.specs.List.{list_all, list_any}
 use Rattle.std.specs.Str.{bytes_eq}
@@ -8,17 +8,17 @@ use Rattle.std.proofs.lemmas.Slice.Eq.{bytes_eq-Decides}
 use Rattle.std.proofs.lemmas.List.Quantifiers.{position-Some}
 use Rattle.std.proofs.lemmas.Option.{slice_get-get_or}
 use Rattle.match_model.specs.Types.{MType}
-use Rattle.match_model.specs.Patterns.{more_numbered, numbers_in, is_none_of, all_differ}
+use Rattle.match_model.specs.Patterns.{more_numbered, numbers_in, all_differ}
 use Rattle.match_model.specs.Matching.{are_parts}
 use Rattle.list_members.specs.Members as members
-use Rattle.decl_syntax.specs.Patterns.{PatternTree, PatternTrees, none, more, FieldTrees, no_field, and_field}
+use Rattle.decl_syntax.specs.Patterns.{PatternTrees, none, more, FieldTrees, no_field, and_field}
 use Rattle.decl_syntax.specs.Widths.{pattern_count}
 use Rattle.type_names.specs.NameRules.{is_among}
 use Rattle.type_names.specs.Meanings.{is_name}
 use Rattle.type_names.proofs.Places.{position_hit, position_skip}
 use Rattle.pattern_rules.specs.Settings.{Setting}
 use Rattle.pattern_rules.specs.Namings.{field_number}
-use Rattle.pattern_rules.specs.Nodes.{is_rest, part_behind}
+use Rattle.pattern_rules.specs.Nodes.{is_rest}
 use Rattle.pattern_rules.specs.NodeRules.{rest_count, has_other_count, has_rests, written_names, some_absent}
 use Rattle.pattern_rules.specs.Resolved.{resolved, form_parts, form_fields}
 use Rattle.pattern_laws.proofs.FineNodes.{either_left, either_right, none_passes}

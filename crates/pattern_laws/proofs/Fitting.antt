@@ -1,15 +1,15 @@
 -- What the tests of a written pattern come to for the pattern that it means: it fits its type.
-use Rattle.std.proofs.Common.{◌≡◌, ℕ, suc, ◌+◌, ◌-◌, ◌≤◌, Bool, true, false, List, length, Some, nat_eq, nat_le, ◌^◌}
+use Rattle.std.proofs.Common.{◌≡◌, ℕ, suc, ◌+◌, ◌-◌, ◌≤◌, Bool, true, false, length, Some, nat_eq, nat_le, ◌^◌}
 use Rattle.std.specs.List.{list_all}
 use Rattle.match_model.specs.Texts.{is_scalar}
-use Rattle.match_model.specs.Types.{MType, BoolType, StrType, TupleType, PointType, SliceType, ArrayType, MTypes, no_types, more_types, types_list}
+use Rattle.match_model.specs.Types.{MType, BoolType, StrType, TupleType, PointType, SliceType, ArrayType, types_list}
 use Rattle.match_model.specs.Numbers.{MRange, closed}
 use Rattle.match_model.specs.Declarations.{MProgram, node_types}
 use Rattle.match_model.specs.RustTypes.{rust_set, part_type}
-use Rattle.match_model.specs.Constructors.{NumbersCtor, covers, belongs}
+use Rattle.match_model.specs.Constructors.{NumbersCtor, belongs}
 use Rattle.match_model.specs.Patterns.{MRest, NoRest, SomeRest, BoundRest, MPat, WildPat, NumPat, FlagPat, TextPat, SpanPat, BindPat, FormPat, ListPat, PointPat, OrPat, MPats, no_pats, more_pats, MNumbered, no_numbered, more_numbered, numbers_in}
 use Rattle.match_model.specs.SourcePatterns.{two_or_more}
-use Rattle.pattern_rules.specs.Builders.{types_or_none, shape, node_ctor}
+use Rattle.pattern_rules.specs.Builders.{types_or_none, node_ctor}
 use Rattle.pattern_laws.proofs.KeptLeaves.{AtBottom, EachType}
 use Rattle.pattern_laws.proofs.KeptParts.{FormFits}
 

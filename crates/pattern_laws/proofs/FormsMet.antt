@@ -1,10 +1,9 @@
 -- A struct or variant that was found and meets its type: its number, the number of its fields and their types.
-use Rattle.std.proofs.Common.{◌≡◌, ℕ, zero, suc, ◌+◌, Bool, true, false, ◌&&◌, List, [], ◌∷◌, length, map, Option, Some, None, slice_get, nat_lt, nat_eq, refl, sym, ap, subst, ◌∙◌, arith}
+use Rattle.std.proofs.Common.{◌≡◌, ℕ, zero, suc, Bool, true, false, List, [], ◌∷◌, length, map, Option, Some, None, slice_get, nat_lt, nat_eq, refl, sym, ap, subst, ◌∙◌, arith}
 use Rattle.std.proofs.lemmas.Bool.Decides.{nat_tests}
 use Rattle.std.specs.Prelude.{option_map}
 use Rattle.std.proofs.lemmas.Option.{slice_get-map}
-use Rattle.std.specs.Fmt.{decimal}
-use Rattle.match_model.specs.Types.{MOwner, DeclaredItem, OptionOwner, ResultOwner, MType, NamedType, MTypes, no_types, more_types, types_list, types_of}
+use Rattle.match_model.specs.Types.{DeclaredItem, OptionOwner, ResultOwner, MType, NamedType, MTypes, no_types, more_types, types_list, types_of}
 use Rattle.match_model.specs.Declarations.{StructItem, EnumItem, form_types, variant_types, node_types}
 use Rattle.match_model.specs.RustTypes.{rust_set, enum_set, part_type, is_type, are_types}
 use Rattle.match_model.specs.Constructors.{SingleSet, VariantSet, belongs}
@@ -12,14 +11,13 @@ use Rattle.decl_syntax.specs.Items.{FieldItem, FormTree, VariantTree, KindTree, 
 use Rattle.decl_syntax.specs.Items as forms
 use Rattle.type_names.specs.Meanings.{Means, means}
 use Rattle.type_names.specs.Imports.{named_variant}
-use Rattle.type_names.specs.Imports as imports
-use Rattle.type_names.specs.Finding.{FoundTree, FoundNothing, FoundTwice, FoundStruct, FoundVariant, same_owner}
+use Rattle.type_names.specs.Finding.{FoundTree, FoundStruct, FoundVariant}
 use Rattle.type_names.specs.Written.{type_of, field_of, field_name, form_of, variant_of, item_of, is_marked_by}
 use Rattle.pattern_rules.specs.Settings.{Setting, program}
-use Rattle.pattern_rules.specs.Namings.{numbered_names, form_names, variant_names, field_names, fields_found, found_ctor, found_number, meets}
+use Rattle.pattern_rules.specs.Namings.{numbered_names, form_names, variant_names, fields_found, found_ctor, found_number, meets}
 use Rattle.pattern_rules.specs.Nodes.{part_types}
 use Rattle.pattern_rules.specs.Builders.{types_or_none, node_ctor}
-use Rattle.pattern_rules.proofs.SameTypes.{numbers_are_one, both_left, both_right}
+use Rattle.pattern_rules.proofs.SameTypes.{numbers_are_one, both_right}
 use Rattle.pattern_laws.proofs.Fitting.{VariantFits}
 use Rattle.pattern_laws.proofs.FoundThere.{is_there}
 

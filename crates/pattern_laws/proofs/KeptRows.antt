@@ -1,21 +1,19 @@
 -- The ways of elaborated lists: of rows and of tuples.
-use Rattle.std.proofs.Common.{◌≡◌, ℕ, zero, suc, ◌+◌, ◌-◌, ◌≤◌, Bool, true, false, ◌&&◌, List, [], ◌∷◌, ◌++◌, length, map, take, drop, replicate, nat_eq, nat_le, refl, sym, ap, subst, ◌∙◌, arith, length-append, slice_get, Some, None}
+use Rattle.std.proofs.Common.{◌≡◌, ℕ, zero, suc, ◌+◌, ◌-◌, ◌≤◌, Bool, true, false, List, [], ◌∷◌, ◌++◌, length, map, take, drop, replicate, nat_eq, nat_le, refl, sym, ap, subst, ◌∙◌, arith, length-append, slice_get, Some, None}
 use Rattle.std.proofs.lemmas.Bool.Decides.{nat_tests}
 use Rattle.match_model.specs.declared.Mode.{Mode}
 use Rattle.match_model.specs.Types.{MType, TupleType, SliceType, ArrayType, MTypes, no_types, more_types, types_list}
-use Rattle.match_model.specs.Values.{MValue, Node, Row, Unseen, MValues, no_values, more_values, values_list}
+use Rattle.match_model.specs.Values.{MValue, Node, Row, Unseen, MValues, values_list}
 use Rattle.match_model.specs.Declarations.{MProgram}
 use Rattle.match_model.specs.RustTypes.{part_type, type_or}
-use Rattle.match_model.specs.Constructors.{RowCtor, FixedShape, LongerShape, parts_met, covers}
 use Rattle.match_model.specs.Patterns.{MRest, NoRest, SomeRest, BoundRest}
 use Rattle.match_model.specs.Typing.{is_value, are_values, all_are_values}
 use Rattle.match_model.specs.Ways.{Way, combine, under}
 use Rattle.match_model.specs.Matching.{Matcher, wild, items_ways, laid_out, list_ways, bind_rest, to_move, middle_of}
 use Rattle.match_model.specs.ArenaPatterns.{MDePats, more_de_pats, no_de_pats, de_pats_list}
-use Rattle.match_model.specs.ArenaWays.{NumberedPart, arena_ways, subs_ways, numbered_from, with_bounds, ways_where}
+use Rattle.match_model.specs.ArenaWays.{arena_ways, subs_ways, numbered_from, with_bounds, ways_where}
 use Rattle.match_model.specs.Places.{some_if}
-use Rattle.pattern_rules.specs.Builders.{Built, Maker, made, made_at, and_pats, wild_maker, row_of, tuple_of, list_of, shape, rest_bound}
-use Rattle.pattern_rules.proofs.SameTypes.{both_left, both_right, numbers_are_one}
+use Rattle.pattern_rules.specs.Builders.{Maker, made, made_at, and_pats, wild_maker, row_of, tuple_of, list_of, rest_bound}
 use Rattle.pattern_laws.proofs.KeptLeaves.{with_none}
 use Rattle.pattern_laws.proofs.KeptParts.{count_keeps}
 use Rattle.pattern_laws.proofs.KeptLists.{AllKeep, PatsKeep, items_keep, row_keeps, round_keeps}

@@ -1,15 +1,15 @@
 -- How many items a list pattern has at its two ends.
-use Rattle.std.proofs.Common.{◌≡◌, ℕ, zero, suc, ◌+◌, ◌-◌, ◌<◌, ◌≤◌, Bool, true, false, not, ◌&&◌, ◌||◌, nat_lt, nat_le, nat_eq, refl, sym, ap, subst, ◌∙◌, arith, if◌then◌else◌, ◌^◌}
+use Rattle.std.proofs.Common.{◌≡◌, ℕ, zero, suc, ◌+◌, ◌-◌, ◌≤◌, Bool, true, false, not, nat_lt, nat_le, nat_eq, refl, sym, ap, ◌∙◌, arith, if◌then◌else◌}
 use Rattle.std.proofs.lemmas.Bool.Decides.{nat_tests}
 use Rattle.match_model.specs.Types.{MType}
-use Rattle.match_model.specs.Patterns.{MRest, NoRest, SomeRest, BoundRest, MPats, no_pats, more_pats}
+use Rattle.match_model.specs.Patterns.{MRest, NoRest, SomeRest, BoundRest, no_pats}
 use Rattle.decl_syntax.specs.Patterns.{PatternTree, At, Shape, PatternTrees, none, more}
 use Rattle.decl_syntax.specs.Patterns as patterns
 use Rattle.decl_syntax.specs.Widths.{pattern_count, most_parts}
 use Rattle.pattern_rules.specs.Settings.{Setting}
-use Rattle.pattern_rules.specs.Nodes.{is_rest, is_rest_shape, is_dots, shape_of}
+use Rattle.pattern_rules.specs.Nodes.{is_rest}
 use Rattle.pattern_rules.specs.NodeRules.{rest_count, has_other_count, has_rests}
-use Rattle.pattern_rules.specs.Resolved.{resolved, rest_in, rest_of, front_items, back_items}
+use Rattle.pattern_rules.specs.Resolved.{rest_in, rest_of, front_items, back_items}
 use Rattle.pattern_laws.specs.Spelled.{is_bound_rest, has_bound_rest}
 use Rattle.pattern_laws.proofs.Fitting.{IsUnbound, CountFits, IsNarrow, pats_count}
 use Rattle.pattern_laws.proofs.FineNodes.{either_left, either_right}

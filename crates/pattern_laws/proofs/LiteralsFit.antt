@@ -1,5 +1,5 @@
 -- Literals and ranges that break no rule fit their types.
-use Rattle.std.proofs.Common.{◌≡◌, ℕ, ℤ, pos, Bool, true, false, not, ◌&&◌, ◌||◌, List, length, Option, Some, None, nat_eq, nat_le, nat_lt, refl, sym, ap, ◌∙◌, arith}
+use Rattle.std.proofs.Common.{◌≡◌, ℕ, ℤ, pos, Bool, true, false, not, ◌&&◌, ◌||◌, List, length, Option, Some, None, nat_eq, nat_le, refl, sym, ap, ◌∙◌, arith}
 use Rattle.std.proofs.lemmas.Bool.Decides.{nat_tests}
 use Rattle.std.proofs.lemmas.Int.{ints}
 use Rattle.match_model.specs.declared.Width.{Width}
@@ -7,12 +7,12 @@ use Rattle.match_model.specs.declared.IntKind.TheVariants.{U8}
 use Rattle.match_model.specs.declared.IntKind.{IntKind}
 use Rattle.match_model.specs.Types.{MType, CharType, IntType}
 use Rattle.match_model.specs.Texts.{is_scalar}
-use Rattle.match_model.specs.Numbers.{MRange, closed, numbers_of, kind_range}
+use Rattle.match_model.specs.Numbers.{MRange, closed, numbers_of}
 use Rattle.match_model.specs.Declarations.{MProgram}
 use Rattle.match_model.specs.Constructors.{NumbersCtor, belongs}
 use Rattle.match_model.specs.RustTypes.{number_set}
 use Rattle.range_split.specs.Numbers.{signed}
-use Rattle.number_kinds.specs.Literals.{is_literal_of, literal_width}
+use Rattle.number_kinds.specs.Literals.{is_literal_of}
 use Rattle.decl_syntax.specs.Patterns.{LitTree, Flag, Char, Byte, Int, Str, Other}
 use Rattle.type_names.specs.Meanings.{int_kind}
 use Rattle.pattern_rules.specs.Settings.{Setting, program, bottom_type}

@@ -1,22 +1,20 @@
 -- The elaborated pattern binds no other names, and they differ.
-use Rattle.std.proofs.Common.{◌≡◌, ◌⊎◌, inl, inr, ℕ, zero, suc, ◌+◌, ◌-◌, ◌≤◌, Bool, true, false, not, ◌&&◌, List, [], ◌∷◌, ◌++◌, length, replicate, nat_eq, refl, sym, ap, subst, ◌∙◌, arith, if◌then◌else◌}
+use Rattle.std.proofs.Common.{◌≡◌, ◌⊎◌, inl, inr, ℕ, zero, suc, ◌+◌, ◌-◌, ◌≤◌, Bool, true, false, not, ◌&&◌, List, [], ◌∷◌, ◌++◌, length, replicate, nat_eq, refl, subst, arith, if◌then◌else◌}
 use Rattle.std.proofs.lemmas.Bool.Decides.{nat_tests}
-use Rattle.std.specs.List.{list_all}
 use Rattle.match_model.specs.declared.Mode.{Mode}
-use Rattle.match_model.specs.Types.{MType, PointType, TupleType, SliceType, ArrayType, MTypes, no_types, more_types, types_list}
-use Rattle.match_model.specs.Numbers.{closed}
+use Rattle.match_model.specs.Types.{MType, PointType, MTypes, no_types, more_types}
 use Rattle.match_model.specs.Declarations.{MProgram, node_types}
-use Rattle.match_model.specs.Constructors.{MCtor, OrCtor, NumbersCtor, FlagCtor, TextCtor, WildCtor, PointCtor}
-use Rattle.match_model.specs.RustTypes.{rust_set, inner_type}
-use Rattle.match_model.specs.Patterns.{MRest, NoRest, SomeRest, BoundRest, MPat, WildPat, NumPat, FlagPat, TextPat, SpanPat, BindPat, FormPat, ListPat, PointPat, OrPat, MPats, no_pats, more_pats, MNumbered, no_numbered, more_numbered}
-use Rattle.match_model.specs.Matching.{to_move, mode_written, mode_behind, laid_out}
-use Rattle.match_model.specs.ArenaPatterns.{MPart, MBound, MDePat, de_pat, MDePats, no_de_pats, more_de_pats}
+use Rattle.match_model.specs.Constructors.{MCtor, OrCtor, WildCtor, PointCtor}
+use Rattle.match_model.specs.RustTypes.{rust_set}
+use Rattle.match_model.specs.Patterns.{MRest, NoRest, SomeRest, BoundRest, MNumbered, no_numbered, more_numbered}
+use Rattle.match_model.specs.Matching.{mode_behind, laid_out}
+use Rattle.match_model.specs.ArenaPatterns.{MPart, de_pat, MDePats, no_de_pats, more_de_pats}
 use Rattle.match_model.specs.WellTyped.{is_new, are_distinct, are_apart, bound_names, names_in, names_in_all, if_or, names_differ, names_differ_in_each, names_differ_in_all}
-use Rattle.pattern_rules.specs.Builders.{Built, Maker, over, leaf, span, point, through_type, types_or_none, parts_from, node_ctor, form, made, made_at, wild_maker, rest_bound, and_pats, row_of, tuple_of, list_of}
-use Rattle.pattern_rules.specs.Elaborated.{with_bound, is_wide_ctor, standing_at, elaborated, elaborated_field, elaborated_alternatives, makers}
+use Rattle.pattern_rules.specs.Builders.{Built, Maker, over, point, through_type, types_or_none, parts_from, node_ctor, form, wild_maker}
+use Rattle.pattern_rules.specs.Elaborated.{with_bound, is_wide_ctor, standing_at}
 use Rattle.pattern_rules.proofs.SameTypes.{both_left, both_right}
-use Rattle.pattern_laws.proofs.NameLists.{In, Apart, Within, in_left, in_right, in_either, joined, AllApart, joined_left, joined_right, joined_either, without_apart, apart_within, filled_apart, new_name, apart_names, names_apart}
-use Rattle.pattern_laws.proofs.PatNames.{rest_names, pat_names, names_of_numbered, names_of_pats, NamesDiffer, EachDiffers, PatsDiffer}
+use Rattle.pattern_laws.proofs.NameLists.{In, Apart, Within, in_left, in_right, in_either, joined, AllApart, joined_left, joined_right, joined_either, filled_apart, new_name, apart_names, names_apart}
+use Rattle.pattern_laws.proofs.PatNames.{pat_names, names_of_numbered}
 
 -- the pattern binds only these names, and they differ
 pub record Binds (names : List (List ℕ)) (p : Built) : Type 0 where

@@ -1,10 +1,10 @@
 -- Names of patterns: which lists of names are apart.
-use Rattle.std.proofs.Common.{◌≡◌, ◌⊎◌, inl, inr, ℕ, zero, suc, Bool, true, false, not, ◌&&◌, ◌||◌, List, [], ◌∷◌, ◌++◌, replicate, refl, sym, ap, subst, ◌∙◌}
-use Rattle.std.specs.List.{list_any, list_all}
+use Rattle.std.proofs.Common.{◌≡◌, ◌⊎◌, inl, inr, ℕ, zero, suc, Bool, true, false, not, ◌&&◌, ◌||◌, List, [], ◌∷◌, ◌++◌, replicate, refl, sym, subst, ◌∙◌}
+use Rattle.std.specs.List.{list_any}
 use Rattle.std.specs.Str.{bytes_eq}
 use Rattle.std.proofs.lemmas.Slice.Eq.{bytes_eq-Decides}
 use Rattle.match_model.specs.Texts.{text_eq}
-use Rattle.match_model.specs.WellTyped.{is_new, are_distinct, are_apart}
+use Rattle.match_model.specs.WellTyped.{is_new, are_apart}
 use Rattle.type_names.specs.NameRules.{is_among}
 use Rattle.pattern_laws.proofs.FineNodes.{either_left, either_right}
 

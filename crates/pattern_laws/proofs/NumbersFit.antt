@@ -1,21 +1,19 @@
 -- The numbers of literals and ranges that break no rule are those of their type.
-use Rattle.std.proofs.Common.{◌≡◌, ◌⊎◌, inl, inr, ℕ, ℤ, pos, negsuc, ◌-ℤ◌, ◌≤◌, Bool, true, false, not, ◌&&◌, ◌||◌, List, [], ◌∷◌, length, Option, Some, None, refl, sym, ◌∙◌, ap, arith, nat_eq, nat_le, ◌^◌, ◌-◌}
-use Rattle.std.specs.Prelude.{IsTrue, int_le, int_lt, option_map}
-use Rattle.std.specs.List.{list_any}
+use Rattle.std.proofs.Common.{◌≡◌, ◌⊎◌, inl, inr, ℤ, pos, negsuc, ◌-ℤ◌, Bool, true, false, not, ◌&&◌, ◌||◌, Option, Some, None, refl, sym, arith, ◌^◌, ◌-◌}
+use Rattle.std.specs.Prelude.{int_le, int_lt}
 use Rattle.std.specs.Ordering.{int_eq}
 use Rattle.std.proofs.lemmas.Int.{ints}
-use Rattle.std.proofs.lemmas.Bool.Decides.{nat_tests, Decides-int_eq}
+use Rattle.std.proofs.lemmas.Bool.Decides.{Decides-int_eq}
 use Rattle.match_model.specs.declared.Width.{Width}
 use Rattle.match_model.specs.declared.Width.TheVariants.{Endless, Bits16, Bits32, Bits64}
 use Rattle.match_model.specs.declared.IntKind.{IntKind}
 use Rattle.match_model.specs.declared.IntKind.TheVariants.{U8, U16, U32, U64, U128, USize, I8, I16, I32, I64, I128, ISize}
 use Rattle.match_model.specs.Types.{MType, CharType, IntType}
-use Rattle.match_model.specs.Texts.{is_scalar}
 use Rattle.match_model.specs.Numbers.{MEnd, Free, At, MRange, is_from, is_up_to, is_at, in_range, closed, kind_range, numbers_of}
-use Rattle.match_model.specs.SourcePatterns.{before_by, number_before, low_written, high_written, written_range}
+use Rattle.match_model.specs.SourcePatterns.{before_by, low_written, high_written, written_range}
 use Rattle.match_model.specs.Constructors.{NumbersCtor, is_free, end_belongs, in_either, greatest_held, least_held, belongs}
 use Rattle.match_model.specs.RustTypes.{number_set}
-use Rattle.number_kinds.specs.Literals.{literal_width, is_literal_of, has_no_number, ends_cross}
+use Rattle.number_kinds.specs.Literals.{is_literal_of, has_no_number}
 
 both_left : (a b : Bool) → (a && b) ≡ true → a ≡ true
 both_left true b h = refl

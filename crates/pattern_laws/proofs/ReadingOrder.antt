@@ -1,30 +1,30 @@
 -- The alternatives of an elaborated pattern are in reading order those of the pattern of the definitions.
-use Rattle.std.proofs.Common.{◌≡◌, ◌⊎◌, inl, inr, ℕ, zero, suc, ◌+◌, ◌-◌, ◌<◌, ◌≤◌, Bool, true, false, not, ◌&&◌, ◌||◌, List, [], ◌∷◌, ◌++◌, length, replicate, slice_get, Some, nat_eq, nat_lt, refl, sym, ap, subst, ◌∙◌, arith, if◌then◌else◌}
+use Rattle.std.proofs.Common.{◌≡◌, inl, inr, ℕ, zero, suc, ◌+◌, ◌-◌, ◌<◌, ◌≤◌, Bool, true, false, not, ◌&&◌, ◌||◌, List, [], ◌∷◌, ◌++◌, length, replicate, slice_get, Some, nat_eq, nat_lt, refl, sym, ap, subst, ◌∙◌, arith, if◌then◌else◌}
 use Rattle.std.proofs.lemmas.Bool.Decides.{nat_tests}
 use Rattle.std.specs.List.{list_any, list_all}
 use Rattle.match_model.specs.declared.Mode.{Mode}
-use Rattle.match_model.specs.Types.{MType, BoolType, StrType, TupleType, PointType, SliceType, ArrayType, MTypes, no_types, more_types, types_list}
+use Rattle.match_model.specs.Types.{MType, TupleType, PointType, SliceType, ArrayType, MTypes, no_types, more_types, types_list}
 use Rattle.match_model.specs.Numbers.{MRange, closed, has_one_number}
 use Rattle.match_model.specs.Declarations.{MProgram, node_types}
 use Rattle.match_model.specs.RustTypes.{rust_set, part_type, inner_type}
-use Rattle.match_model.specs.Constructors.{MCtor, SingleCtor, VariantCtor, PointCtor, RowCtor, WildCtor, OrCtor, FlagCtor, NumbersCtor, TextCtor, MSet, SingleSet}
+use Rattle.match_model.specs.Constructors.{MCtor, SingleCtor, RowCtor, WildCtor, OrCtor, FlagCtor, NumbersCtor, TextCtor, MSet, SingleSet}
 use Rattle.match_model.specs.Patterns.{MRest, NoRest, SomeRest, BoundRest, MPat, WildPat, NumPat, FlagPat, TextPat, SpanPat, BindPat, FormPat, ListPat, PointPat, OrPat, MPats, no_pats, more_pats, MNumbered, no_numbered, more_numbered, numbers_in, is_none_of, all_differ}
 use Rattle.match_model.specs.SourcePatterns.{two_or_more, ids_in}
 use Rattle.match_model.specs.Match.{Alternatives, no_alternative, alternative, and_others, alternatives_in, alternatives_in_items, alternatives_in_fields, alternatives_of}
 use Rattle.match_model.specs.Lists.{Among}
 use Rattle.match_model.specs.Matching.{to_move, mode_written, mode_behind, laid_out, are_parts}
 use Rattle.match_model.specs.ArenaPatterns.{WholePart, MBound, de_pat, MDePats, no_de_pats, more_de_pats, uid_of, at_of}
-use Rattle.match_model.specs.ArenaWays.{alternatives_by_ctor, arena_alternatives, alternatives_in_subs, choices_in}
+use Rattle.match_model.specs.ArenaWays.{arena_alternatives, alternatives_in_subs, choices_in}
 use Rattle.pattern_rules.specs.ArenaForms.{put_alternative, in_reading}
-use Rattle.pattern_rules.specs.Builders.{Built, Maker, over, leaf, span, point, through_type, types_or_none, parts_from, node_ctor, form, made, made_at, and_pats, wild_maker, shape, rest_bound, row_of, tuple_of, list_of}
+use Rattle.pattern_rules.specs.Builders.{Built, Maker, over, leaf, span, point, through_type, types_or_none, parts_from, node_ctor, form, made, made_at, and_pats, wild_maker, shape, rest_bound, tuple_of, list_of}
 use Rattle.pattern_rules.specs.Elaborated.{with_bound, is_wide_ctor, standing_at, elaborated, elaborated_field, elaborated_alternatives, makers}
 use Rattle.pattern_rules.proofs.SameTypes.{both_left, both_right}
 use Rattle.pattern_laws.proofs.KeptLeaves.{AtBottom, EachType}
 use Rattle.pattern_laws.proofs.KeptParts.{FormFits}
 use Rattle.pattern_laws.proofs.KeptRows.{next_number, no_more, replicate_length, laid_count, part_there}
 use Rattle.pattern_laws.proofs.WaysKept.{makers_count}
-use Rattle.pattern_laws.proofs.Fitting.{IsBool, IsText, VariantFits, CountFits, PointFits, ListFits, FitsIf, pats_count, Fits, FieldFits, PatsFit, AllFit}
-use Rattle.pattern_laws.proofs.Reading.{deep, puts, roots, Same, same_others, same_reading, puts_others, puts_swap, RootsApart, Rising, rising_left, rising_right, rising_apart, among_left, among_right, Named, named_others, ids_others, roots_within}
+use Rattle.pattern_laws.proofs.Fitting.{IsBool, VariantFits, CountFits, PointFits, ListFits, FitsIf, pats_count, Fits, FieldFits, PatsFit, AllFit}
+use Rattle.pattern_laws.proofs.Reading.{puts, roots, Same, same_others, same_reading, puts_others, puts_swap, RootsApart, Rising, rising_left, rising_right, rising_apart, Named, named_others, ids_others, roots_within}
 
 -- the pattern has these alternatives
 abbrev pub Has : Alternatives → Built → Type 0

@@ -1,15 +1,14 @@
 -- What asks for no uids and no types of an engine's own is the same of the pattern without them.
-use Rattle.std.proofs.Common.{◌≡◌, ℕ, suc, ◌≤◌, Bool, true, false, not, ◌&&◌, ◌||◌, List, [], ◌∷◌, ◌++◌, length, filter, nat_eq, length-append, refl, sym, ap, ◌∙◌}
+use Rattle.std.proofs.Common.{◌≡◌, ℕ, suc, Bool, true, false, ◌&&◌, List, [], ◌∷◌, ◌++◌, length, filter, length-append, refl, sym, ap, ◌∙◌}
 use Rattle.std.specs.List.{list_any, list_all}
 use Rattle.match_model.specs.Types.{MType}
-use Rattle.match_model.specs.Numbers.{MRange}
 use Rattle.match_model.specs.Constructors.{MCtor, PointCtor, OrCtor, NumbersCtor, TextCtor}
-use Rattle.match_model.specs.ArenaPatterns.{MBound, MDePat, de_pat, MDePats, no_de_pats, more_de_pats, de_pats_list, ctor_of, type_of, at_of}
-use Rattle.match_model.specs.WellTyped.{bound_names, names_in, names_in_all, are_distinct, are_apart, if_or, names_differ, names_differ_in_each, names_differ_in_all}
+use Rattle.match_model.specs.ArenaPatterns.{MDePat, de_pat, MDePats, no_de_pats, more_de_pats, de_pats_list, ctor_of, type_of, at_of}
+use Rattle.match_model.specs.WellTyped.{bound_names, names_in, names_in_all, names_differ, names_differ_in_each, names_differ_in_all}
 use Rattle.pattern_rules.specs.ArenaForms.{all_within, all_below, subs_in, is_or, is_wide, is_text, is_lone_range, lone_ranges_only}
 use Rattle.pattern_rules.specs.Promises.{is_text_reference, text_is_referred, texts_are_referred}
 use Rattle.pattern_rules.specs.Builders.{Built}
-use Rattle.pattern_laws.specs.Shown.{uid_under, settled, settled_all, shown}
+use Rattle.pattern_laws.specs.Shown.{uid_under, settled, settled_all}
 use Rattle.pattern_laws.proofs.Everywhere.{Every}
 
 -- names

@@ -1,12 +1,12 @@
 -- A match that shows the function's arms keeps all that is promised of it.
-use Rattle.std.proofs.Common.{◌≡◌, ℕ, zero, suc, ◌+◌, ◌≤◌, Bool, true, false, List, [], ◌∷◌, ◌++◌, length, map, filter, slice_get, Some, refl, sym, ap, subst, ◌∙◌, arith, length-append}
+use Rattle.std.proofs.Common.{◌≡◌, ℕ, suc, ◌≤◌, Bool, true, false, List, [], ◌∷◌, length, filter, slice_get, Some, refl, sym, ap, subst, ◌∙◌, arith, length-append}
 use Rattle.std.specs.List.{Contains}
 use Rattle.std.proofs.lemmas.Option.{slice_get_read}
 use Rattle.match_model.specs.Types.{MType}
 use Rattle.match_model.specs.Numbers.{MRange}
 use Rattle.match_model.specs.Constructors.{MCtor, OrCtor, NumbersCtor}
 use Rattle.match_model.specs.declared.Mode.TheVariants.{Move}
-use Rattle.match_model.specs.Match.{Alternatives, no_alternative, alternative, and_others, alternatives_in}
+use Rattle.match_model.specs.Match.{Alternatives, no_alternative, alternative, and_others}
 use Rattle.match_model.specs.ArenaPatterns.{MDePat, de_pat, MDePats, no_de_pats, more_de_pats, MDeArm, MDeMatch, ctor_of, type_of, at_of}
 use Rattle.match_model.specs.ArenaWays.{alternatives_by_ctor, arena_ways, arena_alternatives, alternatives_in_subs, choices_in}
 use Rattle.match_model.specs.WellTyped.{names_differ}
@@ -14,13 +14,12 @@ use Rattle.decl_syntax.specs.Items.{ArmTree}
 use Rattle.decl_syntax.specs.Counts.{pattern_nodes}
 use Rattle.decl_syntax.specs.Functions.{FunctionTree}
 use Rattle.pattern_rules.specs.Settings.{Setting, place}
-use Rattle.pattern_rules.specs.Nodes.{Node, Elsewhere, nodes}
-use Rattle.pattern_rules.specs.Faults.{ArmNode, scrutinee_type, nodes_of_arm, nodes_of_arms, function_nodes}
-use Rattle.pattern_rules.specs.ArenaForms.{in_reading, put_alternative, all_within, subs_in, is_or, lone_ranges_only}
-use Rattle.pattern_rules.specs.Promises.{texts_are_referred, IsWritten, or_patterns, KeepsArm, KeepsMatch}
-use Rattle.pattern_rules.specs.Builders.{Built}
+use Rattle.pattern_rules.specs.Nodes.{Elsewhere, nodes}
+use Rattle.pattern_rules.specs.Faults.{scrutinee_type, nodes_of_arm, nodes_of_arms, function_nodes}
+use Rattle.pattern_rules.specs.ArenaForms.{in_reading, all_within, subs_in, is_or}
+use Rattle.pattern_rules.specs.Promises.{IsWritten, or_patterns, KeepsArm, KeepsMatch}
 use Rattle.pattern_laws.specs.Shown.{uid_under, settled, settled_all, shown}
-use Rattle.pattern_laws.specs.Laws.{IsSoundArm, elaborated_arm, IsInForm}
+use Rattle.pattern_laws.specs.Laws.{IsInForm}
 use Rattle.pattern_laws.specs.ShownLaws.{IsShownArm, IsShownMatch, ShownNamesDiffer, ShownMatchIsKept}
 use Rattle.pattern_laws.proofs.FormsMet.{mapped_length}
 use Rattle.pattern_laws.proofs.Everywhere.{Every, every_append, every_at, RangeHolds, FewChoices}

@@ -14,7 +14,7 @@ use Rattle.type_names.specs.Finding.{FoundTree}
 use Rattle.pattern_rules.specs.Settings.{Setting, program, Place, place, bottom_type, bottom_mode, pointed}
 use Rattle.pattern_rules.specs.Namings.{is_path_name, found_by, found_ctor, field_names, field_number, fields_found}
 use Rattle.pattern_rules.specs.Literals.{number_of}
-use Rattle.pattern_rules.specs.Nodes.{Standing, AsItem, Elsewhere, Node, nodes, nodes_within, part_nodes, field_nodes, item_nodes, alternative_nodes, names_bound, is_rest, part_behind, part_types, slice_item_type, field_standing}
+use Rattle.pattern_rules.specs.Nodes.{Standing, AsItem, Elsewhere, nodes, nodes_within, part_nodes, field_nodes, item_nodes, alternative_nodes, names_bound, is_rest, part_behind, part_types, slice_item_type, field_standing}
 use Rattle.pattern_rules.specs.Resolved.{resolved, resolved_shape, literal_pattern, number_pattern, name_pattern, form_parts, form_fields, front_items, back_items, alternatives}
 use Rattle.pattern_laws.proofs.Choices.{total, choices, choices_of, choices_each}
 

@@ -1,9 +1,8 @@
 -- A pattern whose nodes pass the tests fits its type.
-use Rattle.std.proofs.Common.{◌≡◌, ℕ, zero, suc, ◌+◌, ◌-◌, Bool, true, false, not, ◌&&◌, ◌||◌, List, [], ◌∷◌, ◌++◌, length, Option, Some, None, slice_get, nat_eq, nat_le, refl, sym, ap, subst, ◌∙◌, arith, if◌then◌else◌, ◌≤◌, length-append}
+use Rattle.std.proofs.Common.{◌≡◌, ℕ, suc, ◌+◌, ◌-◌, Bool, true, false, not, ◌&&◌, ◌||◌, List, [], ◌∷◌, ◌++◌, length, Option, Some, None, slice_get, nat_eq, nat_le, refl, sym, ap, subst, ◌∙◌, arith, if◌then◌else◌, ◌≤◌, length-append}
 use Rattle.std.proofs.lemmas.Bool.Decides.{nat_tests}
 use mathlib.Core.Bool.{beq}
 use Rattle.match_model.specs.declared.Mode.{Mode}
-use Rattle.match_model.specs.declared.Mode.TheVariants.{Move}
 use Rattle.match_model.specs.Types.{MType, TupleType, PointType, SliceType, ArrayType, MTypes, no_types, more_types, types_list}
 use Rattle.match_model.specs.Numbers.{MRange}
 use Rattle.match_model.specs.Declarations.{MProgram, node_types}
@@ -16,25 +15,25 @@ use Rattle.decl_syntax.specs.Patterns.{PathTree, PatternTree, At, Shape, Pattern
 use Rattle.decl_syntax.specs.Patterns as patterns
 use Rattle.decl_syntax.specs.Widths.{pattern_count, most_parts}
 use Rattle.type_names.specs.Finding.{FoundTree, FoundNothing, FoundTwice, FoundStruct, FoundVariant, is_found, name_finds, path_finds, found_form}
-use Rattle.pattern_rules.specs.Settings.{Setting, program, Place, place, bottom, bottom_type, bottom_mode, pointed}
-use Rattle.pattern_rules.specs.Namings.{is_path_name, is_unit_form, name_form, is_short, found_by, found_if, found_ctor, found_number, field_names, field_number, fields_found, meets, is_tuple_form}
-use Rattle.pattern_rules.specs.Nodes.{Standing, AsItem, Elsewhere, Node, nodes, nodes_within, part_nodes, field_nodes, item_nodes, alternative_nodes, names_bound, is_rest, part_behind, part_types, slice_item_type, field_standing, offset_of}
+use Rattle.pattern_rules.specs.Settings.{Setting, program, Place, place, bottom_type, bottom_mode, pointed}
+use Rattle.pattern_rules.specs.Namings.{is_path_name, is_unit_form, is_short, found_by, found_if, found_ctor, found_number, field_names, field_number, fields_found, meets, is_tuple_form}
+use Rattle.pattern_rules.specs.Nodes.{Standing, AsItem, Elsewhere, Node, nodes, nodes_within, part_nodes, field_nodes, item_nodes, alternative_nodes, names_bound, is_rest, part_behind, part_types, slice_item_type, field_standing}
 use Rattle.pattern_rules.specs.NodeRules.{type_met, is_point, is_tuple, is_row, misses, misfits_array, misfits_form, finds_none, has_other_count, has_rests, rest_count, some_absent, written_names}
 use Rattle.pattern_rules.specs.Resolved.{resolved, resolved_shape, name_pattern, form_parts, form_fields, front_items, back_items, alternatives, rest_of}
 use Rattle.pattern_rules.specs.Literals.{range_meant}
 use Rattle.pattern_rules.specs.Promises.{range_written}
 use Rattle.pattern_rules.specs.Builders.{types_or_none}
 use Rattle.pattern_rules.proofs.SameTypes.{both_left, both_right}
-use Rattle.pattern_laws.proofs.KeptLeaves.{AtBottom, EachType}
+use Rattle.pattern_laws.proofs.KeptLeaves.{EachType}
 use Rattle.pattern_laws.proofs.KeptParts.{FormFits}
 use Rattle.pattern_laws.specs.Spelled.{has_bound_rest, are_two, is_spelled, shape_is_spelled, all_are_spelled, fields_are_spelled}
-use Rattle.pattern_laws.proofs.Fitting.{RangeFits, numbered_count, VariantFits, PointFits, ListFits, FitsIf, pats_count, Fits, FieldFits, PatsFit, AllFit, CountFits, IsNarrow}
-use Rattle.pattern_laws.proofs.FineNodes.{NodeFine, either_left, either_right}
+use Rattle.pattern_laws.proofs.Fitting.{RangeFits, numbered_count, VariantFits, PointFits, ListFits, FitsIf, pats_count, Fits, FieldFits, PatsFit, AllFit, CountFits}
+use Rattle.pattern_laws.proofs.FineNodes.{NodeFine, either_right}
 use Rattle.pattern_laws.proofs.FoundThere.{is_there, name_there, path_there}
 use Rattle.pattern_laws.proofs.FormsMet.{FormMet, form_met}
 use Rattle.pattern_laws.proofs.FieldNumbers.{untwice, RoomFor, form_parts_ascend, ascend_parts, room_for, field_parts}
 use Rattle.pattern_laws.proofs.ListCounts.{behind, backs_behind, count_fits, narrow_list, unbound_rest}
-use Rattle.pattern_laws.proofs.LiteralsFit.{let_in, literal_pattern_fits, range_pattern_fits}
+use Rattle.pattern_laws.proofs.LiteralsFit.{literal_pattern_fits, range_pattern_fits}
 use Rattle.pattern_laws.proofs.BottomTypes.{at_bottom, bottom_is_type, inner_is_type, part_is_type}
 
 -- a pattern has a node

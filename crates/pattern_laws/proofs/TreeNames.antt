@@ -1,22 +1,19 @@
 -- The names of a pattern whose nodes pass the tests differ.
-use Rattle.std.proofs.Common.{◌≡◌, ◌⊎◌, inl, inr, ℕ, suc, ◌-◌, Bool, true, false, List, [], ◌∷◌, ◌++◌, refl, subst, if◌then◌else◌}
+use Rattle.std.proofs.Common.{◌≡◌, ◌⊎◌, inl, inr, ℕ, Bool, true, false, List, [], ◌∷◌, ◌++◌, refl, subst}
 use Rattle.match_model.specs.declared.Mode.{Mode}
 use Rattle.match_model.specs.Types.{MType}
 use Rattle.match_model.specs.Constructors.{SingleCtor}
-use Rattle.match_model.specs.RustTypes.{rust_arity, inner_type}
-use Rattle.match_model.specs.Patterns.{MPat, MPats, no_pats, more_pats, MNumbered, more_numbered}
+use Rattle.match_model.specs.RustTypes.{rust_arity}
 use Rattle.decl_syntax.specs.Patterns.{PatternTree, At, Shape, PatternTrees, none, more, FieldTrees, no_field, and_field, LitTree, Flag, Char, Byte, Int, Str, Other}
 use Rattle.decl_syntax.specs.Patterns as patterns
 use Rattle.decl_syntax.specs.Widths.{pattern_count}
 use Rattle.type_names.specs.NameRules.{is_among}
 use Rattle.pattern_rules.specs.Settings.{Setting, program, Place, place, bottom_type, bottom_mode, pointed}
 use Rattle.pattern_rules.specs.Namings.{is_path_name, found_by, found_ctor, field_names, field_number, fields_found}
-use Rattle.pattern_rules.specs.Nodes.{Standing, AsItem, Elsewhere, Node, nodes, nodes_within, part_nodes, field_nodes, item_nodes, alternative_nodes, names_bound, names_within, names_of_all, names_of_fields, name_if, is_rest, part_behind, part_types, slice_item_type, field_standing}
+use Rattle.pattern_rules.specs.Nodes.{Standing, AsItem, Elsewhere, nodes, nodes_within, part_nodes, field_nodes, item_nodes, alternative_nodes, names_bound, names_within, names_of_all, names_of_fields, name_if, part_behind, part_types, slice_item_type, field_standing}
 use Rattle.pattern_rules.specs.OtherRules.{binds_twice}
-use Rattle.pattern_rules.specs.Resolved.{resolved, resolved_shape, literal_pattern, number_pattern, name_pattern, form_parts, form_fields, front_items, back_items, alternatives, rest_of, rest_in}
 use Rattle.pattern_laws.proofs.FineNodes.{NodeFine, AllFine, fine_left, fine_right}
-use Rattle.pattern_laws.proofs.NameLists.{In, Apart, Within, in_left, in_right, in_either, joined, AllApart, not_among}
-use Rattle.pattern_laws.proofs.PatNames.{rest_names, pat_names, names_of_numbered, names_of_pats, NamesDiffer, EachDiffers, PatsDiffer}
+use Rattle.pattern_laws.proofs.NameLists.{In, Apart, in_left, in_right, in_either, not_among}
 
 -- names that are none of those before
 abbrev pub New : (names before : List (List ℕ)) → Type 0

@@ -1,15 +1,13 @@
 -- A pattern is well typed where the one without its uids is, for a context that is seen through the types of the program.
-use Rattle.std.proofs.Common.{◌≡◌, ℕ, zero, suc, ◌+◌, ◌<◌, ◌≤◌, Bool, true, false, ◌&&◌, IsTrue, List, [], ◌∷◌, ◌++◌, length, refl, sym, ap, subst, ◌∙◌, arith}
-use Rattle.std.specs.List.{list_all}
+use Rattle.std.proofs.Common.{◌≡◌, ℕ, suc, ◌+◌, ◌<◌, Bool, true, ◌&&◌, IsTrue, List, [], ◌∷◌, ◌++◌, length, refl, sym, ap, subst, ◌∙◌, arith}
 use Rattle.match_model.specs.Types.{MType}
 use Rattle.match_model.specs.Declarations.{MProgram}
 use Rattle.match_model.specs.RustTypes.{rust_context, rust_set, rust_arity, is_type}
-use Rattle.match_model.specs.Constructors.{MCtor, SingleCtor, PointCtor, LaterCtor, OtherTextCtor, WildCtor, OrCtor, VariantCtor, FlagCtor, NumbersCtor, TextCtor, RowCtor, MSet, SingleSet, PointSet, VariantSet, Elementary, OneSingle, OnePoint, OneVariant, is_of_set, belongs}
+use Rattle.match_model.specs.Constructors.{MCtor, SingleCtor, PointCtor, LaterCtor, OtherTextCtor, WildCtor, OrCtor, VariantCtor, FlagCtor, NumbersCtor, TextCtor, RowCtor, MSet, SingleSet, PointSet, VariantSet, OneSingle, OnePoint, OneVariant, is_of_set, belongs}
 use Rattle.match_model.specs.Contexts.{Context}
-use Rattle.match_model.specs.ContextLaws.{parts_count}
 use Rattle.match_model.specs.ContextViews.{View, Passing}
 use Rattle.match_model.specs.ArenaPatterns.{MDePat, de_pat, MDePats, no_de_pats, more_de_pats, de_pats_list, type_of, at_of}
-use Rattle.match_model.specs.WellTyped.{IsTyped, AreAllTyped, ArePartsTyped, HasNone, ByCtor, part_is_of, is_written}
+use Rattle.match_model.specs.WellTyped.{IsTyped, AreAllTyped, ArePartsTyped, HasNone, ByCtor, is_written}
 use Rattle.match_model.specs.Lists.{Every}
 use Rattle.pattern_rules.specs.Settings.{program}
 use Rattle.pattern_rules.specs.Faults.{scrutinee_type}

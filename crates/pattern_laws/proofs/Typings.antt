@@ -1,5 +1,5 @@
 -- A pattern that fits its type is well typed for it as it is elaborated.
-use Rattle.std.proofs.Common.{◌≡◌, ℕ, zero, suc, ◌+◌, ◌-◌, ◌≤◌, Bool, true, false, not, ◌&&◌, IsTrue, List, [], ◌∷◌, ◌++◌, length, map, replicate, nat_eq, nat_le, refl, sym, ap, subst, ◌∙◌, arith, length-append, slice_get, Option, Some, None, if◌then◌else◌, ◌^◌}
+use Rattle.std.proofs.Common.{◌≡◌, ℕ, suc, ◌+◌, ◌-◌, Bool, true, false, not, ◌&&◌, List, [], ◌∷◌, length, nat_eq, refl, sym, ap, subst, ◌∙◌, arith, slice_get, Option, Some, None, if◌then◌else◌}
 use Rattle.std.proofs.lemmas.Bool.Decides.{nat_tests}
 use Rattle.std.specs.List.{list_all}
 use Rattle.match_model.specs.declared.Mode.{Mode}
@@ -7,21 +7,20 @@ use Rattle.match_model.specs.Types.{MType, BoolType, StrType, TupleType, PointTy
 use Rattle.match_model.specs.Numbers.{MRange, closed, has_one_number}
 use Rattle.match_model.specs.Texts.{is_scalar}
 use Rattle.match_model.specs.Declarations.{MProgram, node_types}
-use Rattle.match_model.specs.RustTypes.{rust_context, rust_set, rust_arity, rust_sub, count_of_types, part_type, type_or, inner_type}
-use Rattle.match_model.specs.Constructors.{MCtor, SingleCtor, VariantCtor, PointCtor, WildCtor, OrCtor, FlagCtor, NumbersCtor, TextCtor, RowCtor, MSet, SingleSet, belongs, least_length}
+use Rattle.match_model.specs.RustTypes.{rust_context, rust_set, count_of_types, part_type, inner_type}
+use Rattle.match_model.specs.Constructors.{WildCtor, OrCtor, FlagCtor, NumbersCtor, TextCtor, RowCtor, MSet, SingleSet, belongs, least_length}
 use Rattle.match_model.specs.Patterns.{MRest, NoRest, SomeRest, BoundRest, MPat, WildPat, NumPat, FlagPat, TextPat, SpanPat, BindPat, FormPat, ListPat, PointPat, OrPat, MPats, no_pats, more_pats, MNumbered, no_numbered, more_numbered, numbers_in}
 use Rattle.match_model.specs.Matching.{to_move, mode_written, mode_behind, laid_out}
-use Rattle.match_model.specs.ArenaPatterns.{WholePart, MBound, MDePat, de_pat, MDePats, no_de_pats, more_de_pats, de_pats_list}
-use Rattle.match_model.specs.WellTyped.{IsTyped, AreAllTyped, ArePartsTyped, part_is_of, is_written}
+use Rattle.match_model.specs.ArenaPatterns.{WholePart, de_pat, no_de_pats, more_de_pats, de_pats_list}
+use Rattle.match_model.specs.WellTyped.{IsTyped, AreAllTyped, ArePartsTyped, part_is_of}
 use Rattle.pattern_rules.specs.Builders.{Built, Maker, over, leaf, span, point, through_type, types_or_none, parts_from, node_ctor, form, made, made_at, wild_maker, shape, rest_bound, and_pats, row_of, tuple_of, list_of}
 use Rattle.pattern_rules.specs.Elaborated.{with_bound, is_wide_ctor, standing_at, elaborated, elaborated_field, elaborated_alternatives, makers}
-use Rattle.pattern_rules.proofs.SameTypes.{numbers_are_one}
 use Rattle.pattern_laws.proofs.KeptLeaves.{AtBottom, EachType}
 use Rattle.pattern_laws.proofs.KeptParts.{FormFits}
-use Rattle.pattern_laws.proofs.KeptRows.{next_number, no_more, replicate_length, laid_count, made_count, part_there}
+use Rattle.pattern_laws.proofs.KeptRows.{next_number, no_more, laid_count, part_there}
 use Rattle.pattern_laws.proofs.WaysKept.{makers_count}
 use Rattle.pattern_laws.proofs.MadeLists.{MadeFrom, laid_made}
-use Rattle.pattern_laws.proofs.Fitting.{RangeFits, IsBool, IsText, IsUnbound, CountFits, IsNarrow, VariantFits, PointFits, ListFits, FitsIf, pats_count, Fits, FieldFits, PatsFit, AllFit}
+use Rattle.pattern_laws.proofs.Fitting.{RangeFits, IsBool, IsText, CountFits, IsNarrow, VariantFits, PointFits, ListFits, FitsIf, pats_count, Fits, FieldFits, PatsFit, AllFit}
 
 -- the pattern is well typed for the type
 abbrev pub Typed : MProgram → MType → Built → Type 0

@@ -1,5 +1,5 @@
 -- A pattern that fits its type keeps its ways as it is elaborated.
-use Rattle.std.proofs.Common.{◌≡◌, ℕ, suc, ◌+◌, Bool, true, false, List, [], ◌∷◌, ◌++◌, length, map, nat_eq, refl, sym, ap, subst, ◌∙◌, if◌then◌else◌}
+use Rattle.std.proofs.Common.{◌≡◌, ℕ, suc, Bool, true, false, List, length, map, nat_eq, refl, sym, ap, subst, ◌∙◌, if◌then◌else◌}
 use Rattle.match_model.specs.declared.Mode.{Mode}
 use Rattle.match_model.specs.Types.{MType, StrType, PointType}
 use Rattle.match_model.specs.Values.{MValue, Point}
@@ -14,9 +14,9 @@ use Rattle.match_model.specs.Ways.{Way, under, choosing, binding}
 use Rattle.match_model.specs.Matching.{Matcher, to_move, mode_written, ways, matchers, field_ways, alternatives_ways, number_ways, flag_ways, text_ways, span_ways, form_ways, list_ways, point_ways}
 use Rattle.match_model.specs.ArenaPatterns.{WholePart, uid_of}
 use Rattle.match_model.specs.ArenaWays.{arena_ways, arena_alternatives_ways, chosen_of}
-use Rattle.pattern_rules.specs.Builders.{Built, Maker, leaf, span, point, types_or_none, form, list_of}
+use Rattle.pattern_rules.specs.Builders.{Built, leaf, span, point, types_or_none, form, list_of}
 use Rattle.pattern_rules.specs.Elaborated.{standing_at, elaborated, elaborated_field, elaborated_alternatives, makers}
-use Rattle.pattern_laws.proofs.KeptLeaves.{with_none, point_keeps, point_value, AtBottom, EachType, through_keeps, number_keeps, flag_keeps, span_keeps, text_keeps, add_keeps}
+use Rattle.pattern_laws.proofs.KeptLeaves.{with_none, point_keeps, point_value, EachType, through_keeps, number_keeps, flag_keeps, span_keeps, text_keeps, add_keeps}
 use Rattle.pattern_laws.proofs.KeptParts.{FormFits, standing_keeps, form_keeps}
 use Rattle.pattern_laws.proofs.KeptRows.{KeepFrom, list_keeps}
 use Rattle.pattern_laws.proofs.Fitting.{IsBool, IsText, VariantFits, PointFits, ListFits, FitsIf, pats_count, Fits, FieldFits, PatsFit, AllFit}

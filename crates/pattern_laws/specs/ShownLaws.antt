@@ -13,7 +13,7 @@ use Rattle.decl_syntax.specs.Functions.{FunctionTree}
 use Rattle.pattern_rules.specs.Settings.{Setting, program}
 use Rattle.pattern_rules.specs.Faults.{scrutinee_type}
 use Rattle.pattern_rules.specs.ArenaForms.{all_within}
-use Rattle.pattern_rules.specs.Promises.{KeepsArm, KeepsMatch}
+use Rattle.pattern_rules.specs.Promises.{KeepsMatch}
 use Rattle.pattern_laws.specs.Shown.{shown}
 use Rattle.pattern_laws.specs.Laws.{IsSoundArm, elaborated_arm}
 
