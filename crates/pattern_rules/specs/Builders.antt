@@ -9,7 +9,6 @@ use Rattle.match_model.specs.Constructors.{MCtor, SingleCtor, VariantCtor, Point
 use Rattle.match_model.specs.Patterns.{MRest, NoRest, SomeRest, BoundRest}
 use Rattle.match_model.specs.Matching.{mode_written, mode_behind, to_move, laid_out}
 use Rattle.match_model.specs.ArenaPatterns.{MiddlePart, MBound, MDePat, de_pat, MDePats, no_de_pats, more_de_pats}
-use Rattle.pattern_rules.specs.Settings.{program}
 
 -- a pattern of the engine over plain types
 abbrev pub Built : Type 0

@@ -1,25 +1,15 @@
 -- No meaning: the pattern of an engine that a pattern of the definitions becomes at a type and a binding mode. An alternative
 -- has its offset as its uid; other uids and offsets are 0, but for ranges of more than one number, which have their own.
-use Rattle.std.specs.Prelude.{◌≡◌, ℕ, Bool, false, not, ◌&&◌, List, [], ◌∷◌, nat_eq, is_some, if◌then◌else◌}
-use Rattle.std.specs.List.{Contains}
+use Rattle.std.specs.Prelude.{ℕ, Bool, false, not, ◌&&◌, List, [], ◌∷◌, nat_eq, if◌then◌else◌}
 use Rattle.match_model.specs.declared.Mode.{Mode}
-use Rattle.match_model.specs.declared.Mode.TheVariants.{Move}
 use Rattle.match_model.specs.Types.{MType}
-use Rattle.match_model.specs.Values.{MValue}
 use Rattle.match_model.specs.Numbers.{closed, has_one_number}
 use Rattle.match_model.specs.Declarations.{MProgram}
-use Rattle.match_model.specs.Typing.{InDomain}
 use Rattle.match_model.specs.RustTypes.{inner_type}
 use Rattle.match_model.specs.Constructors.{MCtor, WildCtor, OrCtor, FlagCtor, NumbersCtor, TextCtor}
 use Rattle.match_model.specs.Patterns.{MPat, WildPat, NumPat, FlagPat, TextPat, SpanPat, BindPat, FormPat, ListPat, PointPat, OrPat, MPats, no_pats, more_pats, MNumbered, no_numbered, more_numbered}
-use Rattle.match_model.specs.Matching.{mode_written, to_move, ways}
+use Rattle.match_model.specs.Matching.{mode_written, to_move}
 use Rattle.match_model.specs.ArenaPatterns.{WholePart, MBound, de_pat, MDePats, no_de_pats, more_de_pats}
-use Rattle.match_model.specs.ArenaWays.{arena_ways}
-use Rattle.decl_syntax.specs.Items.{ArmTree}
-use Rattle.pattern_rules.specs.Settings.{Setting, program}
-use Rattle.decl_syntax.specs.Functions.{FunctionTree}
-use Rattle.pattern_rules.specs.Faults.{BreaksNone, scrutinee_type}
-use Rattle.pattern_rules.specs.Resolved.{resolved}
 use Rattle.pattern_rules.specs.Builders.{Built, Maker, over, leaf, span, point, through_type, form, list_of}
 
 -- the pattern with one more name bound
@@ -69,10 +59,3 @@ abbrev mutual
   elaborated_alternatives program no_numbered t m = no_de_pats
   elaborated_alternatives program (more_numbered at p ps) t m =
       more_de_pats (standing_at at (elaborated program p t m)) (elaborated_alternatives program ps t m)
-
--- not proved yet: in a well-typed function the ways of each arm's pattern are those of what it becomes
-abbrev pub WaysAreKept : Type 0
-WaysAreKept = (s : Setting) (f : FunctionTree) (a : ArmTree) (v : MValue) → BreaksNone s f → Contains f.arms a →
-    InDomain (program s) (is_some f.deref) (scrutinee_type s f) v →
-    arena_ways (elaborated (program s) (resolved s (scrutinee_type s f) a.pattern) (scrutinee_type s f) Move) v
-    ≡ ways (resolved s (scrutinee_type s f) a.pattern) Move v

@@ -24,7 +24,8 @@ with_none v [] = refl
 with_none v (w ∷ ws) = ap (λ r. w ∷ r) (with_none v ws)
 
 -- a reference over a pattern, on a reference
-pub point_keeps : (t : MType) (p : Built) (m : Bool) (w : MValue) → arena_ways (point t p) (Point m w) ≡ map (under 0) (arena_ways p w)
+pub point_keeps : (t : MType) (p : Built) (m : Bool) (w : MValue) → arena_ways (point t p) (Point m w) ≡ map (under 0)
+    (arena_ways p w)
 point_keeps t p m w =
     with_none (Point m w) (combine (map (under 0) (arena_ways p w)) (bare_way ∷ []))
     ∙ combine_bare_right (map (under 0) (arena_ways p w))
@@ -44,7 +45,8 @@ abbrev IsPlain : MValue → Type 0
 IsPlain (Point m v) = ⊥
 IsPlain _ = Unit {0}
 
-plain_of : (program : MProgram) (sure : Bool) (u : MType) (v : MValue) → IsBottom u → is_value program sure u v ≡ true → IsPlain v
+plain_of : (program : MProgram) (sure : Bool) (u : MType) (v : MValue) → IsBottom u →
+    is_value program sure u v ≡ true → IsPlain v
 plain_of program sure (PointType m t) v r e = absurd r
 plain_of program sure u (Point n w) r e = cc
 plain_of program sure u v r e = tt
@@ -54,7 +56,8 @@ plain_through g m (Point n w) r = absurd r
 plain_through g m v r = refl
 
 -- a value of a reference type
-pub point_value : (program : MProgram) (sure : Bool) (n : Bool) (t : MType) (v : MValue) → is_value program sure (PointType n t) v ≡ true →
+pub point_value : (program : MProgram) (sure : Bool) (n : Bool) (t : MType) (v : MValue) → is_value program sure
+    (PointType n t) v ≡ true →
     (w : MValue) × (v ≡ Point n w) × (is_value program false t w ≡ true)
 point_value program sure true t (Point true w) e = (w, refl, e)
 point_value program sure false t (Point false w) e = (w, refl, e)
@@ -65,8 +68,10 @@ point_value program false n t Unseen e = cc
 point_value program sure n t v e = cc
 
 -- inserted references are the source's steps through them
-pub through_keeps : (program : MProgram) (P : MType → Type 0) (f : MType → Mode → Built) (g : Mode → MValue → List Way) →
-    ((u : MType) (m : Mode) (sure : Bool) (v : MValue) → IsBottom u → P u → is_value program sure u v ≡ true → arena_ways (f u m) v ≡ g m v) →
+pub through_keeps : (program : MProgram) (P : MType → Type 0) (f : MType → Mode → Built)
+    (g : Mode → MValue → List Way) →
+    ((u : MType) (m : Mode) (sure : Bool) (v : MValue) → IsBottom u → P u → is_value program sure u v ≡ true →
+    arena_ways (f u m) v ≡ g m v) →
     (t : MType) (m : Mode) (sure : Bool) (v : MValue) → AtBottom P t → is_value program sure t v ≡ true →
     arena_ways (through_type f t m) v ≡ through_points g m v
 through_keeps program P f g h (PointType n t) m sure v p e =
@@ -78,7 +83,8 @@ through_keeps program P f g h (PointType n t) m sure v p e =
         arena_ways (through_type f (PointType n t) m) v ≡ through_points g m v
     go (w, s, i) ih =
         rw s (point_keeps (PointType n t) (through_type f t (mode_behind n m)) n w ∙ ap (map (under 0)) (ih w i))
-through_keeps program P f g h u m sure v p e = h u m sure v tt p e ∙ plain_through g m v (plain_of program sure u v tt e)
+through_keeps program P f g h u m sure v p e = h u m sure v tt p e ∙ plain_through g m v
+    (plain_of program sure u v tt e)
 
 same_number : (n : ℤ) → int_le n n ≡ true
 same_number (pos n) = grind (arith, nat_tests)
@@ -99,10 +105,13 @@ between (negsuc n) (negsuc x) = grind (arith, nat_tests)
 between (pos n) (negsuc x) = refl
 between (negsuc n) (pos x) = refl
 
-pub number_keeps : (n : ℤ) (u : MType) (v : MValue) → arena_ways (leaf (NumbersCtor (closed n n)) u) v ≡ number_ways n v
+pub number_keeps : (n : ℤ) (u : MType) (v : MValue) → arena_ways (leaf (NumbersCtor (closed n n)) u) v
+    ≡ number_ways n v
 number_keeps n u (Num x) = rw (between n x) (go (int_eq n x))
   where
-    go : (b : Bool) → map (with_bounds [] (Num x)) (map (with_spans_of (span_way 0 (closed n n))) (ways_where (some_if b []) (λ parts. subs_ways {T = MType} no_de_pats parts))) ≡ bare_if b
+    go : (b : Bool) → map (with_bounds [] (Num x))
+        (map (with_spans_of (span_way 0 (closed n n)))
+        (ways_where (some_if b []) (λ parts. subs_ways {T = MType} no_de_pats parts))) ≡ bare_if b
     go true = rw (equal_self n) refl
     go false = refl
 number_keeps n u v = refl
@@ -130,10 +139,13 @@ flag_keeps false u (Flag true) = refl
 flag_keeps false u (Flag false) = refl
 flag_keeps b u v = refl
 
-pub text_keeps : (s : List ℕ) (u : MType) (w : MValue) → map (under 0) (arena_ways (leaf (TextCtor s) u) w) ≡ text_ways s (Point false w)
+pub text_keeps : (s : List ℕ) (u : MType) (w : MValue) → map (under 0) (arena_ways (leaf (TextCtor s) u) w)
+    ≡ text_ways s (Point false w)
 text_keeps s u (Text x) = go (text_eq s x)
   where
-    go : (b : Bool) → map (under 0) (map (with_bounds [] (Text x)) (ways_where (some_if b []) (λ parts. subs_ways {T = MType} no_de_pats parts))) ≡ bare_if b
+    go : (b : Bool) → map (under 0)
+        (map (with_bounds [] (Text x)) (ways_where (some_if b []) (λ parts. subs_ways {T = MType} no_de_pats parts)))
+        ≡ bare_if b
     go true = refl
     go false = refl
 text_keeps s u w = refl
@@ -147,7 +159,8 @@ bound_keeps b v bs (w ∷ ws) = ap (λ r. with_bounds (b ∷ bs) v w ∷ r) (bou
 pub add_keeps : (b : MBound) (p : Built) (v : MValue) →
     arena_ways (with_bound b p) v ≡ map (binding b.name b.mode (bound_part b.part v)) (arena_ways p v)
 add_keeps b (de_pat c t uid at subs bs) v =
-    bound_keeps b v bs (ways_by_ctor c at (λ u. arena_alternatives_ways (chosen_of subs) subs u) (λ parts. subs_ways subs parts) v)
+    bound_keeps b v bs (ways_by_ctor c at (λ u. arena_alternatives_ways (chosen_of subs) subs u)
+    (λ parts. subs_ways subs parts) v)
 
 -- the parts one by one
 abbrev pub EachType : (ℕ → MType → Type 0) → ℕ → MTypes → Type 0

@@ -1,0 +1,4 @@
+pub mod Spelled
+pub mod Laws
+pub mod Shown
+pub mod ShownLaws
