@@ -1,0 +1,14 @@
+pub mod NamedFields
+pub mod ListLemmas
+pub mod KindTests
+pub mod TypeLemmas
+pub mod FoundLemmas
+pub mod PartLemmas
+pub mod NameLists
+pub mod BoundLemmas
+pub mod WalkSteps
+pub mod FormWalks
+pub mod FunctionLemmas
+pub mod Shapes
+pub mod FieldLemmas
+pub mod OwnFaults

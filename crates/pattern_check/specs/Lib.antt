@@ -1,0 +1,5 @@
+pub mod Checking
+pub mod TypeTests
+pub mod NodeForms
+pub mod Walks
+pub mod FunctionFaults
