@@ -19,7 +19,7 @@ use std::test::Fail;
 
 // A pattern of a flag.
 fn flag<'a>(ctor: Ctor<'a>, uid: u64, subs: &'a [DePat<'a, ToyTy>]) -> DePat<'a, ToyTy>
-    ensures { tree result ≡ de_pat (plain_ctor ctor) Flag uid uid (de_pats_of (map tree subs.now)) [] }
+    ensures { tree result ≡ de_pat (plain_ctor ctor.entry) Flag uid uid (de_pats_of (map tree subs.entry.now)) [] }
 {
     DePat {
         ctor,
