@@ -14,6 +14,7 @@ use Rattle.constructor_sets.specs.declared.piece.PieceState.{PieceState}
 use Rattle.constructor_sets.specs.declared.piece.PieceState.TheVariants.{Present, Missing, Empty}
 use Rattle.witness_search.specs.Cuts.{IsNextOf, IsLeftBehind}
 use Rattle.witness_search.specs.Found.{AreOfPiece, AreOfPieces, AreNumbered}
+use Rattle.witness_search.specs.Turns.{AreLeftFrom, GoesOn}
 
 -- what holds of all pieces holds of the one with the number
 pub at_piece : (P : MCtor × PieceState → Type 0) (pieces : List Piece) (i : ℕ) (p : Piece) → i < length pieces → p ≡ get_or pieces i p → All P (map plain_piece pieces) → P (plain_piece p)
@@ -41,10 +42,6 @@ left_of ctors (k ∷ ks) new (c, Present) ps h (j, e) = subst (λ ns. AreNumbere
 left_of ctors old new (c, Missing) ps h b = subst (λ ns. AreNumbered ctors ns (filter_map present_piece ps)) b h
 left_of ctors old new (c, Empty) ps h b = subst (λ ns. AreNumbered ctors ns (filter_map present_piece ps)) b h
 
--- the numbers that are left are those of the pieces from here on
-abbrev pub AreLeftFrom : (ctors : List MCtor) → (numbers : List ℕ) → (pieces : List Piece) → (from : ℕ) → Type 0
-AreLeftFrom ctors numbers pieces i = AreNumbered ctors numbers (filter_map present_piece (map plain_piece (drop i pieces)))
-
 pub next_at : (ctors : List MCtor) (numbers : List ℕ) (pieces : List Piece) (i : ℕ) (p : Piece) → i < length pieces → p ≡ get_or pieces i p → AreLeftFrom ctors numbers pieces i →
     IsNextOf ctors numbers (plain_piece p)
 next_at ctors numbers pieces i p l is h =
@@ -59,14 +56,8 @@ left_behind ctors old new pieces i j p e l is h b =
     (subst (λ (ps : List Piece). AreNumbered ctors old (filter_map present_piece (map plain_piece ps))) (from_piece pieces i p l is) h) b)
 
 module _ {T : Type 0} (cx : Context T) (IsValue : T → Bool → MValue → Type 0) (named : List (List ℕ)) (o : Open T) (places : List (Open T)) (rows : List (List (Head T))) where
-  -- what is found of the pieces from here on, behind what was found, is found of all
-  abbrev pub GoesOn : (pieces : List Piece) → (from : ℕ) → (done : List (List MWitness)) → Type 0
-  GoesOn pieces i done =
-      (ts : List (List MWitness)) → AreOfPieces cx IsValue named o places rows (map plain_piece (drop i pieces)) ts →
-      AreOfPieces cx IsValue named o places rows (map plain_piece pieces) (done ++ ts)
-
-  pub goes_on : (pieces : List Piece) (i j : ℕ) (p : Piece) (done us new : List (List MWitness)) → j ≡ suc i → i < length pieces → p ≡ get_or pieces i p → GoesOn pieces i done →
-      AreOfPiece cx IsValue named o places rows (plain_piece p) us → new ≡ done ++ us → GoesOn pieces j new
+  pub goes_on : (pieces : List Piece) (i j : ℕ) (p : Piece) (done us new : List (List MWitness)) → j ≡ suc i → i < length pieces → p ≡ get_or pieces i p → GoesOn cx IsValue named o places rows pieces i done →
+      AreOfPiece cx IsValue named o places rows (plain_piece p) us → new ≡ done ++ us → GoesOn cx IsValue named o places rows pieces j new
   goes_on pieces i j p done us new e l is g f n ts h =
       let rest = subst (λ k. AreOfPieces cx IsValue named o places rows (map plain_piece (drop k pieces)) ts) e h in
       let here = subst (λ (ps : List Piece). AreOfPieces cx IsValue named o places rows (map plain_piece ps) (us ++ ts)) (sym (from_piece pieces i p l is)) (us, ts, f, rest, refl) in

@@ -9,6 +9,7 @@ pub mod Ends
 pub mod Steps
 pub mod Starting
 pub mod Going
+pub mod Turning
 pub mod Walking
 pub mod Order
 mod FlagMatch

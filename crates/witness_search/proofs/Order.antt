@@ -1,98 +1,219 @@
--- An entry put into entries in reading order, of which the last stands first.
-use Rattle.std.proofs.Common.{◌≡◌, ◌<◌, ℕ, zero, suc, arith, length, take, drop, get_or, drop-cons, take-append-drop, Bool, true, false, List, [], ◌∷◌, ◌++◌, reverse, cond, refl, sym, ap, subst, ◌∙◌, append_assoc, append-nil}
+-- Entries sorted by arm and offset stand in reading order: a stable sort has one outcome.
+use Rattle.std.proofs.Common.{◌≡◌, ◌<◌, ℕ, zero, suc, arith, length, get_or, add-one, Bool, true, false, not, ◌&&◌, ◌||◌, List, [], ◌∷◌, filter, map, cond, nat_lt, nat_le, nat_eq, refl, sym, ap, subst, ◌∙◌}
 use Rattle.std.specs.List.{All}
-use Rattle.std.proofs.lemmas.List.{map-append, reverse-append}
-use Rattle.std.proofs.lemmas.List.Elements.{All-cons, All-nil, All-head, All-tail, All-append, All-map}
-use Rattle.match_model.specs.ArenaUnreachable.{is_at_or_before, put_in}
+use Rattle.std.specs.List.Sorted.{IsSortedByKey, IsStableByKey, ties}
+use Rattle.std.specs.Ordering.{nat_cmp, is_lt, ordering_then}
+use Rattle.std.specs.declared.cmp.Ordering.{Ordering}
+use Rattle.std.proofs.lemmas.Bool.Decides.{nat_tests}
+use Rattle.std.proofs.lemmas.List.Elements.{All-cons, All-nil, All-head, All-tail}
+use Rattle.match_model.specs.ArenaUnreachable.{is_at_or_before, put_in, in_reading_order}
 use Rattle.match_model.specs.Unreachable.{Entry}
 use Rattle.witnesses.specs.declared.judgement.Unreachable.{Unreachable}
 use Rattle.witness_search.specs.Entries.{plain_entry, plain_entries}
 
--- behind entries that it does not stand before
-put_behind : (e : Entry) (rs zs : List Entry) → All (λ f. is_at_or_before e f ≡ false) rs → put_in e (rs ++ zs) ≡ rs ++ put_in e zs
-put_behind e [] zs a = refl
-put_behind e (f ∷ rs) zs a =
-    ap (λ b. cond b (e ∷ f ∷ (rs ++ zs)) (f ∷ put_in e (rs ++ zs))) (All-head (λ x. is_at_or_before e x ≡ false) f rs a)
-    ∙ ap (λ xs. f ∷ xs) (put_behind e rs zs (All-tail (λ x. is_at_or_before e x ≡ false) f rs a))
+-- ---- the order of two entries
 
--- before one that it stands before
-put_before : (e f : Entry) (zs : List Entry) → is_at_or_before e f ≡ true → put_in e (f ∷ zs) ≡ e ∷ f ∷ zs
-put_before e f zs h = ap (λ b. cond b (e ∷ f ∷ zs) (f ∷ put_in e zs)) h
+abbrev pub before : Unreachable → Unreachable → Bool
+before x y = is_at_or_before (plain_entry x) (plain_entry y)
 
-all_reversed : {X : Type 0} (P : X → Type 0) (xs : List X) → All P xs → All P (reverse xs)
-all_reversed P [] a = All-nil P
-all_reversed P (x ∷ xs) a =
-    subst (All P) (sym (reverse-append (x ∷ []) xs)) (All-append P (reverse xs) (x ∷ []) (all_reversed P xs (All-tail P x xs a)) (All-cons P x [] (All-head P x xs a) (All-nil P)))
+before-refl : (x : Unreachable) → before x x ≡ true
+before-refl x = go x.arm x.at
+  where
+    go : (a b : ℕ) → (nat_lt a a || (nat_eq a a && nat_le b b)) ≡ true
+    go a b = grind (arith, nat_tests)
 
--- of entries as they stand, the last first
-abbrev pub Fails : Unreachable → List Unreachable → Type 0
-Fails e ys = All (λ f. is_at_or_before (plain_entry e) (plain_entry f) ≡ false) ys
+before-trans : (x y z : Unreachable) → before x y ≡ true → before y z ≡ true → before x z ≡ true
+before-trans x y z e f = go x.arm x.at y.arm y.at z.arm z.at e f
+  where
+    go : (a b c d m n : ℕ) → (nat_lt a c || (nat_eq a c && nat_le b d)) ≡ true → (nat_lt c m || (nat_eq c m && nat_le d n)) ≡ true → (nat_lt a m || (nat_eq a m && nat_le b n)) ≡ true
+    go a b c d m n e f = grind (arith, nat_tests)
 
-turned : (xs ys : List Unreachable) → plain_entries (reverse (xs ++ ys)) ≡ plain_entries (reverse ys) ++ plain_entries (reverse xs)
-turned xs ys = ap plain_entries (reverse-append xs ys) ∙ map-append plain_entry (reverse ys) (reverse xs)
+before-total : (x y : Unreachable) → before x y ≡ false → before y x ≡ true
+before-total x y e = go x.arm x.at y.arm y.at e
+  where
+    go : (a b c d : ℕ) → (nat_lt a c || (nat_eq a c && nat_le b d)) ≡ false → (nat_lt c a || (nat_eq c a && nat_le d b)) ≡ true
+    go a b c d e = grind (arith, nat_tests)
 
-turned_with : (e : Unreachable) (xs ys : List Unreachable) → plain_entries (reverse (xs ++ e ∷ ys)) ≡ plain_entries (reverse ys) ++ plain_entry e ∷ plain_entries (reverse xs)
-turned_with e xs ys =
-    turned xs (e ∷ ys) ∙ ap (λ zs. zs ++ plain_entries (reverse xs)) (turned (e ∷ []) ys)
-    ∙ append_assoc (plain_entries (reverse ys)) (plain_entry e ∷ []) (plain_entries (reverse xs))
+-- neither stands before the other
+abbrev tie : Unreachable → Unreachable → Bool
+tie x y = before y x && before x y
 
-fails_plain : (e : Unreachable) (ys : List Unreachable) → Fails e ys → All (λ f. is_at_or_before (plain_entry e) f ≡ false) (plain_entries (reverse ys))
-fails_plain e ys a =
-    All-map (λ f. is_at_or_before (plain_entry e) f ≡ false) plain_entry (reverse ys) (all_reversed (λ f. is_at_or_before (plain_entry e) (plain_entry f) ≡ false) ys a)
+both_true : (a b : Bool) → (a && b) ≡ true → (a ≡ true) × (b ≡ true)
+both_true true true e = (refl, refl)
+both_true true false e = cc
+both_true false b e = cc
 
-pub put_first : (e : Unreachable) (ys : List Unreachable) → Fails e ys → put_in (plain_entry e) (plain_entries (reverse ys)) ≡ plain_entries (reverse (e ∷ ys))
-put_first e ys a =
-    ap (put_in (plain_entry e)) (sym (append-nil (plain_entries (reverse ys))))
-    ∙ put_behind (plain_entry e) (plain_entries (reverse ys)) [] (fails_plain e ys a) ∙ sym (turned_with e [] ys)
+true_both : (a b : Bool) → a ≡ true → b ≡ true → (a && b) ≡ true
+true_both true true e f = refl
+true_both true false e f = cc
+true_both false b e f = cc
 
-pub put_at : (e f : Unreachable) (xs ys : List Unreachable) → Fails e ys → is_at_or_before (plain_entry e) (plain_entry f) ≡ true →
-    put_in (plain_entry e) (plain_entries (reverse ((xs ++ f ∷ []) ++ ys))) ≡ plain_entries (reverse ((xs ++ f ∷ []) ++ e ∷ ys))
-put_at e f xs ys a h =
-    let rs = plain_entries (reverse ys) in
-    let last : plain_entries (reverse (xs ++ f ∷ [])) ≡ plain_entry f ∷ plain_entries (reverse xs) = turned xs (f ∷ []) in
-    ap (put_in (plain_entry e)) (turned (xs ++ f ∷ []) ys ∙ ap (λ zs. rs ++ zs) last)
-    ∙ put_behind (plain_entry e) rs (plain_entry f ∷ plain_entries (reverse xs)) (fails_plain e ys a)
-    ∙ ap (λ zs. rs ++ zs) (put_before (plain_entry e) (plain_entry f) (plain_entries (reverse xs)) h)
-    ∙ sym (turned_with e (xs ++ f ∷ []) ys ∙ ap (λ zs. rs ++ plain_entry e ∷ zs) last)
+tie-refl : (x : Unreachable) → tie x x ≡ true
+tie-refl x = true_both (before x x) (before x x) (before-refl x) (before-refl x)
 
--- ---- found from the last entry down
+-- ---- lists in order
 
-pub fails_more : (e f : Unreachable) (sorted : List Unreachable) (k : ℕ) → k < length sorted → f ≡ get_or sorted k f → Fails e (drop (suc k) sorted) →
-    is_at_or_before (plain_entry e) (plain_entry f) ≡ false → Fails e (drop k sorted)
-fails_more e f sorted k l is a h =
-    subst (Fails e) (sym (drop-cons sorted k f l ∙ ap (λ y. y ∷ drop (suc k) sorted) (sym is)))
-    (All-cons (λ x. is_at_or_before (plain_entry e) (plain_entry x) ≡ false) f (drop (suc k) sorted) h a)
+abbrev Rise : List Unreachable → Type 0
+Rise [] = Unit {0}
+Rise (x ∷ xs) = All (λ y. before x y ≡ true) xs × Rise xs
 
-taken_more : (sorted : List Unreachable) (k : ℕ) (f : Unreachable) → k < length sorted → f ≡ get_or sorted k f → take (suc k) sorted ≡ take k sorted ++ f ∷ []
-taken_more [] k f l is = absurd (omega (arith, l))
-taken_more (x ∷ xs) zero f l is = ap (λ y. y ∷ []) (sym is)
-taken_more (x ∷ xs) (suc k) f l is = ap (λ ys. x ∷ ys) (taken_more xs k f (omega (arith, l)) is)
+tail_is : {X : Type 0} (x y : X) (xs ys : List X) → x ∷ xs ≡ y ∷ ys → xs ≡ ys
+tail_is x y xs ys e = cc
 
-pub place_found : (e f : Unreachable) (sorted : List Unreachable) (k : ℕ) → k < length sorted → f ≡ get_or sorted k f → Fails e (drop (suc k) sorted) →
-    is_at_or_before (plain_entry e) (plain_entry f) ≡ true →
-    put_in (plain_entry e) (plain_entries (reverse sorted)) ≡ plain_entries (reverse (take (suc k) sorted ++ e ∷ drop (suc k) sorted))
-place_found e f sorted k l is a h =
-    let more = taken_more sorted k f l is in
-    ap (λ xs. put_in (plain_entry e) (plain_entries (reverse xs))) (sym (take-append-drop (suc k) sorted) ∙ ap (λ xs. xs ++ drop (suc k) sorted) more)
-    ∙ put_at e f (take k sorted) (drop (suc k) sorted) a h
-    ∙ ap (λ xs. plain_entries (reverse (xs ++ e ∷ drop (suc k) sorted))) (sym more)
+head_is : {X : Type 0} (x y : X) (xs ys : List X) → x ∷ xs ≡ y ∷ ys → x ≡ y
+head_is x y xs ys e = cc
 
-same_at : (xs : List Unreachable) (k : ℕ) (d : Unreachable) → k < length xs → get_or xs k d ≡ get_or xs k (get_or xs k d)
-same_at [] k d l = absurd (omega (arith, l))
-same_at (x ∷ xs) zero d l = refl
-same_at (x ∷ xs) (suc k) d l = same_at xs k d (omega (arith, l))
+-- the first that passes a test passes it, and has what all have
+first_of : {X : Type 0} (p : X → Bool) (Q : X → Type 0) (xs : List X) (y : X) (ys : List X) → filter p xs ≡ y ∷ ys → All Q xs → (p y ≡ true) × Q y
+first_of p Q [] y ys e a = cc
+first_of {X = X} p Q (x ∷ xs) y ys e a = go (p x) refl e (λ f. first_of p Q xs y ys f (All-tail Q x xs a))
+  where
+    go : (b : Bool) → p x ≡ b → cond b (x ∷ filter p xs) (filter p xs) ≡ y ∷ ys → (filter p xs ≡ y ∷ ys → (p y ≡ true) × Q y) → (p y ≡ true) × Q y
+    go true h e f = let is = head_is x y (filter p xs) ys e in (subst (λ z. p z ≡ true) is h, subst Q is (All-head Q x xs a))
+    go false h e f = f e
 
--- the place is found, by the answer of the test
-pub place_here : (e : Unreachable) (sorted : List Unreachable) (j k : ℕ) (d : Unreachable) (r : Bool) → j ≡ suc k → k < length sorted → Fails e (drop j sorted) →
-    r ≡ is_at_or_before (plain_entry e) (plain_entry (get_or sorted k d)) → r ≡ true →
-    put_in (plain_entry e) (plain_entries (reverse sorted)) ≡ plain_entries (reverse (take j sorted ++ e ∷ drop j sorted))
-place_here e sorted j k d r ej l a h t =
-    subst (λ n. put_in (plain_entry e) (plain_entries (reverse sorted)) ≡ plain_entries (reverse (take n sorted ++ e ∷ drop n sorted))) (sym ej)
-    (place_found e (get_or sorted k d) sorted k l (same_at sorted k d l) (subst (λ n. Fails e (drop n sorted)) ej a) (sym h ∙ t))
+-- of two lists in order that have the same ties in the same order the first of the one stands at or before that of the other
+first_before : (a b : Unreachable) (xs ys : List Unreachable) → Rise (b ∷ ys) → filter (tie a) (a ∷ xs) ≡ filter (tie a) (b ∷ ys) → before b a ≡ true
+first_before a b xs ys r e =
+    let shown : filter (tie a) (a ∷ xs) ≡ a ∷ filter (tie a) xs = ap (λ t. cond t (a ∷ filter (tie a) xs) (filter (tie a) xs)) (tie-refl a) in
+    (first_of (tie a) (λ y. before b y ≡ true) (b ∷ ys) a (filter (tie a) xs) (sym e ∙ shown) (All-cons (λ y. before b y ≡ true) b ys (before-refl b) r.0)).1
 
--- one more entry that it does not stand before
-pub fails_here : (e : Unreachable) (sorted : List Unreachable) (j k m : ℕ) (d : Unreachable) (r : Bool) → j ≡ suc k → m ≡ k → k < length sorted → Fails e (drop j sorted) →
-    r ≡ is_at_or_before (plain_entry e) (plain_entry (get_or sorted k d)) → r ≡ false → Fails e (drop m sorted)
-fails_here e sorted j k m d r ej em l a h t =
-    subst (λ n. Fails e (drop n sorted)) (sym em)
-    (fails_more e (get_or sorted k d) sorted k l (same_at sorted k d l) (subst (λ n. Fails e (drop n sorted)) ej a) (sym h ∙ t))
+rest_same : (x a b : Unreachable) (xs ys : List Unreachable) → a ≡ b → filter (tie x) (a ∷ xs) ≡ filter (tie x) (b ∷ ys) → filter (tie x) xs ≡ filter (tie x) ys
+rest_same x a b xs ys is e = go (tie x a) refl (e ∙ ap (λ y. filter (tie x) (y ∷ ys)) (sym is))
+  where
+    go : (t : Bool) → tie x a ≡ t → cond t (a ∷ filter (tie x) xs) (filter (tie x) xs) ≡ cond t (a ∷ filter (tie x) ys) (filter (tie x) ys) → filter (tie x) xs ≡ filter (tie x) ys
+    go true h e = tail_is a a (filter (tie x) xs) (filter (tie x) ys) e
+    go false h e = e
+
+one_outcome : (xs ys : List Unreachable) → Rise xs → Rise ys → ((x : Unreachable) → filter (tie x) xs ≡ filter (tie x) ys) → xs ≡ ys
+one_outcome [] [] r s f = refl
+one_outcome [] (b ∷ ys) r s f =
+    let shown : filter (tie b) (b ∷ ys) ≡ b ∷ filter (tie b) ys = ap (λ t. cond t (b ∷ filter (tie b) ys) (filter (tie b) ys)) (tie-refl b) in
+    let none : [] ≡ b ∷ filter (tie b) ys = f b ∙ shown in cc
+one_outcome (a ∷ xs) [] r s f =
+    let shown : filter (tie a) (a ∷ xs) ≡ a ∷ filter (tie a) xs = ap (λ t. cond t (a ∷ filter (tie a) xs) (filter (tie a) xs)) (tie-refl a) in
+    let none : a ∷ filter (tie a) xs ≡ [] = sym shown ∙ f a in cc
+one_outcome (a ∷ xs) (b ∷ ys) r s f =
+    let low = first_before a b xs ys s (f a) in
+    let high = first_before b a ys xs r (sym (f b)) in
+    let tied = true_both (before b a) (before a b) low high in
+    let here : filter (tie a) (a ∷ xs) ≡ a ∷ filter (tie a) xs = ap (λ t. cond t (a ∷ filter (tie a) xs) (filter (tie a) xs)) (tie-refl a) in
+    let there : filter (tie a) (b ∷ ys) ≡ b ∷ filter (tie a) ys = ap (λ t. cond t (b ∷ filter (tie a) ys) (filter (tie a) ys)) tied in
+    let is = head_is a b (filter (tie a) xs) (filter (tie a) ys) (sym here ∙ f a ∙ there) in
+    let rest = one_outcome xs ys r.1 s.1 (λ x. rest_same x a b xs ys is (f x)) in
+    ap (λ y. y ∷ xs) is ∙ ap (λ ys. b ∷ ys) rest
+
+-- ---- the reading order
+
+abbrev put : Unreachable → List Unreachable → List Unreachable
+put e [] = e ∷ []
+put e (f ∷ rest) = cond (before e f) (e ∷ f ∷ rest) (f ∷ put e rest)
+
+abbrev sorted : List Unreachable → List Unreachable
+sorted [] = []
+sorted (e ∷ rest) = put e (sorted rest)
+
+put_plain : (e : Unreachable) (fs : List Unreachable) → plain_entries (put e fs) ≡ put_in (plain_entry e) (plain_entries fs)
+put_plain e [] = refl
+put_plain e (f ∷ rest) = go (before e f) (put_plain e rest)
+  where
+    go : (b : Bool) → plain_entries (put e rest) ≡ put_in (plain_entry e) (plain_entries rest) →
+        plain_entries (cond b (e ∷ f ∷ rest) (f ∷ put e rest)) ≡ cond b (plain_entry e ∷ plain_entry f ∷ plain_entries rest) (plain_entry f ∷ put_in (plain_entry e) (plain_entries rest))
+    go true h = refl
+    go false h = ap (λ xs. plain_entry f ∷ xs) h
+
+sorted_plain : (es : List Unreachable) → plain_entries (sorted es) ≡ in_reading_order (plain_entries es)
+sorted_plain [] = refl
+sorted_plain (e ∷ rest) = put_plain e (sorted rest) ∙ ap (put_in (plain_entry e)) (sorted_plain rest)
+
+put_all : (P : Unreachable → Type 0) (e : Unreachable) (fs : List Unreachable) → P e → All P fs → All P (put e fs)
+put_all P e [] p a = All-cons P e [] p (All-nil P)
+put_all P e (f ∷ rest) p a = go (before e f) (put_all P e rest p (All-tail P f rest a))
+  where
+    go : (b : Bool) → All P (put e rest) → All P (cond b (e ∷ f ∷ rest) (f ∷ put e rest))
+    go true h = All-cons P e (f ∷ rest) p a
+    go false h = All-cons P f (put e rest) (All-head P f rest a) h
+
+put_rises : (e : Unreachable) (fs : List Unreachable) → Rise fs → Rise (put e fs)
+put_rises e [] r = (All-nil (λ y. before e y ≡ true), tt)
+put_rises e (f ∷ rest) r = go (before e f) refl (put_rises e rest r.1)
+  where
+    go : (b : Bool) → before e f ≡ b → Rise (put e rest) → Rise (cond b (e ∷ f ∷ rest) (f ∷ put e rest))
+    go true h more = (All-cons (λ y. before e y ≡ true) f rest h (λ k d l. before-trans e f (get_or rest k d) h (r.0 k d l)), r)
+    go false h more = (put_all (λ y. before f y ≡ true) e rest (before-total e f h) r.0, more)
+
+sorted_rises : (es : List Unreachable) → Rise (sorted es)
+sorted_rises [] = tt
+sorted_rises (e ∷ rest) = put_rises e (sorted rest) (sorted_rises rest)
+
+-- two that do not tie may change places
+changed : (x e f : Unreachable) (fs : List Unreachable) → before e f ≡ false → filter (tie x) (f ∷ e ∷ fs) ≡ filter (tie x) (e ∷ f ∷ fs)
+changed x e f fs h = go (tie x e) (tie x f) refl refl
+  where
+    go : (s t : Bool) → tie x e ≡ s → tie x f ≡ t →
+        cond t (f ∷ cond s (e ∷ filter (tie x) fs) (filter (tie x) fs)) (cond s (e ∷ filter (tie x) fs) (filter (tie x) fs))
+        ≡ cond s (e ∷ cond t (f ∷ filter (tie x) fs) (filter (tie x) fs)) (cond t (f ∷ filter (tie x) fs) (filter (tie x) fs))
+    go true true a b =
+        let low = (both_true (before e x) (before x e) a).0 in
+        let high = (both_true (before f x) (before x f) b).1 in
+        let met : before e f ≡ true = before-trans e x f low high in cc
+    go true false a b = refl
+    go false true a b = refl
+    go false false a b = refl
+
+put_keeps : (x e : Unreachable) (fs : List Unreachable) → filter (tie x) (put e fs) ≡ filter (tie x) (e ∷ fs)
+put_keeps x e [] = refl
+put_keeps x e (f ∷ rest) = go (before e f) refl (put_keeps x e rest)
+  where
+    go : (b : Bool) → before e f ≡ b → filter (tie x) (put e rest) ≡ filter (tie x) (e ∷ rest) →
+        filter (tie x) (cond b (e ∷ f ∷ rest) (f ∷ put e rest)) ≡ filter (tie x) (e ∷ f ∷ rest)
+    go true h k = refl
+    go false h k = ap (λ ys. cond (tie x f) (f ∷ ys) ys) k ∙ changed x e f rest h
+
+sorted_keeps : (x : Unreachable) (es : List Unreachable) → filter (tie x) (sorted es) ≡ filter (tie x) es
+sorted_keeps x [] = refl
+sorted_keeps x (e ∷ rest) = put_keeps x e (sorted rest) ∙ ap (λ ys. cond (tie x e) (e ∷ ys) ys) (sorted_keeps x rest)
+
+-- ---- what the library's sort says
+
+abbrev pub key : Unreachable → ℕ × ℕ
+key x = (x.arm, x.at)
+
+abbrev pub key_cmp : ℕ × ℕ → ℕ × ℕ → Ordering
+key_cmp x y = ordering_then (nat_cmp x.0 y.0) (nat_cmp x.1 y.1)
+
+abbrev less : Unreachable → Unreachable → Bool
+less x y = is_lt (key_cmp (key x) (key y))
+
+less_not : (x y : Unreachable) → not (less y x) ≡ before x y
+less_not x y = go x.arm x.at y.arm y.at
+  where
+    go : (a b c d : ℕ) → not (is_lt (key_cmp (c, d) (a, b))) ≡ (nat_lt a c || (nat_eq a c && nat_le b d))
+    go a b c d = grind (arith, nat_tests)
+
+ties_same : (x y : Unreachable) → ties less x y ≡ tie x y
+ties_same x y = ap (λ b. b && not (less y x)) (less_not y x) ∙ ap (λ b. before y x && b) (less_not x y)
+
+filter_same : {X : Type 0} (p q : X → Bool) (xs : List X) → ((x : X) → p x ≡ q x) → filter p xs ≡ filter q xs
+filter_same p q [] f = refl
+filter_same p q (x ∷ xs) f = ap (λ b. cond b (x ∷ filter p xs) (filter p xs)) (f x) ∙ ap (λ ys. cond (q x) (x ∷ ys) ys) (filter_same p q xs f)
+
+not_false : (b : Bool) → b ≡ false → not b ≡ true
+not_false true e = cc
+not_false false e = refl
+
+rises : (xs : List Unreachable) → ((k : ℕ) (d : Unreachable) → suc k < length xs → less (get_or xs (suc k) d) (get_or xs k d) ≡ false) → Rise xs
+rises [] h = tt
+rises (x ∷ []) h = (All-nil (λ y. before x y ≡ true), tt)
+rises (x ∷ y ∷ xs) h =
+    let more = rises (y ∷ xs) (λ k d l. h (suc k) d (omega (arith, l))) in
+    let next : before x y ≡ true = sym (less_not x y) ∙ not_false (less y x) (h zero x (omega arith)) in
+    (All-cons (λ z. before x z ≡ true) y xs next (λ k d l. before-trans x y (get_or xs k d) next (more.0 k d l)), more)
+
+-- a stable sort by arm and offset gives the reading order
+pub sort_reads : (xs ys : List Unreachable) → IsSortedByKey key key_cmp ys → IsStableByKey key key_cmp xs ys → plain_entries ys ≡ in_reading_order (plain_entries xs)
+sort_reads xs ys s t =
+    let up = rises ys (λ k d l. subst (λ j. less (get_or ys j d) (get_or ys k d) ≡ false) (add-one k) (s k d (omega arith) (omega (arith, l)))) in
+    ap plain_entries (one_outcome ys (sorted xs) up (sorted_rises xs)
+    (λ x. filter_same (tie x) (ties less x) ys (λ y. sym (ties_same x y)) ∙ t x ∙ filter_same (ties less x) (tie x) xs (ties_same x) ∙ sym (sorted_keeps x xs)))
+    ∙ sorted_plain xs

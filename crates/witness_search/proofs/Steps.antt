@@ -40,86 +40,90 @@ module _ {T : Type 0} (IsType : T → Type 0) (cx : Context T) (IsValue : T → 
   some_rows : (rows new : List (Row T)) → rows ≡ new → 0 < length new → 0 < length (plain_rows rows)
   some_rows rows new e l = let a = length-map rows plain_row in omega (arith, a, l, ap length e)
 
-  pub wild_found : (next : ℕ) (others : List (Opened T)) (e : Apart T) (rows : List (Row T)) (place : Opened T) → e.rows.now ≡ rows → e.place ≡ place →
-      IsTakenApart IsType cx next others e → 0 < length rows → plain_ctors e.heads.items ≡ [] → (ws : List (List MWitness)) →
+  pub wild_found : (others : List (Opened T)) (e : Apart T) (rows : List (Row T)) (place : Opened T) → e.rows.items ≡ rows → e.place ≡ place →
+      IsTakenApart IsType cx others e → 0 < length rows → plain_ctors e.heads.items ≡ [] → (ws : List (List MWitness)) →
       Witnesses cx IsValue (places_of others) (wild_rests (apart_heads others e)) ws →
       Witnesses cx IsValue (plain_column place.column ∷ places_of others) (heads_over (place.number ∷ numbers_of others) (plain_rows rows)) (map (λ w. AnyOf ∷ w) ws)
-  wild_found next others e rows place r p a l n ws h =
-      moved others e.rows.now rows e.place place r p (map (λ w. AnyOf ∷ w) ws)
-      (wild_back IsType cx IsValue next e.place.number (plain_column e.place.column) (numbers_of others) (places_of others) (plain_rows e.rows.now) (plain_leaves e.leaves.items) (plain_ctors e.heads.items)
-      a (some_rows e.rows.now rows r l) n ws h)
+  wild_found others e rows place r p a l n ws h =
+      moved others e.rows.items rows e.place place r p (map (λ w. AnyOf ∷ w) ws)
+      (wild_back IsType cx IsValue e.next e.place.number (plain_column e.place.column) (numbers_of others) (places_of others) (plain_rows e.rows.items) (plain_leaves e.leaves.items) (plain_ctors e.heads.items)
+      a (some_rows e.rows.items rows r l) n ws h)
 
-  pub split_found : (next : ℕ) (others : List (Opened T)) (e : Apart T) (rows : List (Row T)) (place : Opened T) → e.rows.now ≡ rows → e.place ≡ place →
-      IsTakenApart IsType cx next others e → 0 < length rows → 0 < length (plain_ctors e.heads.items) → (ws : List (List MWitness)) →
+  pub split_found : (others : List (Opened T)) (e : Apart T) (rows : List (Row T)) (place : Opened T) → e.rows.items ≡ rows → e.place ≡ place →
+      IsTakenApart IsType cx others e → 0 < length rows → 0 < length (plain_ctors e.heads.items) → (ws : List (List MWitness)) →
       AreSplitWitnesses cx IsValue (plain_column e.place.column) (places_of others) (apart_heads others e) ws →
       Witnesses cx IsValue (plain_column place.column ∷ places_of others) (heads_over (place.number ∷ numbers_of others) (plain_rows rows)) ws
-  split_found next others e rows place r p a l n ws h =
-      moved others e.rows.now rows e.place place r p ws
-      (split_back IsType cx IsValue next e.place.number (plain_column e.place.column) (numbers_of others) (places_of others) (plain_rows e.rows.now) (plain_leaves e.leaves.items) (plain_ctors e.heads.items)
-      a (some_rows e.rows.now rows r l) n ws h)
+  split_found others e rows place r p a l n ws h =
+      moved others e.rows.items rows e.place place r p ws
+      (split_back IsType cx IsValue e.next e.place.number (plain_column e.place.column) (numbers_of others) (places_of others) (plain_rows e.rows.items) (plain_leaves e.leaves.items) (plain_ctors e.heads.items)
+      a (some_rows e.rows.items rows r l) n ws h)
 
   -- the rows of the piece, by the leaves and the columns that code has
   abbrev ArePieceRows : List (Opened T) → Apart T → MCtor → ℕ → List ℕ → List (SparseRow T) → Type 0
   ArePieceRows others e piece n numbers new =
-      row_views numbers new ≡ map bare_row (specialised_rows [] piece n (leaf_views (numbers_of others) (plain_rows e.rows.now) (plain_leaves e.leaves.items)))
+      row_views numbers new ≡ map bare_row (specialised_rows [] piece n (leaf_views (numbers_of others) (plain_rows e.rows.items) (plain_leaves e.leaves.items)))
 
-  pub entered_well : PartsLaw IsType IsValue cx → (next : ℕ) (others : List (Opened T)) (e : Apart T) (piece : MCtor) (new : List (SparseRow T)) (n : ℕ) (numbers : List ℕ) (places : List (Open T)) →
-      IsTakenApart IsType cx next others e → IsEnterable cx (plain_column e.place.column) piece → n ≡ cx.arity piece e.place.column.ty →
-      numbers ≡ columns_from next n ++ numbers_of others → places ≡ parts_open cx (plain_column e.place.column) piece ++ places_of others →
-      ArePieceRows others e piece n (columns_from next n ++ numbers_of others) new → AreBelow (next + n) new → IsWell IsType cx (next + n) numbers places new
-  entered_well law next others e piece new n numbers places a b en ens eps er eb =
+  pub entered_well : PartsLaw IsType IsValue cx → (others : List (Opened T)) (e : Apart T) (piece : MCtor) (new : List (SparseRow T)) (n : ℕ) (numbers : List ℕ) (places : List (Open T)) →
+      IsTakenApart IsType cx others e → IsEnterable cx (plain_column e.place.column) piece → n ≡ cx.arity piece e.place.column.ty →
+      numbers ≡ columns_from e.next n ++ numbers_of others → places ≡ parts_open cx (plain_column e.place.column) piece ++ places_of others →
+      ArePieceRows others e piece n (columns_from e.next n ++ numbers_of others) new → AreBelow (e.next + n) new → IsWell IsType cx (e.next + n) numbers places new
+  entered_well law others e piece new n numbers places a b en ens eps er eb =
       let o = plain_column e.place.column in
-      let w = piece_well IsType cx IsValue law next e.place.number o (numbers_of others) (places_of others) (plain_rows e.rows.now) new (plain_leaves e.leaves.items) (plain_ctors e.heads.items) piece a b
-      (subst (λ k. ArePieceRows others e piece k (columns_from next k ++ numbers_of others) new) en er) (subst (λ k. AreBelow (next + k) new) en eb) in
-      subst (λ ps. IsWell IsType cx (next + n) numbers ps new) (sym eps)
-      (subst (λ ns. IsWell IsType cx (next + n) ns (parts_open cx o piece ++ places_of others) new) (sym ens)
-      (subst (λ k. IsWell IsType cx (next + k) (columns_from next k ++ numbers_of others) (parts_open cx o piece ++ places_of others) new) (sym en) w))
+      let w = piece_well IsType cx IsValue law e.next e.place.number o (numbers_of others) (places_of others) (plain_rows e.rows.items) new (plain_leaves e.leaves.items) (plain_ctors e.heads.items) piece a b
+      (subst (λ k. ArePieceRows others e piece k (columns_from e.next k ++ numbers_of others) new) en er) (subst (λ k. AreBelow (e.next + k) new) en eb) in
+      subst (λ ps. IsWell IsType cx (e.next + n) numbers ps new) (sym eps)
+      (subst (λ ns. IsWell IsType cx (e.next + n) ns (parts_open cx o piece ++ places_of others) new) (sym ens)
+      (subst (λ k. IsWell IsType cx (e.next + k) (columns_from e.next k ++ numbers_of others) (parts_open cx o piece ++ places_of others) new) (sym en) w))
 
-  pub entered_back : (next : ℕ) (others : List (Opened T)) (e : Apart T) (piece : MCtor) (new : List (SparseRow T)) (n : ℕ) (numbers : List ℕ) (places : List (Open T)) →
-      n ≡ cx.arity piece e.place.column.ty → numbers ≡ columns_from next n ++ numbers_of others → places ≡ parts_open cx (plain_column e.place.column) piece ++ places_of others →
-      ArePieceRows others e piece n (columns_from next n ++ numbers_of others) new → (ws : List (List MWitness)) → Witnesses cx IsValue places (heads_over numbers new) ws →
+  pub entered_back : (others : List (Opened T)) (e : Apart T) (piece : MCtor) (new : List (SparseRow T)) (n : ℕ) (numbers : List ℕ) (places : List (Open T)) →
+      n ≡ cx.arity piece e.place.column.ty → numbers ≡ columns_from e.next n ++ numbers_of others → places ≡ parts_open cx (plain_column e.place.column) piece ++ places_of others →
+      ArePieceRows others e piece n (columns_from e.next n ++ numbers_of others) new → (ws : List (List MWitness)) → Witnesses cx IsValue places (heads_over numbers new) ws →
       IsOfPiece cx IsValue (plain_column e.place.column) (places_of others) (apart_heads others e) piece ws
-  entered_back next others e piece new n numbers places en ens eps er ws h =
+  entered_back others e piece new n numbers places en ens eps er ws h =
       let o = plain_column e.place.column in
-      let k = piece_back IsType cx IsValue (numbers_of others) numbers n places piece (plain_rows e.rows.now) new (plain_leaves e.leaves.items)
+      let k = piece_back IsType cx IsValue (numbers_of others) numbers n places piece (plain_rows e.rows.items) new (plain_leaves e.leaves.items)
       (subst (λ ns. ArePieceRows others e piece n ns new) (sym ens) er) ws h in
       subst (λ m. Witnesses cx IsValue (parts_open cx o piece ++ places_of others) (all_specialised piece m (apart_heads others e)) ws) en
       (subst (λ ps. Witnesses cx IsValue ps (all_specialised piece n (apart_heads others e)) ws) eps k)
 
   -- the leaves' heads are typed
-  pub apart_typed : (next : ℕ) (others : List (Opened T)) (e : Apart T) → IsTakenApart IsType cx next others e →
+  pub apart_typed : (others : List (Opened T)) (e : Apart T) → IsTakenApart IsType cx others e →
       All (λ l. IsHeadTyped cx e.place.column.ty (bare_head l.head)) (plain_leaves e.leaves.items)
-  apart_typed next others e a =
-      leaves_typed cx (plain_column e.place.column) (places_of others) (numbers_of others) (plain_rows e.rows.now) (plain_leaves e.leaves.items) a.within a.typed
+  apart_typed others e a =
+      leaves_typed cx (plain_column e.place.column) (places_of others) (numbers_of others) (plain_rows e.rows.items) (plain_leaves e.leaves.items) a.within a.typed
 
   -- what is asked of the leaves of a piece
-  pub parts_ready : PartsLaw IsType IsValue cx → (next : ℕ) (others : List (Opened T)) (e : Apart T) (piece : MCtor) (n : ℕ) (found : List ℕ) (leaves : List (Leaf T)) → leaves ≡ e.leaves.items →
-      IsTakenApart IsType cx next others e → IsEnterable cx (plain_column e.place.column) piece → n ≡ cx.arity piece e.place.column.ty → ArePieceLeaves piece (plain_leaves e.leaves.items) found →
+  pub parts_ready : PartsLaw IsType IsValue cx → (others : List (Opened T)) (e : Apart T) (piece : MCtor) (n : ℕ) (found : List ℕ) (leaves : List (Leaf T)) → leaves ≡ e.leaves.items →
+      IsTakenApart IsType cx others e → IsEnterable cx (plain_column e.place.column) piece → n ≡ cx.arity piece e.place.column.ty → ArePieceLeaves piece (plain_leaves e.leaves.items) found →
       All (AreParts n (plain_leaves leaves)) found
-  parts_ready law next others e piece n found leaves el a b en f =
+  parts_ready law others e piece n found leaves el a b en f =
       subst (λ (ls : List (Leaf T)). All (AreParts n (plain_leaves ls)) found) (sym el)
       (subst (λ k. All (AreParts k (plain_leaves e.leaves.items)) found) (sym en)
-      (parts_fit IsType IsValue cx law e.place.column.ty piece a.type b.0 (plain_leaves e.leaves.items) found (apart_typed next others e a) f.each))
+      (parts_fit IsType IsValue cx law e.place.column.ty piece a.type b.0 (plain_leaves e.leaves.items) found (apart_typed others e a) f.each))
 
   pub numbers_ready : (e : Apart T) (piece : MCtor) (found : List ℕ) (leaves : List (Leaf T)) → leaves ≡ e.leaves.items → ArePieceLeaves piece (plain_leaves e.leaves.items) found →
       All (λ k. k < length leaves) found
   numbers_ready e piece found leaves el f =
       λ k d l. let w = f.within k d l in omega (arith, w, length-map e.leaves.items plain_leaf, ap length el)
 
-  pub rows_ready : (next : ℕ) (others : List (Opened T)) (e : Apart T) (leaves : List (Leaf T)) → leaves ≡ e.leaves.items → IsTakenApart IsType cx next others e →
-      All (λ l. l.row < length e.rows.now) leaves
-  rows_ready next others e leaves el a =
-      subst (λ (ls : List (Leaf T)). All (λ l. l.row < length e.rows.now) ls) (sym el) (within_code e.rows.now e.leaves.items a.within)
+  pub rows_ready : (others : List (Opened T)) (e : Apart T) (lent : List (Row T)) (leaves : List (Leaf T)) → lent ≡ e.rows.items → leaves ≡ e.leaves.items → IsTakenApart IsType cx others e →
+      All (λ l. l.row < length lent) leaves
+  rows_ready others e lent leaves er el a =
+      subst (λ (rs : List (Row T)). All (λ l. l.row < length rs) leaves) (sym er)
+      (subst (λ (ls : List (Leaf T)). All (λ l. l.row < length e.rows.items) ls) (sym el) (within_code e.rows.items e.leaves.items a.within))
 
   -- the rows that the leaves of a piece give
-  pub rows_given : PartsLaw IsType IsValue cx → (next : ℕ) (others : List (Opened T)) (e : Apart T) (piece : MCtor) (n : ℕ) (found : List ℕ) (leaves : List (Leaf T)) (new : List (SparseRow T)) → leaves ≡ e.leaves.items →
-      IsTakenApart IsType cx next others e → IsEnterable cx (plain_column e.place.column) piece → n ≡ cx.arity piece e.place.column.ty → ArePieceLeaves piece (plain_leaves e.leaves.items) found →
-      ((place : List MStep) (p : MCtor) (os : List ℕ) → AreBelow next (plain_rows e.rows.now) → AreOthers e.place.number next os → All (IsLeafOf p n) (leaves_listed (plain_leaves leaves) found) →
-      row_views (columns_from next n ++ os) new ≡ map bare_row (specialised_rows place p n (leaf_views os (plain_rows e.rows.now) (leaves_listed (plain_leaves leaves) found)))) →
-      ArePieceRows others e piece n (columns_from next n ++ numbers_of others) new
-  rows_given law next others e piece n found leaves new el a b en f g =
+  pub rows_given : PartsLaw IsType IsValue cx → (others : List (Opened T)) (e : Apart T) (piece : MCtor) (n : ℕ) (found : List ℕ) (lent : List (Row T)) (leaves : List (Leaf T)) (new : List (SparseRow T)) →
+      lent ≡ e.rows.items → leaves ≡ e.leaves.items →
+      IsTakenApart IsType cx others e → IsEnterable cx (plain_column e.place.column) piece → n ≡ cx.arity piece e.place.column.ty → ArePieceLeaves piece (plain_leaves e.leaves.items) found →
+      ((place : List MStep) (p : MCtor) (os : List ℕ) → AreBelow e.next (plain_rows lent) → AreOthers e.place.number e.next os → All (IsLeafOf p n) (leaves_listed (plain_leaves leaves) found) →
+      row_views (columns_from e.next n ++ os) new ≡ map bare_row (specialised_rows place p n (leaf_views os (plain_rows lent) (leaves_listed (plain_leaves leaves) found)))) →
+      ArePieceRows others e piece n (columns_from e.next n ++ numbers_of others) new
+  rows_given law others e piece n found lent leaves new er el a b en f g =
       let fit = subst (λ k. All (IsLeafOf piece k) (leaves_listed (plain_leaves e.leaves.items) found)) (sym en)
-      (listed_fit IsType IsValue cx law e.place.column.ty piece a.type b.0 (plain_leaves e.leaves.items) found (apart_typed next others e a) f) in
-      let here = g [] piece (numbers_of others) a.below a.others (subst (λ (ls : List (Leaf T)). All (IsLeafOf piece n) (leaves_listed (plain_leaves ls) found)) (sym el) fit) in
-      rows_of_piece piece n (numbers_of others) (columns_from next n ++ numbers_of others) (plain_rows e.rows.now) new (plain_leaves e.leaves.items) found f
-      (subst (λ (ls : List (Leaf T)). row_views (columns_from next n ++ numbers_of others) new ≡ map bare_row (specialised_rows [] piece n (leaf_views (numbers_of others) (plain_rows e.rows.now) (leaves_listed (plain_leaves ls) found)))) el here)
+      (listed_fit IsType IsValue cx law e.place.column.ty piece a.type b.0 (plain_leaves e.leaves.items) found (apart_typed others e a) f) in
+      let below = subst (λ (rs : List (Row T)). AreBelow e.next (plain_rows rs)) (sym er) a.below in
+      let here = g [] piece (numbers_of others) below a.others (subst (λ (ls : List (Leaf T)). All (IsLeafOf piece n) (leaves_listed (plain_leaves ls) found)) (sym el) fit) in
+      rows_of_piece piece n (numbers_of others) (columns_from e.next n ++ numbers_of others) (plain_rows e.rows.items) new (plain_leaves e.leaves.items) found f
+      (subst (λ (rs : List (Row T)). row_views (columns_from e.next n ++ numbers_of others) new ≡ map bare_row (specialised_rows [] piece n (leaf_views (numbers_of others) (plain_rows rs) (leaves_listed (plain_leaves e.leaves.items) found)))) er
+      (subst (λ (ls : List (Leaf T)). row_views (columns_from e.next n ++ numbers_of others) new ≡ map bare_row (specialised_rows [] piece n (leaf_views (numbers_of others) (plain_rows lent) (leaves_listed (plain_leaves ls) found)))) el here))

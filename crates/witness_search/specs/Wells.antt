@@ -61,10 +61,10 @@ pub record IsApart {T : Type 0} (IsType : T → Type 0) (cx : Context T) (next n
   pub alike : bares (leaf_heads numbers rows leaves) ≡ bares (flat_map expand_row (heads_over (number ∷ numbers) rows))
 
 -- the same of code, over these other places
-abbrev pub IsTakenApart : {T : Type 0} → (T → Type 0) → Context T → (next : ℕ) → List (Opened T) → Apart T → Type 0
-IsTakenApart IsType cx next opened e =
-    IsApart IsType cx next e.place.number (plain_column e.place.column) (numbers_of opened) (places_of opened) (plain_rows e.rows.now) (plain_leaves e.leaves.items) (plain_ctors e.heads.items)
+abbrev pub IsTakenApart : {T : Type 0} → (T → Type 0) → Context T → List (Opened T) → Apart T → Type 0
+IsTakenApart IsType cx opened e =
+    IsApart IsType cx e.next e.place.number (plain_column e.place.column) (numbers_of opened) (places_of opened) (plain_rows e.rows.items) (plain_leaves e.leaves.items) (plain_ctors e.heads.items)
 
 -- the heads of what was taken apart, over these other places
 abbrev pub apart_heads : {T : Type 0} → List (Opened T) → Apart T → List (List (Head T))
-apart_heads opened e = leaf_heads (numbers_of opened) (plain_rows e.rows.now) (plain_leaves e.leaves.items)
+apart_heads opened e = leaf_heads (numbers_of opened) (plain_rows e.rows.items) (plain_leaves e.leaves.items)

@@ -18,32 +18,36 @@ use std::alloc::Global;
 
 // Rows, an open place, what stands there in the rows with or-patterns taken apart, and the constructors of that.
 #[derive(Drop)]
-pub(crate) struct Apart<'r, 'a, T: Copy> {
-    pub(crate) rows: &'r [Row<'a, T>],
+pub(crate) struct Apart<'a, T: Copy> {
+    pub(crate) rows: Vec<Row<'a, T>>,
     pub(crate) place: Opened<T>,
+    // The number of the place that is opened next; those of all others are less.
+    pub(crate) next: usize,
     pub(crate) leaves: Vec<Leaf<'a, T>>,
     pub(crate) heads: Vec<Ctor<'a>>,
 }
 
 // Takes the rows apart at the place, which stands before the others.
-pub(crate) fn take_apart<'r, 'a, C: PatCx>(
+pub(crate) fn take_apart<'a, C: PatCx>(
     alloc: Global,
     cx: &C,
-    rows: &'r [Row<'a, C::Ty>],
+    rows: Vec<Row<'a, C::Ty>>,
     place: Opened<C::Ty>,
     others: &Vec<Opened<C::Ty>>,
     next: usize,
-) -> Result<Apart<'r, 'a, C::Ty>, NoMemory>
-    requires { IsWell (C.is_type cx.now) (C.context cx.now) next (place.number ∷ numbers_of others.now.items) (plain_column place.column ∷ places_of others.now.items) (plain_rows rows.now) }
-    ensures rows { IfOk result (λ e. e.rows.now ≡ rows.entry.now) }
+) -> Result<Apart<'a, C::Ty>, NoMemory>
+    requires { IsWell (C.is_type cx.now) (C.context cx.now) next (place.number ∷ numbers_of others.now.items) (plain_column place.column ∷ places_of others.now.items) (plain_rows rows.items) }
+    ensures rows { IfOk result (λ e. e.rows.items ≡ rows.entry.items) }
     ensures place { IfOk result (λ e. e.place ≡ place) }
-    ensures apart { IfOk result (λ e. IsTakenApart (C.is_type cx.now) (C.context cx.now) next others.now.items e) }
+    ensures next { IfOk result (λ e. e.next ≡ next) }
+    ensures apart { IfOk result (λ e. IsTakenApart (C.is_type cx.now) (C.context cx.now) others.now.items e) }
 {
-    let leaves = leaves_at(alloc, rows, place.number)?;
+    let leaves = leaves_at(alloc, &rows, place.number)?;
     let heads = leaf_ctors(alloc, &leaves)?;
     Ok(Apart {
         rows,
         place,
+        next,
         leaves,
         heads,
     })
@@ -53,16 +57,15 @@ pub(crate) fn take_apart<'r, 'a, C: PatCx>(
 pub(crate) fn rows_behind<'a, C: PatCx>(
     alloc: Global,
     cx: &C,
-    e: &Apart<'_, 'a, C::Ty>,
+    e: &Apart<'a, C::Ty>,
     others: &Vec<Opened<C::Ty>>,
-    next: usize,
 ) -> Result<Vec<Row<'a, C::Ty>>, NoMemory>
-    requires { IsTakenApart (C.is_type cx.now) (C.context cx.now) next others.now.items e.now }
-    ensures well { IfOk result (λ v. IsWell (C.is_type cx.now) (C.context cx.now) next (numbers_of others.now.items) (places_of others.now.items) (plain_rows v.items)) }
+    requires { IsTakenApart (C.is_type cx.now) (C.context cx.now) others.now.items e.now }
+    ensures well { IfOk result (λ v. IsWell (C.is_type cx.now) (C.context cx.now) e.now.next (numbers_of others.now.items) (places_of others.now.items) (plain_rows v.items)) }
     ensures behind { IfOk result (λ v. (ws : List (List MWitness)) → Witnesses (C.context cx.now) (C.is_value cx.now) (places_of others.now.items) (heads_over (numbers_of others.now.items) (plain_rows v.items)) ws
         → Witnesses (C.context cx.now) (C.is_value cx.now) (places_of others.now.items) (wild_rests (apart_heads others.now.items e.now)) ws) }
 {
-    let rows = wild_rows(alloc, e.rows, &e.leaves, e.place.number)?;
+    let rows = wild_rows(alloc, &e.rows, &e.leaves, e.place.number)?;
     Ok(rows)
 }
 
@@ -77,31 +80,30 @@ pub(crate) struct Entered<'a, T: Copy> {
 pub(crate) fn enter_piece<'a, C: PatCx>(
     alloc: Global,
     cx: &C,
-    e: &Apart<'_, 'a, C::Ty>,
+    e: &Apart<'a, C::Ty>,
     opened: &mut Vec<Opened<C::Ty>>,
-    next: usize,
     ctor: &Ctor<'a>,
     leaves: &[usize],
 ) -> Result<Entered<'a, C::Ty>, NoMemory>
-    requires apart { IsTakenApart (C.is_type cx.now) (C.context cx.now) next opened.old.items e.now }
+    requires apart { IsTakenApart (C.is_type cx.now) (C.context cx.now) opened.old.items e.now }
     requires ctor { IsEnterable (C.context cx.now) (plain_column e.now.place.column) (plain_ctor ctor.now) }
     requires leaves { ArePieceLeaves (plain_ctor ctor.now) (plain_leaves e.now.leaves.items) leaves.now }
-    requires room { next + 8589934592 < 2 ^ 64 }
+    requires room { e.now.next + 8589934592 < 2 ^ 64 }
     ensures count { IfOk result (λ n. n.count ≡ (C.context cx.now).arity (plain_ctor ctor.now) e.now.place.column.ty) }
     ensures few { IfOk result (λ n. n.count ≤ 8589934592) }
-    ensures well { IfOk result (λ n. IsWell (C.is_type cx.now) (C.context cx.now) (next + n.count) (numbers_of opened.new.items) (places_of opened.new.items) (plain_rows n.rows.items)) }
+    ensures well { IfOk result (λ n. IsWell (C.is_type cx.now) (C.context cx.now) (e.now.next + n.count) (numbers_of opened.new.items) (places_of opened.new.items) (plain_rows n.rows.items)) }
     ensures back { IfOk result (λ n. (ws : List (List MWitness)) → Witnesses (C.context cx.now) (C.is_value cx.now) (places_of opened.new.items) (heads_over (numbers_of opened.new.items) (plain_rows n.rows.items)) ws
         → IsOfPiece (C.context cx.now) (C.is_value cx.now) (plain_column e.now.place.column) (places_of opened.old.items) (apart_heads opened.old.items e.now) (plain_ctor ctor.now) ws) }
     ensures kept { OnOk result (take (length opened.old.items) opened.new.items ≡ opened.old.items) }
 {
-    let count = open_parts(alloc, cx, opened, &e.place.column, ctor, next)?;
+    let count = open_parts(alloc, cx, opened, &e.place.column, ctor, e.next)?;
     let rows = piece_rows(
         alloc,
-        e.rows,
+        &e.rows,
         &e.leaves,
         leaves,
         e.place.number,
-        next,
+        e.next,
         count,
     )?;
     Ok(Entered { count, rows })

@@ -46,13 +46,12 @@ pub(crate) struct Cut<'a> {
 pub(crate) fn cut_pieces<'a, C: PatCx>(
     alloc: Global,
     cx: &C,
-    e: &Apart<'_, 'a, C::Ty>,
+    e: &Apart<'a, C::Ty>,
     others: &Vec<Opened<C::Ty>>,
-    next: usize,
     found: PresentPieces<'a>,
     behind: Vec<Stack>,
 ) -> Result<Cut<'a>, NoMemory>
-    requires apart { IsTakenApart (C.is_type cx.now) (C.context cx.now) next others.now.items e.now }
+    requires apart { IsTakenApart (C.is_type cx.now) (C.context cx.now) others.now.items e.now }
     requires found { ArePresent (C.is_value cx.now) (C.context cx.now) (plain_column e.now.place.column) (plain_ctors e.now.heads.items)
         (plain_ctors found.ctors.items) found.missing (plain_ctors found.gaps.items) (map plain_span found.spans.items) }
     requires missing { found.missing ≡ true → Witnesses (C.context cx.now) (C.is_value cx.now) (places_of others.now.items) (wild_rests (apart_heads others.now.items e.now)) (map plain_stack behind.items) }

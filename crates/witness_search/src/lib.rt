@@ -3,6 +3,7 @@
 
 mod apart;
 mod cut;
+mod frames;
 mod judge;
 mod opened;
 mod pieces;
@@ -15,5 +16,5 @@ mod top;
 mod unreachable;
 
 pub use judge::judge_by;
-pub use top::{DEPTH, witness_list};
+pub use top::witness_list;
 pub use unreachable::unreachable_list;

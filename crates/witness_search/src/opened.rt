@@ -79,3 +79,14 @@ pub(crate) fn take_first<T: Copy>(opened: &mut Vec<Opened<T>>) -> Option<Opened<
 {
     opened.pop()
 }
+
+// Puts a place back, to be looked at first.
+pub(crate) fn put_back<T: Copy>(
+    opened: &mut Vec<Opened<T>>,
+    place: Opened<T>,
+) -> Result<(), NoMemory>
+    ensures { OnOk result (opened.new.items ≡ opened.old.items ++ place ∷ []) }
+{
+    opened.push(place)?;
+    Ok(())
+}

@@ -9,7 +9,6 @@ ghost use Rattle.pattern_arena.specs.Trees.{plain_match};
 ghost use Rattle.witnesses.specs.Views.{plain_stack, plain_witness};
 
 use crate::opened::Opened;
-use crate::rows::unguarded_rows;
 use crate::search::stacks_of;
 use no_memory::NoMemory;
 use pat_context::{CtorSet, PatCx, Validity, has_value};
@@ -17,10 +16,6 @@ use pattern_arena::CheckedMatch;
 use pattern_matrix::Column;
 use std::alloc::Global;
 use witnesses::{Stack, Witness};
-
-/// How many places are looked at on one way into the values of a match, at most, those at which all rows have wildcards
-/// among them. Where more would be, `witness_list` wants more memory than there is: its stack is bounded.
-pub const DEPTH: usize = 2000;
 
 // Tells whether the type has a value other than a bare unseen there.
 fn is_seen<C: PatCx>(cx: &C, ty: C::Ty, validity: Validity) -> bool
@@ -65,22 +60,20 @@ fn stacks_of_match<'a, C: PatCx>(
     ensures { IfOk result (λ v. Witnesses (C.context cx.now) (C.is_value cx.now) (record { type = m.now.ty; sure = is_sure m.now.validity } ∷ [])
         (flat_map row_of (plain_match m.now).arms) (map plain_stack v.items)) }
 {
-    let rows = unguarded_rows(alloc, m.arms)?;
     let mut opened = Vec::new(alloc);
     let column = Column {
         ty: m.ty,
         validity: m.validity,
     };
     opened.push(Opened { number: 0, column })?;
-    let stacks = stacks_of(alloc, cx, &mut opened, &rows, 1, DEPTH)?;
+    let stacks = stacks_of(alloc, cx, opened, m.arms)?;
     Ok(stacks)
 }
 
 /// The witnesses of the match, in order: what the values look like that no arm without a guard takes. It is the list of
 /// the definitions.
 ///
-/// The match is well typed. The only error is want of memory, which comes too where more than `DEPTH` places would be
-/// looked at on one way.
+/// The match is well typed. The only error is want of memory.
 pub fn witness_list<'a, C: PatCx>(
     alloc: Global,
     cx: &C,

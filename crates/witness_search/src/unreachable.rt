@@ -1,6 +1,6 @@
 // What of a match no value comes to.
-ghost use Rattle.std.specs.Prelude.{◌≡◌, ◌≤◌, ◌^◌, ◌∷◌, ◌++◌, [], Bool, nat_lt, not, ◌&&◌, map, length, take, drop, reverse, true, false, IfOk, OnOk};
-ghost use Rattle.match_model.specs.ArenaUnreachable.{is_at_or_before, put_in, in_reading_order};
+ghost use Rattle.std.specs.Prelude.{◌≡◌, ◌≤◌, ◌^◌, ◌++◌, nat_lt, not, ◌&&◌, map, length, IfOk, OnOk};
+ghost use Rattle.match_model.specs.ArenaUnreachable.{in_reading_order};
 ghost use Rattle.match_model.specs.ArenaWays.{arena_alternatives, arena_arm, match_arms};
 ghost use Rattle.match_model.specs.Rows.{is_or_ctor};
 ghost use Rattle.pat_context.specs.Views.{plain_ctor};
@@ -15,13 +15,6 @@ use pattern_arena::{CheckedArm, CheckedMatch, DePat};
 use pattern_matrix::Marked;
 use std::alloc::Global;
 use witnesses::Unreachable;
-
-// Tells whether the first entry stands at or before the other, by arm and then by offset.
-fn stands_before(e: &Unreachable, f: &Unreachable) -> bool
-    ensures { result ≡ is_at_or_before (plain_entry e.now) (plain_entry f.now) }
-{
-    e.arm < f.arm || (e.arm == f.arm && e.at <= f.at)
-}
 
 // Tells whether the constructor is an or-pattern.
 fn is_or(ctor: &Ctor) -> bool
@@ -131,42 +124,12 @@ fn left_of_arms<'a, T: Copy, M: Marked>(
     Ok(found)
 }
 
-// Where the entry goes among entries in reading order, of which the last stands first: behind all that it does not stand
-// before.
-fn place_of(sorted: &[Unreachable], e: &Unreachable) -> usize
-    ensures within { result ≤ length sorted.now }
-    ensures place { put_in (plain_entry e.now) (plain_entries (reverse sorted.now))
-        ≡ plain_entries (reverse (take result sorted.now ++ e.now ∷ drop result sorted.now)) }
-{
-    for i in 0..sorted.len() {
-        let place = sorted.len() - i;
-        if stands_before(e, &sorted[place - 1]) {
-            return place;
-        }
-    }
-    0
-}
-
-// Puts the entry into entries in reading order, of which the last stands first.
-fn put_entry(sorted: &mut Vec<Unreachable>, e: Unreachable) -> Result<(), NoMemory>
-    ensures { OnOk result (plain_entries (reverse sorted.new.items) ≡ put_in (plain_entry e) (plain_entries (reverse sorted.old.items))) }
-{
-    let place = place_of(sorted, &e);
-    sorted.insert(place, e)?;
-    Ok(())
-}
-
 // The entries in reading order.
-fn in_order(alloc: Global, mut found: Vec<Unreachable>) -> Result<Vec<Unreachable>, NoMemory>
+fn in_order(mut found: Vec<Unreachable>) -> Result<Vec<Unreachable>, NoMemory>
     ensures { IfOk result (λ v. plain_entries v.items ≡ in_reading_order (plain_entries found.items)) }
 {
-    found.reverse();
-    let mut sorted = Vec::with_capacity(alloc, found.len())?;
-    for e in found {
-        put_entry(&mut sorted, e)?;
-    }
-    sorted.reverse();
-    Ok(sorted)
+    found.sort_by_key(|e| (e.arm, e.at))?;
+    Ok(found)
 }
 
 /// What of the match no value comes to, by the marks, in reading order: arms, and alternatives of arms to which some value
@@ -183,6 +146,6 @@ pub fn unreachable_list<'a, T: Copy, M: Marked>(
         (left_from (λ j. M.is_marked marks.now (to_arm j)) (λ j id. M.is_marked marks.now (through_alternative j id)) 0 (match_arms (plain_match m.now)))) }
 {
     let found = left_of_arms(alloc, marks, m.arms)?;
-    let all = in_order(alloc, found)?;
+    let all = in_order(found)?;
     Ok(all)
 }

@@ -1,6 +1,8 @@
-use Rattle.std.proofs.Common.{arith}
+use Rattle.std.proofs.Common.{List, arith, subst, sym}
 use Rattle.pat_context.specs.Views.{plain_ctor}
+use Rattle.pattern_matrix.specs.Sparse.{AreBelow}
 use Rattle.pattern_matrix.specs.Views.{plain_rows}
+use Rattle.pattern_matrix.specs.declared.rows.Row.{Row}
 use Rattle.witness_search.specs.Opened.{places_of, numbers_of}
 use Rattle.witness_search.proofs.Steps.{entered_well, entered_back, parts_ready, numbers_ready, rows_ready, rows_given}
 use Rattle.witness_search.proofs.apart.enter_piece.Goals as goal
@@ -13,9 +15,9 @@ piece_rows-requires g c =
     let piece = plain_ctor c.args.ctor.now in
     let found = c.args.leaves.now in
     record {
-      numbers = numbers_ready (g.C.PatCx.is_type cx) (g.C.PatCx.context cx) (g.C.PatCx.is_value cx) e piece found c.deref.result.now c.deref.ensures.value c.requires.leaves;
-      within = rows_ready (g.C.PatCx.is_type cx) (g.C.PatCx.context cx) (g.C.PatCx.is_value cx) c.args.next others e c.deref.result.now c.deref.ensures.value c.requires.apart;
-      parts = parts_ready (g.C.PatCx.is_type cx) (g.C.PatCx.context cx) (g.C.PatCx.is_value cx) (g.met.C.PatCx.parts cx) c.args.next others e piece c.in_ok-count.count found c.deref.result.now c.deref.ensures.value
+      numbers = numbers_ready (g.C.PatCx.is_type cx) (g.C.PatCx.context cx) (g.C.PatCx.is_value cx) e piece found c.deref-2.result.now c.deref-2.ensures.value c.requires.leaves;
+      within = rows_ready (g.C.PatCx.is_type cx) (g.C.PatCx.context cx) (g.C.PatCx.is_value cx) others e c.deref.result.now c.deref-2.result.now c.deref.ensures.value c.deref-2.ensures.value c.requires.apart;
+      parts = parts_ready (g.C.PatCx.is_type cx) (g.C.PatCx.context cx) (g.C.PatCx.is_value cx) (g.met.C.PatCx.parts cx) others e piece c.in_ok-count.count found c.deref-2.result.now c.deref-2.ensures.value
           c.requires.apart c.requires.ctor c.in_ok-count.ensures.count c.requires.leaves;
       fits = omega (arith, c.in_ok-count.ensures.few, c.requires.room);
     }
@@ -29,11 +31,11 @@ returns-clause-well g c =
     let piece = plain_ctor c.args.ctor.now in
     let new = plain_rows c.in_ok-rows.rows.items in
     let n = c.in_ok-count.count in
-    entered_well (g.C.PatCx.is_type cx) (g.C.PatCx.context cx) (g.C.PatCx.is_value cx) (g.met.C.PatCx.parts cx) c.args.next others e piece new n (numbers_of now) (places_of now)
+    entered_well (g.C.PatCx.is_type cx) (g.C.PatCx.context cx) (g.C.PatCx.is_value cx) (g.met.C.PatCx.parts cx) others e piece new n (numbers_of now) (places_of now)
     c.requires.apart c.requires.ctor c.in_ok-count.ensures.count c.in_ok-count.ensures.numbers c.in_ok-count.ensures.places
-    (rows_given (g.C.PatCx.is_type cx) (g.C.PatCx.context cx) (g.C.PatCx.is_value cx) (g.met.C.PatCx.parts cx) c.args.next others e piece n c.args.leaves.now c.deref.result.now new c.deref.ensures.value
+    (rows_given (g.C.PatCx.is_type cx) (g.C.PatCx.context cx) (g.C.PatCx.is_value cx) (g.met.C.PatCx.parts cx) others e piece n c.args.leaves.now c.deref.result.now c.deref-2.result.now new c.deref.ensures.value c.deref-2.ensures.value
     c.requires.apart c.requires.ctor c.in_ok-count.ensures.count c.requires.leaves c.in_ok-rows.ensures.rows)
-    (c.in_ok-rows.ensures.within c.requires.apart.below)
+    (c.in_ok-rows.ensures.within (subst (λ (rs : List (Row g.row.C-Ty.Denot)). AreBelow e.next (plain_rows rs)) (sym c.deref.ensures.value) c.requires.apart.below))
 
 pub returns-clause-back : goal.returns-clause-back
 returns-clause-back g c =
@@ -44,7 +46,7 @@ returns-clause-back g c =
     let piece = plain_ctor c.args.ctor.now in
     let new = plain_rows c.in_ok-rows.rows.items in
     let n = c.in_ok-count.count in
-    entered_back (g.C.PatCx.is_type cx) (g.C.PatCx.context cx) (g.C.PatCx.is_value cx) c.args.next others e piece new n (numbers_of now) (places_of now)
+    entered_back (g.C.PatCx.is_type cx) (g.C.PatCx.context cx) (g.C.PatCx.is_value cx) others e piece new n (numbers_of now) (places_of now)
     c.in_ok-count.ensures.count c.in_ok-count.ensures.numbers c.in_ok-count.ensures.places
-    (rows_given (g.C.PatCx.is_type cx) (g.C.PatCx.context cx) (g.C.PatCx.is_value cx) (g.met.C.PatCx.parts cx) c.args.next others e piece n c.args.leaves.now c.deref.result.now new c.deref.ensures.value
+    (rows_given (g.C.PatCx.is_type cx) (g.C.PatCx.context cx) (g.C.PatCx.is_value cx) (g.met.C.PatCx.parts cx) others e piece n c.args.leaves.now c.deref.result.now c.deref-2.result.now new c.deref.ensures.value c.deref-2.ensures.value
     c.requires.apart c.requires.ctor c.in_ok-count.ensures.count c.requires.leaves c.in_ok-rows.ensures.rows)

@@ -38,7 +38,7 @@ listed_pieces-requires g c =
     record {
       ty = c.requires.apart.type;
       heads = subst (λ (cs : List Ctor). All (λ h. IsTrue (is_sharp_head ((g.C.PatCx.context cx).set_of e.place.column.ty) h)) (plain_ctors cs)) (sym c.deref.ensures.value)
-          (apart_sharp (g.C.PatCx.is_type cx) (g.C.PatCx.context cx) c.args.next e.place.number (plain_column e.place.column) (numbers_of others) (places_of others) (plain_rows e.rows.now) (plain_leaves e.leaves.items) (plain_ctors e.heads.items) c.requires.apart);
+          (apart_sharp (g.C.PatCx.is_type cx) (g.C.PatCx.context cx) e.next e.place.number (plain_column e.place.column) (numbers_of others) (places_of others) (plain_rows e.rows.items) (plain_leaves e.leaves.items) (plain_ctors e.heads.items) c.requires.apart);
     }
 
 nil_of : {A : Type 0} (xs : List A) → length xs ≡ 0 → xs ≡ []
@@ -68,7 +68,7 @@ returns g c =
     found.missing c.is_empty-none.result (plain_spans c.in_ok-spans.spans.items) (map plain_piece pieces) (plain_names c.in_ok-names.names.items) (map plain_stack behind.items)
     a.typed
     (subst (All (λ h. IsTrue (is_sharp_head ((g.C.PatCx.context cx).set_of e.place.column.ty) h))) a.column
-    (apart_sharp (g.C.PatCx.is_type cx) (g.C.PatCx.context cx) c.args.next e.place.number o (numbers_of others) (places_of others) (plain_rows e.rows.now) (plain_leaves e.leaves.items) (plain_ctors e.heads.items) a))
+    (apart_sharp (g.C.PatCx.is_type cx) (g.C.PatCx.context cx) e.next e.place.number o (numbers_of others) (places_of others) (plain_rows e.rows.items) (plain_leaves e.leaves.items) (plain_ctors e.heads.items) a))
     a.column c.requires.found.found
     (subst (λ (cs : List Ctor). AreLeafSpans (plain_ctors cs) (plain_leaves e.leaves.items) (plain_spans c.in_ok-spans.spans.items)) c.deref-4.ensures.value
     (subst (λ (ls : List (Leaf g.row.C-Ty.Denot)). AreLeafSpans (plain_ctors c.deref-4.result.now) (plain_leaves ls) (plain_spans c.in_ok-spans.spans.items)) c.deref-5.ensures.value c.in_ok-spans.ensures))

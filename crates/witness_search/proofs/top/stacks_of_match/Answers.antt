@@ -1,7 +1,5 @@
-use Rattle.std.proofs.Common.{◌≡◌, ◌∷◌, ◌++◌, [], List, map, ap, ◌∙◌}
+use Rattle.std.proofs.Common.{◌≡◌, ◌∷◌, ◌++◌, [], List, map, refl, ap, ◌∙◌, rules}
 use Rattle.pattern_arena.specs.Trees.{plain_match}
-use Rattle.pattern_matrix.specs.Views.{plain_rows}
-use Rattle.pattern_matrix.specs.declared.rows.Row.{Row}
 use Rattle.witnesses.specs.Views.{plain_stack}
 use Rattle.witness_search.specs.Opened.{places_of, numbers_of}
 use Rattle.witness_search.specs.Starts.{starting_rows}
@@ -9,15 +7,14 @@ use Rattle.witness_search.specs.declared.opened.Opened.{Opened}
 use Rattle.witness_search.proofs.Starting.{first_well, first_back}
 use Rattle.witness_search.proofs.top.stacks_of_match.Goals as goal
 
-pub stacks_of-requires-clause-well : goal.stacks_of-requires-clause-well
-stacks_of-requires-clause-well g c =
+pub stacks_of-requires : goal.stacks_of-requires
+stacks_of-requires g c κs within =
     let cx = c.args.cx.now in
     let m = plain_match c.args.m.now in
     let opened = c.push.new.self.items in
     let first : Opened g.row.C-Ty.Denot = record { number = 0; column = record { ty = c.args.m.now.ty; validity = c.args.m.now.validity } } in
     let one : opened ≡ first ∷ [] = c.in_ok-push.ensures.items ∙ ap (λ (xs : List (Opened g.row.C-Ty.Denot)). xs ++ first ∷ []) c.new-opened.ensures.items in
-    let rows : plain_rows c.deref.result.now ≡ starting_rows m.arms = ap (λ (rs : List (Row g.row.C-Ty.Denot)). plain_rows rs) c.deref.ensures.value ∙ c.in_ok-rows.ensures in
-    first_well (g.C.PatCx.is_type cx) (g.C.PatCx.context cx) m (numbers_of opened) (places_of opened) (plain_rows c.deref.result.now) c.requires (ap numbers_of one) (ap places_of one) rows
+    (search rules, (search rules, (first_well (g.C.PatCx.is_type cx) (g.C.PatCx.context cx) m (numbers_of opened) (places_of opened) (starting_rows m.arms) c.requires (ap numbers_of one) (ap places_of one) refl, λ ws h. h)))
 
 pub returns : goal.returns
 returns g c =
@@ -26,6 +23,5 @@ returns g c =
     let opened = c.push.new.self.items in
     let first : Opened g.row.C-Ty.Denot = record { number = 0; column = record { ty = c.args.m.now.ty; validity = c.args.m.now.validity } } in
     let one : opened ≡ first ∷ [] = c.in_ok-push.ensures.items ∙ ap (λ (xs : List (Opened g.row.C-Ty.Denot)). xs ++ first ∷ []) c.new-opened.ensures.items in
-    let rows : plain_rows c.deref.result.now ≡ starting_rows m.arms = ap (λ (rs : List (Row g.row.C-Ty.Denot)). plain_rows rs) c.deref.ensures.value ∙ c.in_ok-rows.ensures in
-    first_back (g.C.PatCx.context cx) (g.C.PatCx.is_value cx) m (numbers_of opened) (places_of opened) (plain_rows c.deref.result.now) (ap numbers_of one) (ap places_of one) rows
-    (map plain_stack c.in_ok-stacks.stacks.items) c.in_ok-stacks.ensures.found
+    first_back (g.C.PatCx.context cx) (g.C.PatCx.is_value cx) m (numbers_of opened) (places_of opened) (starting_rows m.arms) (ap numbers_of one) (ap places_of one) refl (map plain_stack c.in_ok-stacks.stacks.items)
+    c.in_ok-stacks.ensures
