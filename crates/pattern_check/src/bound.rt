@@ -23,7 +23,8 @@ pub(crate) fn bind_own<'a>(
     names: &mut IndexSet<&'a str>,
 ) -> Result<bool, NoMemory>
     requires { IsOfFile table.now }
-    ensures twice { IfOk result (λ b. (s : Setting) (at : ℕ) (standing : AnyStanding) (p : AnyPlace) (before : List (List ℕ)) →
+    ensures twice { IfOk result (λ b.
+        (s : Setting) (at : ℕ) (standing : AnyStanding) (p : AnyPlace) (before : List (List ℕ)) →
         IsSettingOf table.now s → Holds (map text_at names.old.keys) before
         → b ≡ binds_twice s (node_at at (shape_view kind.now) standing p before)) }
     ensures adds { OnOk result ((s : Setting) → IsSettingOf table.now s

@@ -34,8 +34,9 @@ use type_table::{FormKind, Found, TyId, TypeTable};
 pub(crate) fn path_fault(table: &TypeTable, path: &Path, ty: TyId) -> Option<u32>
     requires file { IsOfFile table.now }
     requires of { IsOf table.now ty }
-    ensures { (edition : AnyEdition) (standing : AnyStanding) (m : AnyMode) (twice : Bool) → OwnFaultIs table.now edition
-        (patterns.Path (path_view path.now)) standing (table_type table.now ty) m twice result }
+    ensures { (edition : AnyEdition) (standing : AnyStanding) (m : AnyMode) (twice : Bool) →
+        OwnFaultIs table.now edition (patterns.Path (path_view path.now))
+        standing (table_type table.now ty) m twice result }
 {
     let found = path_found(table, path);
     if !is_found(table, &found) {
@@ -68,8 +69,9 @@ pub(crate) fn tuple_form_fault(
 ) -> Option<u32>
     requires file { IsOfFile table.now }
     requires of { IsOf table.now ty }
-    ensures { (edition : AnyEdition) (standing : AnyStanding) (m : AnyMode) (twice : Bool) → OwnFaultIs table.now edition
-        (patterns.TupleForm (path_view path.now) (patterns_from (map pattern_view items.now))) standing
+    ensures { (edition : AnyEdition) (standing : AnyStanding) (m : AnyMode) (twice : Bool) →
+        OwnFaultIs table.now edition (patterns.TupleForm (path_view path.now)
+        (patterns_from (map pattern_view items.now))) standing
         (table_type table.now ty) m twice result }
 {
     let found = path_found(table, path);
@@ -205,8 +207,9 @@ fn as_texts<'a>(alloc: Global, names: &'a [String]) -> Result<Vec<&'a str>, NoMe
 /// The least rule that a tuple pattern breaks.
 pub(crate) fn tuple_fault(table: &TypeTable, items: &[Pat], ty: TyId) -> Option<u32>
     requires { IsOf table.now ty }
-    ensures { (edition : AnyEdition) (standing : AnyStanding) (m : AnyMode) (twice : Bool) → OwnFaultIs table.now edition
-        (patterns.Tuple (patterns_from (map pattern_view items.now))) standing (table_type table.now ty) m twice result }
+    ensures { (edition : AnyEdition) (standing : AnyStanding) (m : AnyMode) (twice : Bool) →
+        OwnFaultIs table.now edition (patterns.Tuple (patterns_from (map pattern_view items.now)))
+        standing (table_type table.now ty) m twice result }
 {
     let met = bottom_type(table, ty);
     if !is_tuple(table, met) {
@@ -223,8 +226,9 @@ pub(crate) fn tuple_fault(table: &TypeTable, items: &[Pat], ty: TyId) -> Option<
 /// The least rule that a slice pattern breaks.
 pub(crate) fn slice_fault(table: &TypeTable, items: &[Pat], ty: TyId) -> Option<u32>
     requires { IsOf table.now ty }
-    ensures { (edition : AnyEdition) (standing : AnyStanding) (m : AnyMode) (twice : Bool) → OwnFaultIs table.now edition
-        (patterns.Slice (patterns_from (map pattern_view items.now))) standing (table_type table.now ty) m twice result }
+    ensures { (edition : AnyEdition) (standing : AnyStanding) (m : AnyMode) (twice : Bool) →
+        OwnFaultIs table.now edition (patterns.Slice (patterns_from (map pattern_view items.now)))
+        standing (table_type table.now ty) m twice result }
 {
     let rests = pick(has_rests(items), 27, None);
     match row_of(table, bottom_type(table, ty)) {

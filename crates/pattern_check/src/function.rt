@@ -29,9 +29,9 @@ pub struct Fault {
     pub at: u64,
 }
 
-/// The first broken rule of a function's patterns, rule 31 left out: rule 34 at the scrutinee, or else that of the first
-/// node that breaks one, with its least rule. `item` is the number of the function's item in the file. The only error
-/// is want of memory.
+/// The first broken rule of a function's patterns, rule 31 left out: rule 34 at the scrutinee, or else that of the
+/// first node that breaks one, with its least rule. `item` is the number of the function's item in the file. The only
+/// error is want of memory.
 pub fn first_node_fault(
     alloc: Global,
     table: &TypeTable,

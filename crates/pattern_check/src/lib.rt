@@ -5,8 +5,8 @@
 //! breaks by itself: `literal_faults`, `name_faults` and `form_faults` have its forms. `walk` goes over a pattern in
 //! reading order, with the names that are bound before each node (`bound`), and `function` over the arms.
 //!
-//! `specs/NodeForms.antt` says what is told of one node, `specs/Walks.antt` what is told of a pattern, by the definitions
-//! of `pattern_rules`.
+//! `specs/NodeForms.antt` says what is told of one node, `specs/Walks.antt` what is told of a pattern, by the
+//! definitions of `pattern_rules`.
 #![tactic(auto)]
 
 mod bound;
@@ -19,7 +19,5 @@ mod literal_faults;
 mod name_faults;
 pub mod names;
 pub mod own_fault;
-#[cfg(test)]
-mod tests;
 pub mod types;
 pub mod walk;

@@ -27,8 +27,9 @@ use type_table::{TyId, TypeTable};
 /// The least rule that a literal breaks.
 pub(crate) fn literal_fault(table: &TypeTable, lit: &Lit, ty: TyId) -> Option<u32>
     requires { IsOf table.now ty }
-    ensures { (edition : AnyEdition) (standing : AnyStanding) (m : AnyMode) (twice : Bool) → OwnFaultIs table.now edition
-        (patterns.Literal (lit_view lit.now)) standing (table_type table.now ty) m twice result }
+    ensures { (edition : AnyEdition) (standing : AnyStanding) (m : AnyMode) (twice : Bool) →
+        OwnFaultIs table.now edition (patterns.Literal (lit_view lit.now))
+        standing (table_type table.now ty) m twice result }
 {
     if is_refused(lit) {
         return Some(35);
@@ -76,7 +77,8 @@ fn is_flag(lit: &Lit) -> bool
 // Whether an integer literal is no number of the integer type.
 fn number_outside(table: &TypeTable, lit: &Lit, ty: TyId) -> bool
     requires { IsOf table.now ty }
-    ensures { (s : Setting) → IsSettingOf table.now s → result ≡ is_outside s.width (table_type table.now ty) (lit_view lit.now) }
+    ensures { (s : Setting) → IsSettingOf table.now s
+        → result ≡ is_outside s.width (table_type table.now ty) (lit_view lit.now) }
 {
     match number_kind(table, ty) {
         Some(kind) => is_outside(table.width(), kind, lit),
@@ -92,8 +94,9 @@ pub(crate) fn range_fault(
     ty: TyId,
 ) -> Option<u32>
     requires { IsOf table.now ty }
-    ensures { (edition : AnyEdition) (m : AnyMode) (twice : Bool) → OwnFaultIs table.now edition
-        (patterns.Range (option_map lit_view range.now.low) (option_map lit_view range.now.high) range.now.closed)
+    ensures { (edition : AnyEdition) (m : AnyMode) (twice : Bool) →
+        OwnFaultIs table.now edition (patterns.Range (option_map lit_view range.now.low)
+        (option_map lit_view range.now.high) range.now.closed)
         (standing_view standing) (table_type table.now ty) m twice result }
 {
     let is_open = is_open_item(standing, range);

@@ -55,8 +55,9 @@ pub(crate) fn binding_fault(
     twice: bool,
 ) -> Option<u32>
     requires { IsOfFile table.now }
-    ensures { (by_ref mutable : Bool) (sub : Option PatternTree) (t : MType) → written ≡ (by_ref || mutable) → OwnFaultIs table.now edition
-        (bind_shape name.now by_ref mutable sub) (standing_view standing) t mode twice result }
+    ensures { (by_ref mutable : Bool) (sub : Option PatternTree) (t : MType) → written ≡ (by_ref || mutable)
+        → OwnFaultIs table.now edition (bind_shape name.now by_ref mutable sub)
+        (standing_view standing) t mode twice result }
 {
     let moded = pick(writes_mode(edition, mode, written), 32, None);
     let again = pick(twice, 30, moded);

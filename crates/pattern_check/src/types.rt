@@ -7,7 +7,8 @@ ghost use Rattle.pattern_rules.specs.Settings.{bottom_type, bottom_mode};
 ghost use Rattle.pattern_rules.specs.NodeRules.{is_tuple, is_point};
 ghost use Rattle.pattern_rules.specs.Literals.{is_shared_text};
 ghost use Rattle.pattern_check.specs.TypeTests.{point_of, number_kind, row_of};
-ghost use Rattle.pattern_check.specs.TypeTests.{kind_point, kind_number, kind_row, kind_is_bool, kind_is_str, kind_is_tuple};
+ghost use Rattle.pattern_check.specs.TypeTests.{kind_point, kind_number, kind_row};
+ghost use Rattle.pattern_check.specs.TypeTests.{kind_is_bool, kind_is_str, kind_is_tuple};
 
 use match_model::Mode;
 use number_kinds::NumberKind;

@@ -7,7 +7,7 @@ ghost use Rattle.match_model.specs.declared.Mode.TheVariants.{Move};
 ghost use Rattle.type_table.specs.Lookups.{field_names as names_of_variant};
 ghost use Rattle.type_table.specs.Tables.{IsOf, table_program, table_type, fields_of_type, type_variant};
 ghost use Rattle.pattern_rules.specs.Settings.{place};
-ghost use Rattle.pattern_rules.specs.Nodes.{nodes, part_nodes, field_nodes, item_nodes, alternative_nodes, Elsewhere as Anywhere};
+ghost use Rattle.pattern_rules.specs.Nodes.{nodes, part_nodes, field_nodes, item_nodes, alternative_nodes};
 ghost use Rattle.pattern_rules.specs.Nodes.{names_bound, names_of_all, names_of_fields, is_rest, field_standing};
 ghost use Rattle.pattern_rules.specs.Namings.{field_number};
 ghost use Rattle.pattern_rules.specs.NodeRules.{is_tuple};
@@ -45,7 +45,8 @@ pub fn walk_pattern<'a>(
     requires file { IsOfFile table.now }
     requires of { IsOf table.now here.ty }
     ensures fault { IfOk result (FirstIs table.now edition (map text_at names.old.keys) (λ s before.
-        nodes s (standing_view standing) before (place (table_type table.now here.ty) here.mode) (pattern_view pat.now))) }
+        nodes s (standing_view standing) before (place (table_type table.now here.ty) here.mode)
+        (pattern_view pat.now))) }
     ensures names { IfOk result (NamesAre table.now (map text_at names.old.keys) (map text_at names.new.keys)
         (λ s. names_bound s (pattern_view pat.now))) }
 {
