@@ -18,7 +18,8 @@ use Rattle.pattern_rules.specs.Promises.{range_written, IsWritten}
 use Rattle.pattern_rules.specs.Builders.{Built}
 use Rattle.pattern_rules.specs.Resolved.{resolved}
 use Rattle.pattern_rules.specs.Elaborated.{elaborated}
-use Rattle.pattern_laws.specs.Laws.{IsSoundArm, elaborated_arm, WaysAreKept, ArmsAreTyped, NamesAreApart, ArmsAreInForm}
+use Rattle.pattern_rules.specs.ShownMatches.{IsSoundArm, elaborated_arm}
+use Rattle.pattern_laws.specs.Laws.{WaysAreKept, ArmsAreTyped, NamesAreApart, ArmsAreInForm}
 use Rattle.pattern_laws.proofs.Fitting.{RangeFits, Fits}
 use Rattle.pattern_laws.proofs.FineNodes.{NodeFine, AllNodes, nodes_left, nodes_right, arm_fine}
 use Rattle.pattern_laws.proofs.KeptParts.{standing_keeps}
@@ -29,7 +30,7 @@ use Rattle.pattern_laws.proofs.MadeNames.{standing_binds}
 use Rattle.pattern_laws.proofs.ElaboratedNames.{binds}
 use Rattle.pattern_laws.proofs.Everywhere.{Every, every_at, RangeHolds, FewChoices, lone_made, texts_made, ranges_made, few_made}
 use Rattle.pattern_laws.proofs.Choices.{choices, chooses, standing_chooses}
-use Rattle.pattern_laws.specs.Spelled.{choice_offsets}
+use Rattle.pattern_rules.specs.Spelled.{choice_offsets}
 use Rattle.match_model.specs.Match.{alternatives_in}
 use Rattle.match_model.specs.SourcePatterns.{ids_in}
 use Rattle.match_model.specs.ArenaWays.{arena_alternatives}

@@ -16,7 +16,7 @@ use Rattle.pattern_rules.specs.Namings.{is_path_name, found_by, found_ctor, fiel
 use Rattle.pattern_rules.specs.Literals.{number_of}
 use Rattle.pattern_rules.specs.Nodes.{is_rest, part_behind, part_types}
 use Rattle.pattern_rules.specs.Resolved.{resolved, resolved_shape, literal_pattern, number_pattern, name_pattern, form_parts, form_fields, front_items, back_items, alternatives}
-use Rattle.pattern_laws.specs.Spelled.{choice_offsets, offsets_within, offsets_in_all, offsets_in_fields, offsets_of_each}
+use Rattle.pattern_rules.specs.Spelled.{choice_offsets, offsets_within, offsets_in_all, offsets_in_fields, offsets_of_each}
 use Rattle.pattern_laws.proofs.Reading.{Rising, ids_others}
 
 -- the numbers of the first list are some of the second, in the same order

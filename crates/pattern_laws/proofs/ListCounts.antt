@@ -10,7 +10,7 @@ use Rattle.pattern_rules.specs.Settings.{Setting}
 use Rattle.pattern_rules.specs.Nodes.{is_rest}
 use Rattle.pattern_rules.specs.NodeRules.{rest_count, has_other_count, has_rests}
 use Rattle.pattern_rules.specs.Resolved.{rest_in, rest_of, front_items, back_items}
-use Rattle.pattern_laws.specs.Spelled.{is_bound_rest, has_bound_rest}
+use Rattle.pattern_rules.specs.Spelled.{is_bound_rest, has_bound_rest}
 use Rattle.pattern_laws.proofs.Fitting.{IsUnbound, CountFits, IsNarrow, pats_count}
 use Rattle.pattern_laws.proofs.FineNodes.{either_left, either_right}
 use Rattle.pattern_laws.proofs.FieldNumbers.{untwice}

@@ -21,7 +21,7 @@ use Rattle.pattern_rules.specs.NodeRules.{literal_fits, is_numeric}
 use Rattle.pattern_rules.specs.Promises.{literal_range}
 use Rattle.pattern_rules.specs.Resolved.{literal_pattern, number_pattern}
 use Rattle.pattern_rules.proofs.SameTypes.{both_left, both_right}
-use Rattle.pattern_laws.specs.Spelled.{literal_is_spelled, end_is_spelled}
+use Rattle.pattern_rules.specs.Spelled.{literal_is_spelled, end_is_spelled}
 use Rattle.pattern_laws.proofs.Fitting.{RangeFits, IsBool, Fits}
 use Rattle.pattern_laws.proofs.FineNodes.{either_left, either_right}
 use Rattle.pattern_laws.proofs.FieldNumbers.{untwice}

@@ -14,7 +14,7 @@ use Rattle.match_model.specs.ArenaPatterns.{MBound, MDePat, de_pat, MDePats, no_
 use Rattle.match_model.specs.ArenaWays.{NumberedPart, parts_built, ways_where, bound_part, with_bounds, with_spans_of, ways_by_ctor, chosen_of, arena_ways, subs_ways, arena_alternatives_ways}
 use Rattle.match_model.specs.WellTyped.{uids_in, uids_in_all}
 use Rattle.pattern_rules.specs.ArenaForms.{offset_or, offset_in, offset_in_all, number_or, by_offsets}
-use Rattle.pattern_laws.specs.Shown.{uid_under, settled, settled_all}
+use Rattle.pattern_rules.specs.Shown.{uid_under, settled, settled_all}
 
 -- the way with its trace renamed
 abbrev pub renamed : (ℕ → ℕ) → Way → Way

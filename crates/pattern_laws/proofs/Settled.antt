@@ -8,7 +8,7 @@ use Rattle.match_model.specs.WellTyped.{bound_names, names_in, names_in_all, nam
 use Rattle.pattern_rules.specs.ArenaForms.{all_within, all_below, subs_in, is_or, is_wide, is_text, is_lone_range, lone_ranges_only}
 use Rattle.pattern_rules.specs.Promises.{is_text_reference, text_is_referred, texts_are_referred}
 use Rattle.pattern_rules.specs.Builders.{Built}
-use Rattle.pattern_laws.specs.Shown.{uid_under, settled, settled_all}
+use Rattle.pattern_rules.specs.Shown.{uid_under, settled, settled_all}
 use Rattle.pattern_laws.proofs.Everywhere.{Every}
 
 -- names

@@ -18,9 +18,10 @@ use Rattle.pattern_rules.specs.Nodes.{Elsewhere, nodes}
 use Rattle.pattern_rules.specs.Faults.{scrutinee_type, nodes_of_arm, nodes_of_arms, function_nodes}
 use Rattle.pattern_rules.specs.ArenaForms.{in_reading, all_within, subs_in, is_or}
 use Rattle.pattern_rules.specs.Promises.{IsWritten, or_patterns, KeepsArm, KeepsMatch}
-use Rattle.pattern_laws.specs.Shown.{uid_under, settled, settled_all, shown}
+use Rattle.pattern_rules.specs.Shown.{uid_under, settled, settled_all, shown}
 use Rattle.pattern_laws.specs.Laws.{IsInForm}
-use Rattle.pattern_laws.specs.ShownLaws.{IsShownArm, IsShownMatch, ShownNamesDiffer, ShownMatchIsKept}
+use Rattle.pattern_rules.specs.ShownMatches.{IsShownArm, IsShownMatch}
+use Rattle.pattern_laws.specs.ShownLaws.{ShownNamesDiffer, ShownMatchIsKept}
 use Rattle.pattern_laws.proofs.FormsMet.{mapped_length}
 use Rattle.pattern_laws.proofs.Everywhere.{Every, every_append, every_at, RangeHolds, FewChoices}
 use Rattle.pattern_laws.proofs.Renamed.{offset_ways}

@@ -26,7 +26,7 @@ use Rattle.pattern_rules.specs.Builders.{types_or_none}
 use Rattle.pattern_rules.proofs.SameTypes.{both_left, both_right}
 use Rattle.pattern_laws.proofs.KeptLeaves.{EachType}
 use Rattle.pattern_laws.proofs.KeptParts.{FormFits}
-use Rattle.pattern_laws.specs.Spelled.{has_bound_rest, are_two, is_spelled, shape_is_spelled, all_are_spelled, fields_are_spelled}
+use Rattle.pattern_rules.specs.Spelled.{has_bound_rest, are_two, is_spelled, shape_is_spelled, all_are_spelled, fields_are_spelled}
 use Rattle.pattern_laws.proofs.Fitting.{RangeFits, numbered_count, VariantFits, PointFits, ListFits, FitsIf, pats_count, Fits, FieldFits, PatsFit, AllFit, CountFits}
 use Rattle.pattern_laws.proofs.FineNodes.{NodeFine, either_right}
 use Rattle.pattern_laws.proofs.FoundThere.{is_there, name_there, path_there}

@@ -13,7 +13,7 @@ use Rattle.pattern_rules.specs.Settings.{program}
 use Rattle.pattern_rules.specs.Faults.{scrutinee_type}
 use Rattle.pattern_rules.specs.ArenaForms.{all_within, all_below}
 use Rattle.pattern_rules.proofs.SameTypes.{both_left}
-use Rattle.pattern_laws.specs.Shown.{uid_under, settled, settled_all}
+use Rattle.pattern_rules.specs.Shown.{uid_under, settled, settled_all}
 use Rattle.pattern_laws.specs.ShownLaws.{ShownArmIsTyped}
 use Rattle.pattern_laws.proofs.ArmsKept.{arms_typed}
 

@@ -4,9 +4,8 @@ use Rattle.std.specs.List.{Contains}
 use Rattle.match_model.specs.declared.Mode.TheVariants.{Move}
 use Rattle.match_model.specs.Values.{MValue}
 use Rattle.match_model.specs.Typing.{InDomain}
-use Rattle.match_model.specs.RustTypes.{rust_context, is_type, IsSoundProgram}
+use Rattle.match_model.specs.RustTypes.{rust_context}
 use Rattle.match_model.specs.Matching.{ways}
-use Rattle.match_model.specs.SourcePatterns.{ascend}
 use Rattle.match_model.specs.ArenaPatterns.{at_of}
 use Rattle.match_model.specs.ArenaWays.{arena_ways}
 use Rattle.match_model.specs.WellTyped.{IsTyped, names_differ}
@@ -15,29 +14,12 @@ use Rattle.decl_syntax.specs.Counts.{pattern_nodes}
 use Rattle.decl_syntax.specs.Functions.{FunctionTree}
 use Rattle.pattern_rules.specs.Settings.{Setting, program}
 use Rattle.pattern_rules.specs.Nodes.{offset_of}
-use Rattle.pattern_rules.specs.Faults.{BreaksNone, scrutinee_type}
+use Rattle.pattern_rules.specs.Faults.{scrutinee_type}
 use Rattle.pattern_rules.specs.Resolved.{resolved}
 use Rattle.pattern_rules.specs.ArenaForms.{all_within, subs_in, is_or, lone_ranges_only}
 use Rattle.pattern_rules.specs.Promises.{texts_are_referred, HasWrittenRanges}
 use Rattle.pattern_rules.specs.Builders.{Built}
-use Rattle.pattern_rules.specs.Elaborated.{elaborated, standing_at}
-use Rattle.pattern_laws.specs.Spelled.{is_spelled, choice_offsets}
-
--- a function that breaks no rule, in a file whose types are sound, and one of its arms, as tokens spell it; offsets ascend from
--- left to right
-pub record IsSoundArm (s : Setting) (f : FunctionTree) (a : ArmTree) : Type 0 where
-  pub sound : IsSoundProgram (program s)
-  pub type_is : IsTrue (is_type (program s) (scrutinee_type s f))
-  pub fine : BreaksNone s f
-  pub among : Contains f.arms a
-  pub spelled : IsTrue (is_spelled a.pattern)
-  pub ascend : IsTrue (ascend (choice_offsets a.pattern))
-
--- what the arm's pattern becomes, at its offset
-abbrev pub elaborated_arm : Setting → FunctionTree → ArmTree → Built
-elaborated_arm s f a =
-    standing_at (offset_of a.pattern) (elaborated (program s) (resolved s (scrutinee_type s f) a.pattern)
-    (scrutinee_type s f) Move)
+use Rattle.pattern_rules.specs.ShownMatches.{IsSoundArm, elaborated_arm}
 
 -- law: its ways are those of the pattern that the written one means
 abbrev pub WaysAreKept : Type 0

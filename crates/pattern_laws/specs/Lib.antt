@@ -1,4 +1,2 @@
-pub mod Spelled
 pub mod Laws
-pub mod Shown
 pub mod ShownLaws
