@@ -1,4 +1,4 @@
-// A function that is judged beside one whose patterns are not built yet.
+// An enum without fields, and a struct behind a reference.
 enum Light { Red, Amber, Green }
 
 struct Crossing<'a> {
