@@ -5,6 +5,7 @@ use Rattle.std.specs.List.{Contains}
 use Rattle.std.proofs.lemmas.Option.{slice_get-map, slice_get_read, slice_get_within, get_or_from_slice_get}
 use Rattle.match_model.specs.Types.{MType}
 use Rattle.match_model.specs.Numbers.{MRange}
+use Rattle.match_model.specs.Made.{IsMadeRange}
 use Rattle.match_model.specs.declared.Mode.TheVariants.{Move}
 use Rattle.match_model.specs.Values.{Unseen}
 use Rattle.decl_syntax.specs.Items.{ArmTree}
@@ -37,6 +38,7 @@ use Rattle.match_model.specs.ArenaWays.{arena_alternatives}
 use Rattle.pattern_laws.proofs.Reading.{Rising, rising, same_reading}
 use Rattle.pattern_laws.proofs.ReadingOrder.{standing_has, has_alternatives, are_named}
 use Rattle.pattern_laws.proofs.ChoiceOffsets.{tree_offsets, some_rising}
+use Rattle.pattern_laws.proofs.MadeRanges.{node_made}
 use Rattle.pattern_laws.proofs.TreeCounts.{tree_choices, node_count}
 use Rattle.pattern_laws.proofs.WaysKept.{keeps}
 use Rattle.pattern_laws.proofs.Typings.{is_typed, standing_typed}
@@ -154,6 +156,15 @@ some_node s f a = some_nodes s Elsewhere [] (place (scrutinee_type s f) Move) a.
 among_every : (E : Built → Type 0) (xs : List Built) (q : Built) → Contains xs q → Every E xs → E q
 among_every E xs q c h = every_at E xs c.0 q (slice_get_read xs (length xs) c.0 q refl c.1 (sym c.2)) h
 
+-- the ranges in it can be held
+pub arm_made : (s : Setting) (f : FunctionTree) (a : ArmTree) → IsSoundArm s f a →
+    Every (RangeHolds (λ r t. IsMadeRange r)) (all_within (elaborated_arm s f a))
+arm_made s f a h =
+    ranges_made (program s) (λ r t. IsMadeRange r) (length (arm_nodes s f a)) (offset_of a.pattern)
+    (resolved s (scrutinee_type s f) a.pattern) (scrutinee_type s f) Move
+    (fits_by s f a h (λ n. NodeFine s n) (λ r t. IsMadeRange r) (λ n p. p) (λ n r p e q. node_made s n r p e q)
+    (arm_fine s f a h.fine h.among))
+
 -- its ranges and its alternatives
 pub arm_ranges : (s : Setting) (f : FunctionTree) (a : ArmTree) → IsSoundArm s f a →
     Every (RangeHolds (λ w t. IsWritten s f a t w)) (all_within (elaborated_arm s f a))
@@ -166,6 +177,14 @@ pub arm_few : (s : Setting) (f : FunctionTree) (a : ArmTree) → IsSoundArm s f 
 arm_few s f a h =
     few_made (program s) (RangeFits (program s)) (length (arm_nodes s f a)) (offset_of a.pattern)
     (resolved s (scrutinee_type s f) a.pattern) (scrutinee_type s f) Move (some_node s f a) (arm_fits s f a h)
+
+-- the offsets of the alternatives of the pattern that the written one means rise
+pub arm_rises : (s : Setting) (f : FunctionTree) (a : ArmTree) → IsSoundArm s f a →
+    Rising (ids_in (alternatives_in (resolved s (scrutinee_type s f) a.pattern)))
+arm_rises s f a h =
+    some_rising (ids_in (alternatives_in (resolved s (scrutinee_type s f) a.pattern)))
+    (choice_offsets a.pattern) (tree_offsets s (scrutinee_type s f) a.pattern)
+    (rising (choice_offsets a.pattern) h.ascend)
 
 -- in reading order its alternatives are those of the pattern that the written one means
 pub arm_reading : (s : Setting) (f : FunctionTree) (a : ArmTree) → IsSoundArm s f a →
@@ -181,9 +200,7 @@ arm_reading s f a h =
     (are_named (resolved s (scrutinee_type s f) a.pattern)) rises
   where
     rises : Rising (ids_in (alternatives_in (resolved s (scrutinee_type s f) a.pattern)))
-    rises = some_rising (ids_in (alternatives_in (resolved s (scrutinee_type s f) a.pattern)))
-        (choice_offsets a.pattern) (tree_offsets s (scrutinee_type s f) a.pattern)
-        (rising (choice_offsets a.pattern) h.ascend)
+    rises = arm_rises s f a h
 
 pub arms_in_form : ArmsAreInForm
 arms_in_form s f a h = record {

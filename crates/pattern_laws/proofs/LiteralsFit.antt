@@ -34,7 +34,7 @@ let_in true b h k = cc
 let_in false b h k = h
 
 -- a suffix has only integer types
-suffix_numeric : (suffix : List ℕ) (u : MType) → has_suffix_type suffix u ≡ true → IsNumeric u
+pub suffix_numeric : (suffix : List ℕ) (u : MType) → has_suffix_type suffix u ≡ true → IsNumeric u
 suffix_numeric suffix (IntType k) h = tt
 suffix_numeric suffix CharType h = tt
 suffix_numeric suffix u h = absurd (clash (go (nat_eq (length suffix) 0) (int_kind suffix) refl refl))

@@ -265,7 +265,7 @@ mutual
 
 -- the function that looks uids up in a pattern whose uids differ
 mutual
-  told_in : {T : Type 0} (L : ℕ → Option ℕ) (p : MDePat T) → Differ (uids_in p) →
+  pub told_in : {T : Type 0} (L : ℕ → Option ℕ) (p : MDePat T) → Differ (uids_in p) →
       ((u : ℕ) → Among u (uids_in p) → L u ≡ offset_in u p) → Told (λ u. number_or u (L u)) p
   told_in {T} L (de_pat c t uid at subs binds) d h = (here, told_in_all L subs d.1 below)
     where

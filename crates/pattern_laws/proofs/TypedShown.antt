@@ -62,7 +62,7 @@ module _ {T : Type 0} (rust : MProgram) (type : T → MType) (is_type_s : T → 
   variant_there st k h = cc
 
   -- the types of parts are types
-  sub_is_type : (c : MCtor) (t : T) (i : ℕ) → IsTrue (is_type_s t) → belongs (cy.set_of t) c ≡ true →
+  pub sub_is_type : (c : MCtor) (t : T) (i : ℕ) → IsTrue (is_type_s t) → belongs (cy.set_of t) c ≡ true →
       i < cy.arity c t → IsTrue (is_type_s (cy.sub c t i))
   sub_is_type SingleCtor t i d b lt = view.part_type t OneSingle i d (single_there (cy.set_of t) b) lt
   sub_is_type (VariantCtor k) t i d b lt = view.part_type t (OneVariant k) i d (variant_there (cy.set_of t) k b) lt

@@ -1,2 +1,5 @@
 pub mod Laws
 pub mod ShownLaws
+pub mod JudgedLaws
+pub mod TableLaws
+pub mod ParsedLaws
