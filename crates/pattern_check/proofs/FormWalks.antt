@@ -13,7 +13,7 @@ use Rattle.type_table.specs.Lookups as declared
 use Rattle.type_table.specs.Tables.{fields_of_type, type_variant}
 use Rattle.pattern_rules.specs.Settings.{Setting, program, place, bottom_type, bottom_mode}
 use Rattle.pattern_rules.specs.Namings.{found_if, found_by, found_ctor, found_number, fields_found, field_names, is_short, meets}
-use Rattle.pattern_rules.specs.Nodes.{Standing, part_nodes, part_types, field_nodes}
+use Rattle.pattern_rules.specs.Nodes.{Node, Standing, part_nodes, part_types, field_nodes}
 use Rattle.pattern_rules.specs.NodeRules.{written_names, has_rests}
 use Rattle.pattern_rules.specs.Faults.{node_rules}
 use Rattle.pattern_rules.specs.FirstFault.{least_broken}
@@ -89,39 +89,52 @@ module _ (p : MProgram) (s : Setting) (same : p ≡ program s) (found : FoundTre
       names_in p s.items s.width found u same met.there type met_here
       ∙ ap (λ (i : ℕ). declared.field_names (type_variant p u i)) (sym number)
 
-  pub form_within : (before : List (List ℕ)) (qs : PatternTrees) (r : Option NodeFault) → r ≡ first_in node_rules s (part_nodes s before (types_of_parts p u k) n (fields_of_type p u k) 0 qs) →
-      r ≡ first_in node_rules s (part_nodes s before (part_types s (found_ctor found) (bottom_type t)) (bottom_mode t m) (fields_found s.items found) 0 qs)
-  form_within before qs r h =
+  -- the nodes below a tuple form, as a table tells its parts
+  pub form_nodes : (before : List (List ℕ)) (qs : PatternTrees) → part_nodes s before (types_of_parts p u k) n (fields_of_type p u k) 0 qs
+      ≡ part_nodes s before (part_types s (found_ctor found) (bottom_type t)) (bottom_mode t m) (fields_found s.items found) 0 qs
+  form_nodes before qs =
       let count : fields_of_type p u k ≡ fields_found s.items found = counted p u k (met_is_named found u met_here) ∙ ap (λ (ns : List (List ℕ)). length ns) (sym names_told) in
-      let told : MProgram → MType → Mode → ℕ → ℕ → Option NodeFault = λ q v o i c. first_in node_rules s (part_nodes s before (types_of_parts q v i) o c 0 qs) in
-      h
-      ∙ (ap (λ (c : ℕ). told p u n k c) count
+      let told : MProgram → MType → Mode → ℕ → ℕ → List Node = λ q v o i c. part_nodes s before (types_of_parts q v i) o c 0 qs in
+      ap (λ (c : ℕ). told p u n k c) count
       ∙ (ap (λ (q : MProgram). told q u n k (fields_found s.items found)) same
       ∙ (ap (λ (v : MType). told (program s) v n k (fields_found s.items found)) ty
       ∙ (ap (λ (o : Mode). told (program s) (bottom_type t) o k (fields_found s.items found)) mode
       ∙ (ap (λ (i : ℕ). told (program s) (bottom_type t) (bottom_mode t m) i (fields_found s.items found)) number
-      ∙ ap (λ ns. first_in node_rules s ns) (form_parts s before found (bottom_type t) (bottom_mode t m) (fields_found s.items found) qs (form_found s.items found met.there)))))))
+      ∙ form_parts s before found (bottom_type t) (bottom_mode t m) (fields_found s.items found) qs (form_found s.items found met.there)))))
 
-  pub brace_within : (before : List (List ℕ)) (fs : FieldTrees) (r : Option NodeFault) →
-      r ≡ first_in node_rules s (field_nodes s before (types_of_parts p u k) n (declared.field_names (type_variant p u k)) fs) →
-      r ≡ first_in node_rules s (field_nodes s before (part_types s (found_ctor found) (bottom_type t)) (bottom_mode t m) (field_names s.items found) fs)
-  brace_within before fs r h =
-      let told : MProgram → MType → Mode → ℕ → List (List ℕ) → Option NodeFault = λ q v o i ns. first_in node_rules s (field_nodes s before (types_of_parts q v i) o ns fs) in
-      h
-      ∙ (ap (λ (ns : List (List ℕ)). told p u n k ns) (sym names_told)
+  pub form_within : (before : List (List ℕ)) (qs : PatternTrees) (r : Option NodeFault) → r ≡ first_in node_rules s (part_nodes s before (types_of_parts p u k) n (fields_of_type p u k) 0 qs) →
+      r ≡ first_in node_rules s (part_nodes s before (part_types s (found_ctor found) (bottom_type t)) (bottom_mode t m) (fields_found s.items found) 0 qs)
+  form_within before qs r h = h ∙ ap (λ (ns : List Node). first_in node_rules s ns) (form_nodes before qs)
+
+  -- the nodes below a brace form, as a table tells its fields
+  pub brace_nodes : (before : List (List ℕ)) (fs : FieldTrees) → field_nodes s before (types_of_parts p u k) n (declared.field_names (type_variant p u k)) fs
+      ≡ field_nodes s before (part_types s (found_ctor found) (bottom_type t)) (bottom_mode t m) (field_names s.items found) fs
+  brace_nodes before fs =
+      let told : MProgram → MType → Mode → ℕ → List (List ℕ) → List Node = λ q v o i ns. field_nodes s before (types_of_parts q v i) o ns fs in
+      ap (λ (ns : List (List ℕ)). told p u n k ns) (sym names_told)
       ∙ (ap (λ (q : MProgram). told q u n k (field_names s.items found)) same
       ∙ (ap (λ (v : MType). told (program s) v n k (field_names s.items found)) ty
       ∙ (ap (λ (o : Mode). told (program s) (bottom_type t) o k (field_names s.items found)) mode
       ∙ (ap (λ (i : ℕ). told (program s) (bottom_type t) (bottom_mode t m) i (field_names s.items found)) number
-      ∙ ap (λ ns. first_in node_rules s ns) (brace_parts s before found (bottom_type t) (bottom_mode t m) (field_names s.items found) fs (form_found s.items found met.there)))))))
+      ∙ brace_parts s before found (bottom_type t) (bottom_mode t m) (field_names s.items found) fs (form_found s.items found met.there)))))
+
+  pub brace_within : (before : List (List ℕ)) (fs : FieldTrees) (r : Option NodeFault) →
+      r ≡ first_in node_rules s (field_nodes s before (types_of_parts p u k) n (declared.field_names (type_variant p u k)) fs) →
+      r ≡ first_in node_rules s (field_nodes s before (part_types s (found_ctor found) (bottom_type t)) (bottom_mode t m) (field_names s.items found) fs)
+  brace_within before fs r h = h ∙ ap (λ (ns : List Node). first_in node_rules s ns) (brace_nodes before fs)
 
   pub named_here : (found_type : MType) → found_type ≡ u → meets found found_type ≡ true
   named_here v e = ap (λ (w : MType). meets found w) e ∙ met_here
 
--- a tuple
+-- the nodes below a tuple, as a table tells its parts
+pub tuple_nodes : (p : MProgram) (s : Setting) → p ≡ program s → (t u : MType) (m n : Mode) → u ≡ bottom_type t → n ≡ bottom_mode t m → (before : List (List ℕ)) (qs : PatternTrees) →
+    part_nodes s before (types_of_parts p u 0) n (fields_of_type p u 0) 0 qs
+    ≡ part_nodes s before (types_of_parts (program s) (bottom_type t) 0) (bottom_mode t m) (fields_of_type (program s) (bottom_type t) 0) 0 qs
+tuple_nodes p s same t u m n ty mode before qs =
+    let told : MProgram → MType → Mode → List Node = λ q v o. part_nodes s before (types_of_parts q v 0) o (fields_of_type q v 0) 0 qs in
+    ap (λ (q : MProgram). told q u n) same ∙ (ap (λ (v : MType). told (program s) v n) ty ∙ ap (λ (o : Mode). told (program s) (bottom_type t) o) mode)
+
 pub tuple_within : (p : MProgram) (s : Setting) → p ≡ program s → (t u : MType) (m n : Mode) → u ≡ bottom_type t → n ≡ bottom_mode t m → (before : List (List ℕ)) (qs : PatternTrees) (r : Option NodeFault) →
     r ≡ first_in node_rules s (part_nodes s before (types_of_parts p u 0) n (fields_of_type p u 0) 0 qs) →
     r ≡ first_in node_rules s (part_nodes s before (types_of_parts (program s) (bottom_type t) 0) (bottom_mode t m) (fields_of_type (program s) (bottom_type t) 0) 0 qs)
-tuple_within p s same t u m n ty mode before qs r h =
-    let told : MProgram → MType → Mode → Option NodeFault = λ q v o. first_in node_rules s (part_nodes s before (types_of_parts q v 0) o (fields_of_type q v 0) 0 qs) in
-    h ∙ (ap (λ (q : MProgram). told q u n) same ∙ (ap (λ (v : MType). told (program s) v n) ty ∙ ap (λ (o : Mode). told (program s) (bottom_type t) o) mode))
+tuple_within p s same t u m n ty mode before qs r h = h ∙ ap (λ (ns : List Node). first_in node_rules s ns) (tuple_nodes p s same t u m n ty mode before qs)

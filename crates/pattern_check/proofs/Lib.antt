@@ -12,3 +12,6 @@ pub mod FunctionLemmas
 pub mod Shapes
 pub mod FieldLemmas
 pub mod OwnFaults
+pub mod SetLemmas
+pub mod BoundNodes
+pub mod GatherSteps

@@ -19,7 +19,7 @@ use Rattle.pattern_check.specs.declared.fault.NodeFault.{NodeFault}
 use Rattle.pattern_check.specs.NodeForms.{node_at}
 use Rattle.pattern_check.specs.Walks.{fault_at, earlier, first_in, own_names, inner_names, inner_nodes}
 
-first_append : (rules : List NodeRule) (s : Setting) (ns ms : List Node) → first_in rules s (ns ++ ms) ≡ earlier (first_in rules s ns) (first_in rules s ms)
+pub first_append : (rules : List NodeRule) (s : Setting) (ns ms : List Node) → first_in rules s (ns ++ ms) ≡ earlier (first_in rules s ns) (first_in rules s ms)
 first_append rules s [] ms = refl
 first_append rules s (n ∷ ns) ms = by (fault_at n.at (least_broken rules s n)) (first_append rules s ns ms)
   where
@@ -81,10 +81,15 @@ module _ (s : Setting) (before : List (List ℕ)) (items : List Pat) (i : ℕ) (
 
   -- parts of a tuple or tuple form
   module _ (types : ℕ → MType) (m : Mode) (parts n k : ℕ) (next : k ≡ part_behind parts n (pattern_view p) (list_of (drop (i + 1) items))) where
+    pub parts_here : part_nodes s (before ++ names_of_all s (list_of (take i items))) types m parts n (list_of (drop i items))
+        ≡ nodes s Elsewhere (before ++ names_of_all s (list_of (take i items))) (place (types n) m) (pattern_view p)
+        ++ part_nodes s (before ++ names_of_all s (list_of (take (i + 1) items))) types m parts k (list_of (drop (i + 1) items))
+    parts_here = rw (from_here items i p lt e, ← grown, next) refl
+
     here_parts : first_in node_rules s (part_nodes s (before ++ names_of_all s (list_of (take i items))) types m parts n (list_of (drop i items)))
         ≡ first_in node_rules s (nodes s Elsewhere (before ++ names_of_all s (list_of (take i items))) (place (types n) m) (pattern_view p)
         ++ part_nodes s (before ++ names_of_all s (list_of (take (i + 1) items))) types m parts k (list_of (drop (i + 1) items)))
-    here_parts = rw (from_here items i p lt e, ← grown, next) refl
+    here_parts = ap (λ (ns : List Node). first_in node_rules s ns) parts_here
 
     pub parts_pass : None ≡ first_in node_rules s (nodes s Elsewhere (before ++ names_of_all s (list_of (take i items))) (place (types n) m) (pattern_view p)) →
         first_in node_rules s (part_nodes s (before ++ names_of_all s (list_of (take i items))) types m parts n (list_of (drop i items)))
@@ -103,9 +108,12 @@ module _ (s : Setting) (before : List (List ℕ)) (items : List Pat) (i : ℕ) (
 
   -- alternatives
   module _ (pl : Place) where
+    pub ways_here : alternative_nodes s before pl (list_of (drop i items)) ≡ nodes s Elsewhere before pl (pattern_view p) ++ alternative_nodes s before pl (list_of (drop (i + 1) items))
+    ways_here = rw (from_here items i p lt e) refl
+
     here_ways : first_in node_rules s (alternative_nodes s before pl (list_of (drop i items)))
         ≡ first_in node_rules s (nodes s Elsewhere before pl (pattern_view p) ++ alternative_nodes s before pl (list_of (drop (i + 1) items)))
-    here_ways = rw (from_here items i p lt e) refl
+    here_ways = ap (λ (ns : List Node). first_in node_rules s ns) ways_here
 
     pub ways_pass : None ≡ first_in node_rules s (nodes s Elsewhere before pl (pattern_view p)) →
         first_in node_rules s (alternative_nodes s before pl (list_of (drop i items))) ≡ first_in node_rules s (alternative_nodes s before pl (list_of (drop (i + 1) items)))
@@ -117,10 +125,15 @@ module _ (s : Setting) (before : List (List ℕ)) (items : List Pat) (i : ℕ) (
 
   -- items of a slice pattern
   module _ (t : MType) (count : ℕ) (m : Mode) where
+    pub items_here : item_nodes s (before ++ names_of_all s (list_of (take i items))) t count m (list_of (drop i items))
+        ≡ nodes s AsItem (before ++ names_of_all s (list_of (take i items))) (place (slice_item_type t count (pattern_view p)) m) (pattern_view p)
+        ++ item_nodes s (before ++ names_of_all s (list_of (take (i + 1) items))) t count m (list_of (drop (i + 1) items))
+    items_here = rw (from_here items i p lt e, ← grown) refl
+
     here_items : first_in node_rules s (item_nodes s (before ++ names_of_all s (list_of (take i items))) t count m (list_of (drop i items)))
         ≡ first_in node_rules s (nodes s AsItem (before ++ names_of_all s (list_of (take i items))) (place (slice_item_type t count (pattern_view p)) m) (pattern_view p)
         ++ item_nodes s (before ++ names_of_all s (list_of (take (i + 1) items))) t count m (list_of (drop (i + 1) items)))
-    here_items = rw (from_here items i p lt e, ← grown) refl
+    here_items = ap (λ (ns : List Node). first_in node_rules s ns) items_here
 
     pub items_pass : None ≡ first_in node_rules s (nodes s AsItem (before ++ names_of_all s (list_of (take i items))) (place (slice_item_type t count (pattern_view p)) m) (pattern_view p)) →
         first_in node_rules s (item_nodes s (before ++ names_of_all s (list_of (take i items))) t count m (list_of (drop i items)))
@@ -170,17 +183,22 @@ module _ (s : Setting) (before : List (List ℕ)) (fields : List FieldPat) (i : 
       ∙ ap (λ (ns : List (List ℕ)). before ++ ns) (sym up_to_field)
 
   module _ (types : ℕ → MType) (m : Mode) (names : List (List ℕ)) where
-    here_fields : first_in node_rules s (field_nodes s (before ++ names_of_fields s (fields_from (fields_of (take i fields)))) types m names (fields_from (fields_of (drop i fields))))
-        ≡ first_in node_rules s (nodes s (field_standing f.short) (before ++ names_of_fields s (fields_from (fields_of (take i fields)))) (place (types (field_number names (field_view f).name)) m) (pattern_view f.pat)
-        ++ field_nodes s (before ++ names_of_fields s (fields_from (fields_of (take (i + 1) fields)))) types m names (fields_from (fields_of (drop (i + 1) fields))))
-    here_fields =
+    pub fields_here : field_nodes s (before ++ names_of_fields s (fields_from (fields_of (take i fields)))) types m names (fields_from (fields_of (drop i fields)))
+        ≡ nodes s (field_standing f.short) (before ++ names_of_fields s (fields_from (fields_of (take i fields)))) (place (types (field_number names (field_view f).name)) m) (pattern_view f.pat)
+        ++ field_nodes s (before ++ names_of_fields s (fields_from (fields_of (take (i + 1) fields)))) types m names (fields_from (fields_of (drop (i + 1) fields)))
+    fields_here =
         let b : List (List ℕ) = before ++ names_of_fields s (fields_from (fields_of (take i fields))) in
-        let told : Bool → PatternTree → List (List ℕ) → Option NodeFault = λ short q c.
-        first_in node_rules s (nodes s (field_standing short) b (place (types (field_number names (field_view f).name)) m) q ++ field_nodes s c types m names (fields_from (fields_of (drop (i + 1) fields)))) in
-        ap (λ (fs : FieldTrees). first_in node_rules s (field_nodes s b types m names fs)) from_field
+        let told : Bool → PatternTree → List (List ℕ) → List Node = λ short q c.
+        nodes s (field_standing short) b (place (types (field_number names (field_view f).name)) m) q ++ field_nodes s c types m names (fields_from (fields_of (drop (i + 1) fields))) in
+        ap (λ (fs : FieldTrees). field_nodes s b types m names fs) from_field
         ∙ (ap (λ (short : Bool). told short (field_view f).pattern (b ++ names_bound s (field_view f).pattern)) short_is
         ∙ (ap (λ (q : PatternTree). told f.short q (b ++ names_bound s (field_view f).pattern)) pattern_is
         ∙ ap (λ (c : List (List ℕ)). told f.short (pattern_view f.pat) c) grown_fields))
+
+    here_fields : first_in node_rules s (field_nodes s (before ++ names_of_fields s (fields_from (fields_of (take i fields)))) types m names (fields_from (fields_of (drop i fields))))
+        ≡ first_in node_rules s (nodes s (field_standing f.short) (before ++ names_of_fields s (fields_from (fields_of (take i fields)))) (place (types (field_number names (field_view f).name)) m) (pattern_view f.pat)
+        ++ field_nodes s (before ++ names_of_fields s (fields_from (fields_of (take (i + 1) fields)))) types m names (fields_from (fields_of (drop (i + 1) fields))))
+    here_fields = ap (λ (ns : List Node). first_in node_rules s ns) fields_here
 
     pub fields_pass : None ≡ first_in node_rules s (nodes s (field_standing f.short) (before ++ names_of_fields s (fields_from (fields_of (take i fields)))) (place (types (field_number names (field_view f).name)) m) (pattern_view f.pat)) →
         first_in node_rules s (field_nodes s (before ++ names_of_fields s (fields_from (fields_of (take i fields)))) types m names (fields_from (fields_of (drop i fields))))

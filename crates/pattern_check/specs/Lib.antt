@@ -3,3 +3,4 @@ pub mod TypeTests
 pub mod NodeForms
 pub mod Walks
 pub mod FunctionFaults
+pub mod BoundSets

@@ -9,15 +9,19 @@
 //! definitions of `pattern_rules`.
 #![tactic(auto)]
 
+mod alternatives;
 mod bound;
 mod counts;
 pub mod fault;
 pub mod fields;
 mod form_faults;
 pub mod function;
+mod held;
 mod literal_faults;
 mod name_faults;
 pub mod names;
 pub mod own_fault;
+#[cfg(test)]
+mod tests;
 pub mod types;
 pub mod walk;

@@ -150,8 +150,8 @@ fn walk_within<'a>(
     }
 }
 
-// The place behind a written `&`.
-fn pointed(table: &TypeTable, here: Place) -> Place
+/// The place behind a written `&`.
+pub(crate) fn pointed(table: &TypeTable, here: Place) -> Place
     requires { IsOf table.now here.ty }
     ensures of { IsOf table.now result.ty }
     ensures ty { table_type table.now result.ty ≡ inner_type (table_type table.now here.ty) }
@@ -209,8 +209,8 @@ fn walk_parts<'a>(
     Ok(None)
 }
 
-// Which part the item behind this one is: behind a rest the items count from the last part.
-fn part_behind(parts: usize, number: usize, left: usize, item: &Pat) -> usize
+/// Which part the item behind this one is: behind a rest the items count from the last part.
+pub(crate) fn part_behind(parts: usize, number: usize, left: usize, item: &Pat) -> usize
     requires { number < 2 ^ 64 - 1 }
     ensures is { result ≡ (if is_rest (pattern_view item.now) then parts - left else suc number) }
     ensures below { (k : ℕ) → number < k → parts ≤ k → result ≤ k }
@@ -264,8 +264,8 @@ fn walk_fields<'a>(
     Ok(None)
 }
 
-// The type of the field of this name; where there is none it is the type itself.
-fn field_type(table: &TypeTable, ty: TyId, variant: u32, name: &str) -> TyId
+/// The type of the field of this name; where there is none it is the type itself.
+pub(crate) fn field_type(table: &TypeTable, ty: TyId, variant: u32, name: &str) -> TyId
     requires { IsOf table.now ty }
     ensures of { IsOf table.now result }
     ensures is { is_tuple (table_type table.now ty) ≡ false → table_type table.now result

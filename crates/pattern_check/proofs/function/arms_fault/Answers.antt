@@ -20,7 +20,7 @@ loop-arm-preserved c =
       number = ap (λ (n : ℕ). n + 1) c.loop-arm.invariant.number;
       told = λ s is ed.
           c.loop-arm.invariant.told s is ed
-          ∙ arms_pass s t arms i a lt c.arm-item.is
+          ∙ arms_pass node_rules s t arms i a lt c.arm-item.is
           (sym none ∙ (c.in_ok-fault.ensures s is ed ∙ ap (λ (n : ℕ). first_at node_rules s (nodes_of_arm s t n (arm_view a))) c.loop-arm.invariant.number));
     }
 
@@ -31,7 +31,7 @@ returns-then-is_some c = λ s is ed.
     let i = c.loop-arm.arm-index in
     let a = c.arm-item.result in
     let lt : i < length arms = omega arith in
-    arms_stop s t arms i a lt c.arm-item.is (option_map fault_view c.in_ok-fault.fault) (view_some c.in_ok-fault.fault (sym c.is_some.ensures ∙ c.if-is_some.true))
+    arms_stop node_rules s t arms i a lt c.arm-item.is (option_map fault_view c.in_ok-fault.fault) (view_some c.in_ok-fault.fault (sym c.is_some.ensures ∙ c.if-is_some.true))
     (c.in_ok-fault.ensures s is ed ∙ ap (λ (n : ℕ). first_at node_rules s (nodes_of_arm s t n (arm_view a))) c.loop-arm.invariant.number)
     ∙ sym (c.loop-arm.invariant.told s is ed)
 
