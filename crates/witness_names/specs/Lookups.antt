@@ -1,0 +1,82 @@
+-- What the code looks up of a type: how its variants are written, with their names, and what it is made of.
+use Rattle.std.specs.Prelude.{◌≡◌, ℕ, Bool, true, false, List, [], Option, Some, None, option_map, slice_get}
+use Rattle.match_model.specs.Types.{DeclaredItem, MType, TupleType, PointType, NamedType, no_types}
+use Rattle.match_model.specs.Declarations.{MField, MForm, UnitForm, TupleForm, BraceForm, MVariant, StructItem, MProgram, node_types}
+use Rattle.match_model.specs.Witness.{MWitness, RowOf, MWitnesses, no_witnesses}
+use Rattle.type_names.specs.declared.meanings.FormKind.{FormKind}
+use Rattle.type_names.specs.declared.meanings.FormKind.TheVariants as kinds
+use Rattle.type_table.specs.declared.table.TyId.{TyId}
+use Rattle.type_table.specs.declared.table.TypeTable.{TypeTable}
+use Rattle.type_table.specs.Tables.{table_type, type_variant}
+use Rattle.witness_text.specs.declared.named.FormName.{FormName}
+use Rattle.witness_text.specs.Trees.{NameTree, FieldTree, name_view}
+use Rattle.witness_names.specs.Named.{form_name, named_fields, named_parts, types_there}
+
+-- how a form is written
+abbrev pub kind_of_form : MForm → FormKind
+kind_of_form UnitForm = kinds.Unit
+kind_of_form (TupleForm types) = kinds.Tuple
+kind_of_form (BraceForm fields) = kinds.Brace
+
+-- how a variant of the type is written, and its name
+abbrev pub form_told : MProgram → MType → MVariant → FormKind × NameTree
+form_told program t v = (kind_of_form v.form, form_name program t v.name)
+
+-- the same of the type's variant with this number, if there is one
+abbrev pub form_there : MProgram → MType → (variant : ℕ) → Option (FormKind × NameTree)
+form_there program t k = option_map (form_told program t) (type_variant program t k)
+
+-- the name of the type's variant with this number, if there is one
+abbrev pub name_there : MProgram → MType → (variant : ℕ) → Option NameTree
+name_there program t k = option_map (λ v. form_name program t v.name) (type_variant program t k)
+
+-- the fields of a brace form; another form has none with names
+abbrev pub fields_of_form : MForm → List MField
+fields_of_form UnitForm = []
+fields_of_form (TupleForm types) = []
+fields_of_form (BraceForm fields) = fields
+
+-- the same of a variant that may be there
+abbrev pub brace_fields : Option MVariant → List MField
+brace_fields None = []
+brace_fields (Some v) = fields_of_form v.form
+
+-- the witnesses as the fields of the type's variant with this number, if it is of brace form
+abbrev pub fields_there : MProgram → MType → (variant : ℕ) → MWitnesses → List FieldTree
+fields_there program t k ws =
+    named_fields (brace_fields (type_variant program t k)) (named_parts program (types_there (node_types program t k))
+    ws)
+
+-- what a caller sees of a form with its name
+abbrev pub form_view : FormKind × FormName → FormKind × NameTree
+form_view p = (p.0, name_view p.1)
+
+-- the type is a struct of the program's
+abbrev pub IsDeclaredStruct : MProgram → MType → Type 0
+IsDeclaredStruct program t =
+    (i : ℕ) × (v : MVariant) × (t ≡ NamedType (DeclaredItem i) no_types) × (slice_get program.items i
+    ≡ Some (StructItem v))
+
+-- the type is a tuple
+abbrev pub is_tuple : MType → Bool
+is_tuple (TupleType types) = true
+is_tuple _ = false
+
+-- the mutability of a reference, and the type behind it
+abbrev pub pointed : MType → Option (Bool × MType)
+pointed (PointType mutable t) = Some (mutable, t)
+pointed _ = None
+
+-- the same by the number of the type
+abbrev pub pointed_view : TypeTable → Bool × TyId → Bool × MType
+pointed_view table p = (p.0, table_type table p.1)
+
+-- the first items of a row
+abbrev pub front_of : MWitness → MWitnesses
+front_of (RowOf front longer back) = front
+front_of _ = no_witnesses
+
+-- the last items
+abbrev pub back_of : MWitness → MWitnesses
+back_of (RowOf front longer back) = back
+back_of _ = no_witnesses
