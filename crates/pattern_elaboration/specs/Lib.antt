@@ -1,0 +1,11 @@
+pub mod Placed
+pub mod Numbered
+pub mod Checking
+pub mod TypeTests
+pub mod Written
+pub mod Fitting
+pub mod Walking
+pub mod Given
+pub mod Rests
+pub mod Literals
+pub mod Arms

@@ -1,0 +1,151 @@
+//! Nodes of patterns, each with a number of its own.
+ghost use Rattle.std.specs.Prelude.{◌≡◌, ◌+◌, ◌≤◌, ℕ, [], map, IfOk};
+ghost use Rattle.match_model.specs.ArenaPatterns.{de_pat, no_de_pats, de_pats_of};
+ghost use Rattle.pat_context.specs.Views.{plain_ctor};
+ghost use Rattle.pattern_arena.specs.Trees.{plain_bound, tree};
+ghost use Rattle.pattern_rules.specs.Elaborated.{is_wide_ctor};
+ghost use Rattle.type_table.specs.declared.table.TypeTable.{TypeTable as AnyTable};
+ghost use Rattle.type_table.specs.Tables.{IsOf};
+ghost use Rattle.pattern_elaboration.specs.Numbered.{IsMade, AreMade};
+ghost use Rattle.pattern_elaboration.specs.Placed.{bound_on, standing_tree};
+
+use no_memory::NoMemory;
+use pat_context::Ctor;
+use pattern_arena::{Bound, DePat, Placer};
+use std::alloc::Global;
+use type_table::TyId;
+
+/// The next number. There are fewer patterns in memory than numbers.
+pub fn fresh(next: &mut u64) -> Result<u64, NoMemory>
+    ensures { IfOk result (λ uid. (uid ≡ next.old) × (next.new ≡ next.old + 1)) }
+{
+    let uid = *next;
+    if uid == u64::MAX {
+        return Err(NoMemory);
+    }
+    *next = uid + 1;
+    Ok(uid)
+}
+
+/// The pattern of these parts.
+pub fn make<'a>(
+    ctor: Ctor<'a>,
+    ty: TyId,
+    uid: u64,
+    at: u64,
+    subs: &'a [DePat<'a, TyId>],
+    binds: &'a [Bound<'a>],
+) -> DePat<'a, TyId>
+    ensures { tree result
+        ≡ de_pat (plain_ctor ctor.entry) ty uid at (de_pats_of (map tree subs.now)) (map plain_bound binds.now) }
+{
+    DePat {
+        ctor,
+        ty,
+        uid,
+        at,
+        subs,
+        binds,
+    }
+}
+
+/// A pattern with nothing below.
+pub fn leaf<'a>(
+    next: &mut u64,
+    ctor: Ctor<'a>,
+    ty: TyId,
+    at: u64,
+) -> Result<DePat<'a, TyId>, NoMemory>
+    ensures tree { IfOk result (λ p. tree p ≡ de_pat (plain_ctor ctor.entry) ty next.old at no_de_pats []) }
+    ensures next { IfOk result (λ p. next.new ≡ next.old + 1) }
+    ensures made { (any : AnyTable) → IsOf any ty
+        → IfOk result (λ p. IsMade (IsOf any) next.old next.new (tree p)) }
+{
+    let uid = fresh(next)?;
+    let made = make(ctor, ty, uid, at, &[], &[]);
+    Ok(made)
+}
+
+/// A pattern over others, one for each part.
+pub fn over<'a>(
+    placer: &Placer<'a>,
+    next: &mut u64,
+    ctor: Ctor<'a>,
+    ty: TyId,
+    at: u64,
+    subs: &[DePat<'a, TyId>],
+) -> Result<DePat<'a, TyId>, NoMemory>
+    ensures tree { IfOk result (λ p. tree p
+        ≡ de_pat (plain_ctor ctor.entry) ty next.old at (de_pats_of (map tree subs.now)) []) }
+    ensures next { IfOk result (λ p. next.new ≡ next.old + 1) }
+    ensures made { (any : AnyTable) (from : ℕ) → IsOf any ty
+        → AreMade (IsOf any) from next.old (map tree subs.now)
+        → IfOk result (λ p. IsMade (IsOf any) from next.new (tree p)) }
+{
+    let uid = fresh(next)?;
+    let subs = placer.place_subs(subs)?;
+    let made = make(ctor, ty, uid, at, subs, &[]);
+    Ok(made)
+}
+
+/// The pattern with one more name, before those that it has.
+pub fn with_name<'a>(
+    alloc: Global,
+    placer: &Placer<'a>,
+    bound: Bound<'a>,
+    pattern: DePat<'a, TyId>,
+) -> Result<DePat<'a, TyId>, NoMemory>
+    ensures tree { IfOk result (λ p. tree p ≡ bound_on (plain_bound bound.entry) (tree pattern.entry)) }
+    ensures made { (any : AnyTable) (from to : ℕ) → IsMade (IsOf any) from to (tree pattern.entry)
+        → IfOk result (λ p. IsMade (IsOf any) from to (tree p)) }
+{
+    let mut all = Vec::new(alloc);
+    all.push(bound)?;
+    all.extend_from_slice(pattern.binds)?;
+    let binds = placer.place_binds(&all)?;
+    let made = make(
+        pattern.ctor,
+        pattern.ty,
+        pattern.uid,
+        pattern.at,
+        pattern.subs,
+        binds,
+    );
+    Ok(made)
+}
+
+/// Whether the constructor is a range of more than one number.
+pub fn is_wide(ctor: &Ctor<'_>) -> bool
+    ensures { result ≡ is_wide_ctor (plain_ctor ctor.now) }
+{
+    match ctor {
+        Ctor::Numbers(range) => !range.is_single(),
+        _ => false,
+    }
+}
+
+/// The pattern as an alternative, or as an arm's, at the offset; a range that stands elsewhere keeps its own below.
+pub fn standing<'a>(
+    placer: &Placer<'a>,
+    next: &mut u64,
+    at: u64,
+    pattern: DePat<'a, TyId>,
+) -> Result<DePat<'a, TyId>, NoMemory>
+    ensures tree { IfOk result (λ p. tree p ≡ standing_tree next.old at (tree pattern.entry)) }
+    ensures next { IfOk result (λ p. next.old ≤ next.new) }
+    ensures made { (any : AnyTable) (from : ℕ) → IsMade (IsOf any) from next.old (tree pattern.entry)
+        → IfOk result (λ p. IsMade (IsOf any) from next.new (tree p)) }
+{
+    if is_wide(&pattern.ctor) && at != pattern.at {
+        return over(placer, next, Ctor::Or, pattern.ty, at, &[pattern]);
+    }
+    let made = make(
+        pattern.ctor,
+        pattern.ty,
+        pattern.uid,
+        at,
+        pattern.subs,
+        pattern.binds,
+    );
+    Ok(made)
+}
