@@ -1,8 +1,10 @@
 -- Entry after entry of a report.
-use Rattle.std.proofs.Common.{◌≡◌, ◌∙◌, ℕ, suc, ◌+◌, ◌<◌, ◌≤◌, Bool, true, false, ◌&&◌, List, [], ◌∷◌, ◌++◌, map, take, length, sum_by, get_or, refl, sym, ap, subst, append_assoc, append-nil, arith}
-use Rattle.std.specs.List.{AllZip, list_all}
+use Rattle.std.proofs.Common.{◌≡◌, ◌∙◌, ℕ, zero, suc, ◌+◌, ◌<◌, ◌≤◌, Bool, true, false, ◌&&◌, List, [], ◌∷◌, ◌++◌, map, take, length, sum_by, get_or, refl, sym, ap, subst, append_assoc, append-nil, arith}
+use Rattle.std.specs.List.{AllZip, list_all, Contains}
+use Rattle.std.specs.Prelude.{slice_get, Some}
 use Rattle.std.proofs.Math.ListN.{get_or-map}
 use Rattle.std.proofs.lemmas.List.{length-map, length-take-le, take_more, map-append}
+use Rattle.std.proofs.lemmas.Option.{slice_get_within, get_or_from_slice_get}
 use Rattle.std.proofs.lemmas.List.Sums.{get_or-le-sum_by}
 use Rattle.decl_syntax.specs.declared.items.Item.{Item}
 use Rattle.decl_syntax.specs.Items.{ItemTree, item_view, kind_view}
@@ -86,6 +88,16 @@ functions_more items i x lt is =
 pub reports_more : (all : List ItemTree) (items : List Item) (i : ℕ) (x : Item) (p : Progress) → i < length items → x ≡ get_or items i x
     → ReportsOn all (functions_of (map item_view (take i items)) ++ function_at i (kind_view x.kind)) p → ReportsOn all (functions_of (map item_view (take (i + 1) items))) p
 reports_more all items i x p lt is h = subst (λ fs. ReportsOn all fs p) (sym (functions_more items i x lt is)) h
+
+-- the item of a file at this number
+pub there_at : (items : List Item) (i : ℕ) (x : Item) → i < length items → x ≡ get_or items i x → slice_get (map item_view items) i ≡ Some (item_view x)
+there_at [] i x lt is = absurd (omega (arith, lt))
+there_at (y ∷ ys) zero x lt is = ap (λ (z : Item). Some (item_view z)) (sym is)
+there_at (y ∷ ys) (suc i) x lt is = there_at ys i x (omega arith) is
+
+-- what stands at a number is among the items
+pub contains_at : (items : List ItemTree) (i : ℕ) (item : ItemTree) → slice_get items i ≡ Some item → Contains items item
+contains_at items i item there = (i, slice_get_within items i item there, get_or_from_slice_get items i item item there)
 
 -- an item has at most as many arms as all items together
 pub few_here : (items : List Item) (i : ℕ) (x : Item) (most : ℕ) → i < length items → x ≡ get_or items i x

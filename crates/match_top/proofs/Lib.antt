@@ -3,5 +3,7 @@ pub mod Entries
 pub mod Fronts
 pub mod Going
 pub mod Judged
+pub mod Matches
 pub mod OneAnswer
+pub mod RuleNames
 pub mod SomeReport

@@ -1,5 +1,5 @@
 -- A file has one answer at most.
-use Rattle.std.proofs.Common.{◌≡◌, ◌∙◌, ◌<◌, ℕ, List, [], ◌∷◌, Bool, true, false, Some, MatchBool, inl, inr, refl, sym, ap, subst, arith, length, nat_lt}
+use Rattle.std.proofs.Common.{◌≡◌, ◌∙◌, ◌<◌, ℕ, List, [], ◌∷◌, Bool, true, false, Option, Some, None, MatchBool, inl, inr, refl, sym, ap, subst, arith, length, nat_lt}
 use Rattle.std.proofs.lemmas.Bool.Decides.{nat_tests}
 use Rattle.std.specs.List.{AllZip, list_all}
 use Rattle.decl_lexer.specs.Lexing.{Placed}
@@ -10,12 +10,16 @@ use Rattle.decl_parser.specs.FileGrammar.{OneFile, FileOrFault}
 use Rattle.decl_parser.specs.FileGrammar as parser
 use Rattle.match_model.specs.declared.Width.TheVariants.{Endless}
 use Rattle.type_table.specs.Faults.{IsFirstFault}
-use Rattle.plain_match.proofs.Excluded.{unknown_excludes_report, not_built_excludes_both}
-use Rattle.plain_match.proofs.OneReport.{unknown_is_one, report_is_one}
+use Rattle.match_model.specs.Unreachable.{Entry}
+use Rattle.match_model.specs.Witness.{MWitness}
+use Rattle.pattern_laws.specs.JudgedLaws.{VerdictIsOne}
+use Rattle.pattern_rules.specs.FirstFault.{PatternFault, AnswerIsOne}
+use Rattle.pattern_rules.specs.Settings.{Setting}
 use Rattle.verdict_json.specs.Report.{ReportEntry, JudgedFunction, RefusedFunction, report_text}
 use Rattle.match_top.specs.declared.statuses.Status.{Status}
 use Rattle.match_top.specs.Answers.{Answers, IsJudged, IsAnswerToTokens, IsAnswerToItems, IsRefusedIn, IsRefusedAt, IsRefusedBy, longest_source}
-use Rattle.match_top.specs.Reports.{NumberedFunction, unknown_name, IsEntry, is_not_built, is_unknown, is_judged, is_clean, IsReported, status_of}
+use Rattle.match_top.specs.Reports.{NumberedFunction, setting_of, refusal_of, report_of, IsJudgedFunction, IsRefusedFunction}
+use Rattle.match_top.specs.Reports.{IsEntry, is_refused, is_judged, is_clean, IsReported, status_of}
 use Rattle.match_top.specs.Laws.{OneAnswer, OneFirstFault, OneEntry}
 
 -- the same text and the same status
@@ -43,6 +47,9 @@ one_number a b above below = by (nat_lt a b) (nat_lt b a) refl refl
 some_is : {A : Type 0} (x y : A) → Some x ≡ Some y → x ≡ y
 some_is x y e = cc
 
+some_is_none : {A : Type 0} (x : A) → Some x ≡ None → ⊥
+some_is_none x e = cc
+
 -- two first faults of one item are one
 fault_at : (items : List ItemTree) (i rule at other elsewhere : ℕ) → IsFirstFault items Endless rule i at → IsFirstFault items Endless other i elsewhere
     → (rule ≡ other) × (at ≡ elsewhere)
@@ -60,87 +67,107 @@ one_first_fault items rule i at other j elsewhere f g =
 
 -- ---- the entries
 
-pub one_entry : OneEntry
-one_entry items f e d (is_not_built n is) (is_not_built m of) = is ∙ sym of
-one_entry items f e d (is_not_built n is) (is_unknown arm at u of) = absurd ((not_built_excludes_both items f.function n).0 arm at u)
-one_entry items f e d (is_not_built n is) (is_judged r h of) = absurd ((not_built_excludes_both items f.function n).1 Endless r h)
-one_entry items f e d (is_unknown arm at u is) (is_not_built n of) = absurd ((not_built_excludes_both items f.function n).0 arm at u)
-one_entry items f e d (is_unknown arm at u is) (is_unknown other elsewhere v of) =
-    let same = unknown_is_one items f.function arm at other elsewhere u v in
-    is ∙ ap (λ (k : ℕ). RefusedFunction f.function.name (unknown_name f.number k at)) same.0
-    ∙ ap (λ (k : ℕ). RefusedFunction f.function.name (unknown_name f.number other k)) same.1 ∙ sym of
-one_entry items f e d (is_unknown arm at u is) (is_judged r h of) = absurd (unknown_excludes_report items f.function arm at Endless r u h)
-one_entry items f e d (is_judged r h is) (is_not_built n of) = absurd ((not_built_excludes_both items f.function n).1 Endless r h)
-one_entry items f e d (is_judged r h is) (is_unknown arm at u of) = absurd (unknown_excludes_report items f.function arm at Endless r u h)
-one_entry items f e d (is_judged r h is) (is_judged q k of) = is ∙ ap JudgedFunction (report_is_one items f.function Endless r q h k) ∙ sym of
+-- the setting and the words of an entry
+abbrev refused : NumberedFunction → PatternFault → ReportEntry
+refused f x = RefusedFunction f.function.name (refusal_of f.number x.rule x.arm x.at)
 
-same_entries : (items : List ItemTree) (fs : List NumberedFunction) (es ds : List ReportEntry) → AllZip (IsEntry items) fs es → AllZip (IsEntry items) fs ds
-    → es ≡ ds
-same_entries items [] [] [] a b = refl
-same_entries items [] [] (d ∷ ds) a b = absurd b
-same_entries items [] (e ∷ es) ds a b = absurd a
-same_entries items (f ∷ fs) [] ds a b = absurd a
-same_entries items (f ∷ fs) (e ∷ es) [] a b = absurd b
-same_entries items (f ∷ fs) (e ∷ es) (d ∷ ds) a b =
-    ap (λ (x : ReportEntry). x ∷ es) (one_entry items f e d a.0 b.0) ∙ ap (λ (xs : List ReportEntry). d ∷ xs) (same_entries items fs es ds a.1 b.1)
+-- what the laws of rules and of verdicts tell of entries
+module _ (answer_is_one : AnswerIsOne) (one_verdict : VerdictIsOne) where
+  both_refused : (s : Setting) (f : NumberedFunction) (e d : ReportEntry) → IsRefusedFunction s f.number f.function e → IsRefusedFunction s f.number f.function d
+      → e ≡ d
+  both_refused s f e d a b =
+      let one : PatternFault = record { rule = a.rule; arm = a.arm; at = a.at } in
+      let other : PatternFault = record { rule = b.rule; arm = b.arm; at = b.at } in
+      let same : one ≡ other = some_is one other (answer_is_one s f.function (Some one) (Some other) a.fault b.fault) in
+      a.tells ∙ ap (refused f) same ∙ sym b.tells
 
--- ---- the answer
+  not_both : (s : Setting) (f : NumberedFunction) (e d : ReportEntry) → IsRefusedFunction s f.number f.function e → IsJudgedFunction s f.function d → ⊥
+  not_both s f e d a b =
+      let one : PatternFault = record { rule = a.rule; arm = a.arm; at = a.at } in
+      some_is_none one (answer_is_one s f.function (Some one) None a.fault b.fine)
 
-reported_same : (items : List ItemTree) (t u : List ℕ) (s r : Status) → IsReported items t s → IsReported items u r → Same t u s r
-reported_same items t u s r a b =
-    let same : a.entries ≡ b.entries = same_entries items _ a.entries b.entries a.each b.each in
-    (a.text_is ∙ ap report_text same ∙ sym b.text_is, a.status_is ∙ ap (λ (es : List ReportEntry). status_of (list_all is_clean es)) same ∙ sym b.status_is)
+  both_judged : (s : Setting) (f : NumberedFunction) (e d : ReportEntry) → IsJudgedFunction s f.function e → IsJudgedFunction s f.function d → e ≡ d
+  both_judged s f e d a b =
+      let v = one_verdict s f.function a.exhaustive b.exhaustive a.unreachable b.unreachable a.witnesses b.witnesses a.verdict b.verdict in
+      a.shows
+      ∙ ap (λ (x : Bool). JudgedFunction (report_of s f.function x a.unreachable a.witnesses)) v.0
+      ∙ ap (λ (us : List Entry). JudgedFunction (report_of s f.function b.exhaustive us a.witnesses)) v.1
+      ∙ ap (λ (ws : List MWitness). JudgedFunction (report_of s f.function b.exhaustive b.unreachable ws)) v.2
+      ∙ sym b.shows
 
-items_same : (items : List ItemTree) (t u : List ℕ) (s r : Status) → IsAnswerToItems items t s → IsAnswerToItems items u r → Same t u s r
-unfolding IsAnswerToItems
-items_same items t u s r (inl a) (inl b) =
-    let same = one_first_fault items a.rule a.number a.place b.rule b.number b.place a.fault b.fault in
-    let there : IsRefusedIn a.rule (Some b.number) (Some b.place) u r =
-    subst (λ (k : ℕ). IsRefusedIn k (Some b.number) (Some b.place) u r) (sym same.0) b.refused in
-    refused_same a.rule a.number a.place b.number b.place t u s r same.1 same.2 a.refused there
-items_same items t u s r (inl a) (inr b) = absurd (b.unbroken a.number a.rule a.fault.broken)
-items_same items t u s r (inr a) (inl b) = absurd (a.unbroken b.number b.rule b.fault.broken)
-items_same items t u s r (inr a) (inr b) = reported_same items t u s r a b
+  pub one_entry_of : OneEntry
+  one_entry_of items f e d (is_refused a) (is_refused b) = both_refused (setting_of items) f e d a b
+  one_entry_of items f e d (is_refused a) (is_judged b) = absurd (not_both (setting_of items) f e d a b)
+  one_entry_of items f e d (is_judged a) (is_refused b) = absurd (not_both (setting_of items) f d e b a)
+  one_entry_of items f e d (is_judged a) (is_judged b) = both_judged (setting_of items) f e d a b
 
--- what the laws of the grammar tell of answers to tokens
-module _ (one_file : OneFile) (one_fault : parser.OneFault) (file_or_fault : FileOrFault) where
-  tokens_same : (tokens : List Placed) (t u : List ℕ) (s r : Status) → IsAnswerToTokens tokens t s → IsAnswerToTokens tokens u r → Same t u s r
-  unfolding IsAnswerToTokens
-  tokens_same tokens t u s r (inl a) (inl b) =
-      let same = (one_fault (units tokens) a.number a.place b.number b.place).0 a.fault b.fault in
-      refused_same 6 a.number a.place b.number b.place t u s r same.0 same.1 a.refused b.refused
-  tokens_same tokens t u s r (inl a) (inr (inl b)) = absurd ((one_fault (units tokens) a.number a.place b.number b.place).2 a.fault b.fault)
-  tokens_same tokens t u s r (inl a) (inr (inr b)) = absurd ((file_or_fault (units tokens) b.items b.spelled a.number a.place).0 a.fault)
-  tokens_same tokens t u s r (inr (inl a)) (inl b) = absurd ((one_fault (units tokens) b.number b.place a.number a.place).2 b.fault a.fault)
-  tokens_same tokens t u s r (inr (inl a)) (inr (inl b)) =
-      let same = (one_fault (units tokens) a.number a.place b.number b.place).1 a.fault b.fault in
-      refused_same 9 a.number a.place b.number b.place t u s r same.0 same.1 a.refused b.refused
-  tokens_same tokens t u s r (inr (inl a)) (inr (inr b)) = absurd ((file_or_fault (units tokens) b.items b.spelled a.number a.place).1 a.fault)
-  tokens_same tokens t u s r (inr (inr a)) (inl b) = absurd ((file_or_fault (units tokens) a.items a.spelled b.number b.place).0 b.fault)
-  tokens_same tokens t u s r (inr (inr a)) (inr (inl b)) = absurd ((file_or_fault (units tokens) a.items a.spelled b.number b.place).1 b.fault)
-  tokens_same tokens t u s r (inr (inr a)) (inr (inr b)) =
-      let same : b.items ≡ a.items = one_file (units tokens) b.items a.items b.spelled a.spelled in
-      items_same a.items t u s r a.answered (subst (λ (items : List ItemTree). IsAnswerToItems items u r) same b.answered)
+  same_entries : (items : List ItemTree) (fs : List NumberedFunction) (es ds : List ReportEntry) → AllZip (IsEntry items) fs es → AllZip (IsEntry items) fs ds
+      → es ≡ ds
+  same_entries items [] [] [] a b = refl
+  same_entries items [] [] (d ∷ ds) a b = absurd b
+  same_entries items [] (e ∷ es) ds a b = absurd a
+  same_entries items (f ∷ fs) [] ds a b = absurd a
+  same_entries items (f ∷ fs) (e ∷ es) [] a b = absurd b
+  same_entries items (f ∷ fs) (e ∷ es) (d ∷ ds) a b =
+      ap (λ (x : ReportEntry). x ∷ es) (one_entry_of items f e d a.0 b.0) ∙ ap (λ (xs : List ReportEntry). d ∷ xs) (same_entries items fs es ds a.1 b.1)
 
-  -- and those of tokens of answers to a source
-  module _ (one_tokens : OneTokenList) (one_lexing_fault : OneFault) (never_both : NeverBoth) where
-    judged_same : (source t u : List ℕ) (s r : Status) → IsJudged source t s → IsJudged source u r → Same t u s r
-    unfolding IsJudged
-    judged_same source t u s r (inl a) (inl b) =
-        let same = one_lexing_fault source a.rule a.place b.rule b.place a.fault b.fault in
-        let there : IsRefusedAt a.rule (Some a.place) u r =
-        subst (λ (k : ℕ). IsRefusedAt a.rule (Some k) u r) (sym same.1) (subst (λ (k : ℕ). IsRefusedAt k (Some b.place) u r) (sym same.0) b.refused) in
-        (a.refused.0 ∙ sym there.0, a.refused.1 ∙ sym there.1)
-    judged_same source t u s r (inl a) (inr b) = absurd (never_both source b.tokens a.rule a.place b.lexed a.fault)
-    judged_same source t u s r (inr a) (inl b) = absurd (never_both source a.tokens b.rule b.place a.lexed b.fault)
-    judged_same source t u s r (inr a) (inr b) =
-        let same : b.tokens ≡ a.tokens = one_tokens source b.tokens a.tokens b.lexed a.lexed in
-        tokens_same a.tokens t u s r a.answered (subst (λ (tokens : List Placed). IsAnswerToTokens tokens u r) same b.answered)
+  -- ---- the answer
 
-    pub one_answer_of : OneAnswer
-    unfolding Answers
-    one_answer_of bytes t u s r a b = by (nat_lt longest_source (length bytes)) a b
-      where
-        by : (long : Bool) → MatchBool long (IsRefusedBy 7 t s) (IsJudged bytes t s) → MatchBool long (IsRefusedBy 7 u r) (IsJudged bytes u r) → Same t u s r
-        by true x y = (x.0 ∙ sym y.0, x.1 ∙ sym y.1)
-        by false x y = judged_same bytes t u s r x y
+  reported_same : (items : List ItemTree) (t u : List ℕ) (s r : Status) → IsReported items t s → IsReported items u r → Same t u s r
+  reported_same items t u s r a b =
+      let same : a.entries ≡ b.entries = same_entries items _ a.entries b.entries a.each b.each in
+      (a.text_is ∙ ap report_text same ∙ sym b.text_is, a.status_is ∙ ap (λ (es : List ReportEntry). status_of (list_all is_clean es)) same ∙ sym b.status_is)
+
+  items_same : (items : List ItemTree) (t u : List ℕ) (s r : Status) → IsAnswerToItems items t s → IsAnswerToItems items u r → Same t u s r
+  unfolding IsAnswerToItems
+  items_same items t u s r (inl a) (inl b) =
+      let same = one_first_fault items a.rule a.number a.place b.rule b.number b.place a.fault b.fault in
+      let there : IsRefusedIn a.rule (Some b.number) (Some b.place) u r =
+      subst (λ (k : ℕ). IsRefusedIn k (Some b.number) (Some b.place) u r) (sym same.0) b.refused in
+      refused_same a.rule a.number a.place b.number b.place t u s r same.1 same.2 a.refused there
+  items_same items t u s r (inl a) (inr b) = absurd (b.unbroken a.number a.rule a.fault.broken)
+  items_same items t u s r (inr a) (inl b) = absurd (a.unbroken b.number b.rule b.fault.broken)
+  items_same items t u s r (inr a) (inr b) = reported_same items t u s r a b
+
+  -- what the laws of the grammar tell of answers to tokens
+  module _ (one_file : OneFile) (one_fault : parser.OneFault) (file_or_fault : FileOrFault) where
+    tokens_same : (tokens : List Placed) (t u : List ℕ) (s r : Status) → IsAnswerToTokens tokens t s → IsAnswerToTokens tokens u r → Same t u s r
+    unfolding IsAnswerToTokens
+    tokens_same tokens t u s r (inl a) (inl b) =
+        let same = (one_fault (units tokens) a.number a.place b.number b.place).0 a.fault b.fault in
+        refused_same 6 a.number a.place b.number b.place t u s r same.0 same.1 a.refused b.refused
+    tokens_same tokens t u s r (inl a) (inr (inl b)) = absurd ((one_fault (units tokens) a.number a.place b.number b.place).2 a.fault b.fault)
+    tokens_same tokens t u s r (inl a) (inr (inr b)) = absurd ((file_or_fault (units tokens) b.items b.spelled a.number a.place).0 a.fault)
+    tokens_same tokens t u s r (inr (inl a)) (inl b) = absurd ((one_fault (units tokens) b.number b.place a.number a.place).2 b.fault a.fault)
+    tokens_same tokens t u s r (inr (inl a)) (inr (inl b)) =
+        let same = (one_fault (units tokens) a.number a.place b.number b.place).1 a.fault b.fault in
+        refused_same 9 a.number a.place b.number b.place t u s r same.0 same.1 a.refused b.refused
+    tokens_same tokens t u s r (inr (inl a)) (inr (inr b)) = absurd ((file_or_fault (units tokens) b.items b.spelled a.number a.place).1 a.fault)
+    tokens_same tokens t u s r (inr (inr a)) (inl b) = absurd ((file_or_fault (units tokens) a.items a.spelled b.number b.place).0 b.fault)
+    tokens_same tokens t u s r (inr (inr a)) (inr (inl b)) = absurd ((file_or_fault (units tokens) a.items a.spelled b.number b.place).1 b.fault)
+    tokens_same tokens t u s r (inr (inr a)) (inr (inr b)) =
+        let same : b.items ≡ a.items = one_file (units tokens) b.items a.items b.spelled a.spelled in
+        items_same a.items t u s r a.answered (subst (λ (items : List ItemTree). IsAnswerToItems items u r) same b.answered)
+
+    -- and those of tokens of answers to a source
+    module _ (one_tokens : OneTokenList) (one_lexing_fault : OneFault) (never_both : NeverBoth) where
+      judged_same : (source t u : List ℕ) (s r : Status) → IsJudged source t s → IsJudged source u r → Same t u s r
+      unfolding IsJudged
+      judged_same source t u s r (inl a) (inl b) =
+          let same = one_lexing_fault source a.rule a.place b.rule b.place a.fault b.fault in
+          let there : IsRefusedAt a.rule (Some a.place) u r =
+          subst (λ (k : ℕ). IsRefusedAt a.rule (Some k) u r) (sym same.1) (subst (λ (k : ℕ). IsRefusedAt k (Some b.place) u r) (sym same.0) b.refused) in
+          (a.refused.0 ∙ sym there.0, a.refused.1 ∙ sym there.1)
+      judged_same source t u s r (inl a) (inr b) = absurd (never_both source b.tokens a.rule a.place b.lexed a.fault)
+      judged_same source t u s r (inr a) (inl b) = absurd (never_both source a.tokens b.rule b.place a.lexed b.fault)
+      judged_same source t u s r (inr a) (inr b) =
+          let same : b.tokens ≡ a.tokens = one_tokens source b.tokens a.tokens b.lexed a.lexed in
+          tokens_same a.tokens t u s r a.answered (subst (λ (tokens : List Placed). IsAnswerToTokens tokens u r) same b.answered)
+
+      pub one_answer_of : OneAnswer
+      unfolding Answers
+      one_answer_of bytes t u s r a b = by (nat_lt longest_source (length bytes)) a b
+        where
+          by : (long : Bool) → MatchBool long (IsRefusedBy 7 t s) (IsJudged bytes t s) → MatchBool long (IsRefusedBy 7 u r) (IsJudged bytes u r) → Same t u s r
+          by true x y = (x.0 ∙ sym y.0, x.1 ∙ sym y.1)
+          by false x y = judged_same bytes t u s r x y

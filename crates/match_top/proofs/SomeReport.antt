@@ -1,37 +1,100 @@
 -- No function of a file is left out of its report.
-use Rattle.std.proofs.Common.{◌≡◌, ◌∙◌, ◌⊎◌, ℕ, zero, suc, ◌+◌, List, [], ◌∷◌, ◌++◌, Some, inl, inr, refl, ap, arith}
-use Rattle.std.specs.List.{AllZip, list_all}
+use Rattle.std.proofs.Common.{◌≡◌, ◌∙◌, ◌⊎◌, ℕ, zero, suc, ◌+◌, List, [], ◌∷◌, ◌++◌, Option, Some, None, inl, inr, refl, sym, ap, arith}
+use Rattle.std.specs.List.{AllZip, list_all, Contains}
 use Rattle.std.specs.Prelude.{slice_get}
+use Rattle.decl_lexer.specs.Lexing.{Placed, HasTokens}
+use Rattle.decl_parser.specs.FileGrammar.{IsFile}
 use Rattle.decl_syntax.specs.Functions.{FunctionTree}
-use Rattle.decl_syntax.specs.Items.{ItemTree, KindTree, Enum, Struct, Import, Function}
-use Rattle.match_model.specs.declared.Width.{Width}
-use Rattle.match_model.specs.declared.Width.TheVariants.{Endless}
-use Rattle.plain_match.specs.Answers.{IsNotBuilt, IsUnknownName}
-use Rattle.plain_match.specs.Reports.{IsReportOn}
-use Rattle.plain_match.proofs.SomeAnswer.{some_answer_of}
+use Rattle.decl_syntax.specs.Items.{ArmTree, ItemTree, KindTree, Enum, Struct, Import, Function}
+use Rattle.decl_syntax.specs.Units.{units}
+use Rattle.pattern_laws.specs.JudgedLaws.{SomeVerdict}
+use Rattle.pattern_laws.specs.ParsedLaws.{ParsedFunctionsAreSpelled}
+use Rattle.pattern_laws.specs.TableLaws.{IsSoundFile}
+use Rattle.pattern_rules.specs.Faults.{function_of}
+use Rattle.pattern_rules.specs.FirstFault.{PatternFault, first_fault, IsAnswer, WalkTells}
+use Rattle.pattern_rules.specs.ShownMatches.{IsSoundArm}
 use Rattle.verdict_json.specs.Report.{ReportEntry, JudgedFunction, RefusedFunction, report_text}
-use Rattle.verdict_json.specs.Trees.{ReportTree}
-use Rattle.match_top.specs.Reports.{NumberedFunction, numbered, function_at, functions_from, functions_of, not_built}
-use Rattle.match_top.specs.Reports.{unknown_name, IsEntry, is_not_built, is_unknown, is_judged, is_clean, status_of}
+use Rattle.match_top.specs.Reports.{NumberedFunction, numbered, function_at, functions_from, functions_of}
+use Rattle.match_top.specs.Reports.{setting_of, refusal_of, report_of, IsEntry, is_refused, is_judged, is_clean, status_of}
+use Rattle.match_top.specs.Reporting.{StandsAt}
+use Rattle.match_top.proofs.Entries.{contains_at}
 use Rattle.match_top.specs.Laws.{SomeEntry, EachFunctionStands, SomeReport}
 
-pub some_entry : SomeEntry
-some_entry items f = by (some_answer_of items f.function)
+-- a function among those of an item and those behind it is the item's, or stands behind
+front_or_behind : (n : ℕ) (kind : KindTree) (fs : List NumberedFunction) (k : ℕ) (f : NumberedFunction) → slice_get (function_at n kind ++ fs) k ≡ Some f
+    → ((f.number ≡ n) × (function_of kind ≡ Some f.function)) ⊎ ((j : ℕ) × (slice_get fs j ≡ Some f))
+front_or_behind n (Enum name variants) fs k f there = inr (k, there)
+front_or_behind n (Struct name form) fs k f there = inr (k, there)
+front_or_behind n (Import owner names) fs k f there = inr (k, there)
+front_or_behind n (Function name param deref arms) fs zero f there =
+    let g : NumberedFunction = numbered n (record { name = name; param = param; deref = deref; arms = arms }) in
+    let there_is : Some g ≡ Some f = there in
+    let same : g ≡ f = cc in
+    inl (sym (ap (λ (x : NumberedFunction). x.number) same), ap (λ (x : NumberedFunction). Some x.function) same)
+front_or_behind n (Function name param deref arms) fs (suc k) f there = inr (k, there)
+
+-- a function is some item
+stands_behind : (n : ℕ) (items : List ItemTree) (k : ℕ) (f : NumberedFunction) → slice_get (functions_from n items) k ≡ Some f
+    → (i : ℕ) × (f.number ≡ n + i) × StandsAt items i f.function
+stands_behind n [] k f there = absurd cc
+stands_behind n (x ∷ items) k f there = by (λ j later. stands_behind (n + 1) items j f later) (front_or_behind n x.kind (functions_from (n + 1) items) k f there)
   where
-    by : IsNotBuilt items f.function ⊎ (((arm : ℕ) × (at : ℕ) × IsUnknownName items f.function arm at) ⊎ ((r : ReportTree) × ((width : Width) → IsReportOn items width f.function r)))
-        → (e : ReportEntry) × IsEntry items f e
-    by (inl n) = (RefusedFunction f.function.name (not_built f.number), is_not_built n refl)
-    by (inr (inl u)) = (RefusedFunction f.function.name (unknown_name f.number u.0 u.1), is_unknown u.0 u.1 u.2 refl)
-    by (inr (inr h)) = (JudgedFunction h.0, is_judged h.0 (h.1 Endless) refl)
+    by : ((j : ℕ) → slice_get (functions_from (n + 1) items) j ≡ Some f → (i : ℕ) × (f.number ≡ (n + 1) + i) × StandsAt items i f.function)
+        → ((f.number ≡ n) × (function_of x.kind ≡ Some f.function)) ⊎ ((j : ℕ) × (slice_get (functions_from (n + 1) items) j ≡ Some f))
+        → (i : ℕ) × (f.number ≡ n + i) × StandsAt (x ∷ items) i f.function
+    by behind (inl h) = let number : f.number ≡ n = h.0 in (0, omega arith, record { item = x; there = refl; is = h.1 })
+    by behind (inr h) =
+        let later = behind h.0 h.1 in
+        let number : f.number ≡ (n + 1) + later.0 = later.1 in
+        (suc later.0, omega arith, record { item = later.2.item; there = later.2.there; is = later.2.is })
 
-all_entries : (items : List ItemTree) (fs : List NumberedFunction) → (es : List ReportEntry) × AllZip (IsEntry items) fs es
-all_entries items [] = ([], tt)
-all_entries items (f ∷ fs) = let e = some_entry items f in let es = all_entries items fs in (e.0 ∷ es.0, (e.1, es.1))
+-- what the laws of rules, of spelled functions and of verdicts tell of entries
+module _ (walk_tells : WalkTells) (spelled_functions : ParsedFunctionsAreSpelled) (some_verdict : SomeVerdict) where
+  -- the entry by what the walk tells
+  entry_by : (source : List ℕ) (tokens : List Placed) (items : List ItemTree) (i : ℕ) (f : NumberedFunction) → HasTokens source tokens
+      → IsFile (units tokens) items → IsSoundFile (setting_of items) → StandsAt items i f.function
+      → (answer : Option PatternFault) → IsAnswer (setting_of items) f.function answer → (e : ReportEntry) × IsEntry items f e
+  entry_by source tokens items i f lexed spelled sound at (Some x) fault = (
+    RefusedFunction f.function.name (refusal_of f.number x.rule x.arm x.at),
+    is_refused (record { rule = x.rule; arm = x.arm; at = x.at; fault = fault; tells = refl }),
+  )
+  entry_by source tokens items i f lexed spelled sound at None fine =
+      let among : Contains items at.item = contains_at items i at.item at.there in
+      let parsed = spelled_functions source tokens items at.item f.function lexed spelled among at.is in
+      let type_is = sound.scrutinee at.item f.function among at.is fine in
+      let arms : (a : ArmTree) → Contains f.function.arms a → IsSoundArm (setting_of items) f.function a = λ a here. record {
+        sound = sound.sound;
+        type_is = type_is;
+        fine = fine;
+        among = here;
+        spelled = parsed.spelled a here;
+        ascend = parsed.ascend a here;
+      } in
+      let v = some_verdict (setting_of items) f.function sound.sound type_is arms in (
+        JudgedFunction (report_of (setting_of items) f.function v.0 v.1 v.2),
+        is_judged (record { fine = fine; exhaustive = v.0; unreachable = v.1; witnesses = v.2; verdict = v.3; shows = refl }),
+      )
 
-pub some_report : SomeReport
-some_report items unbroken =
-    let es = all_entries items (functions_of items) in
-    (report_text es.0, status_of (list_all is_clean es.0), record { unbroken = unbroken; entries = es.0; each = es.1; text_is = refl; status_is = refl })
+  pub some_entry_of : SomeEntry
+  some_entry_of source tokens items k f lexed spelled sound there =
+      let at = stands_behind 0 items k f there in
+      entry_by source tokens items at.0 f lexed spelled sound at.2 (first_fault (setting_of items) f.function) (walk_tells (setting_of items) f.function)
+
+  all_entries : (source : List ℕ) (tokens : List Placed) (items : List ItemTree) (fs : List NumberedFunction) → HasTokens source tokens
+      → IsFile (units tokens) items → IsSoundFile (setting_of items)
+      → ((k : ℕ) (f : NumberedFunction) → slice_get fs k ≡ Some f → (j : ℕ) × (slice_get (functions_of items) j ≡ Some f))
+      → (es : List ReportEntry) × AllZip (IsEntry items) fs es
+  all_entries source tokens items [] lexed spelled sound among = ([], tt)
+  all_entries source tokens items (f ∷ fs) lexed spelled sound among =
+      let here = among 0 f refl in
+      let e = some_entry_of source tokens items here.0 f lexed spelled sound here.1 in
+      let es = all_entries source tokens items fs lexed spelled sound (λ k g there. among (suc k) g there) in
+      (e.0 ∷ es.0, (e.1, es.1))
+
+  pub some_report_of : SomeReport
+  some_report_of source tokens items lexed spelled unbroken sound =
+      let es = all_entries source tokens items (functions_of items) lexed spelled sound (λ k f there. (k, there)) in
+      (report_text es.0, status_of (list_all is_clean es.0), record { unbroken = unbroken; entries = es.0; each = es.1; text_is = refl; status_is = refl })
 
 -- the functions of the items behind one stand behind its own
 behind : (n : ℕ) (k : KindTree) (fs : List NumberedFunction) (f : NumberedFunction) (at : ℕ) → slice_get fs at ≡ Some f

@@ -1,13 +1,17 @@
 -- Laws of what is written for a file: there is one answer, and no function is left out.
 use Rattle.std.specs.Prelude.{◌≡◌, ℕ, List, slice_get, Some}
+use Rattle.decl_lexer.specs.Lexing.{Placed, HasTokens}
+use Rattle.decl_parser.specs.FileGrammar.{IsFile}
 use Rattle.decl_syntax.specs.Functions.{FunctionTree}
 use Rattle.decl_syntax.specs.Items.{ItemTree, Function}
+use Rattle.decl_syntax.specs.Units.{units}
 use Rattle.match_model.specs.declared.Width.TheVariants.{Endless}
+use Rattle.pattern_laws.specs.TableLaws.{IsSoundFile}
 use Rattle.type_table.specs.Faults.{BreaksNone, IsFirstFault}
 use Rattle.verdict_json.specs.Report.{ReportEntry}
 use Rattle.match_top.specs.declared.statuses.Status.{Status}
 use Rattle.match_top.specs.Answers.{Answers}
-use Rattle.match_top.specs.Reports.{NumberedFunction, numbered, functions_of, IsEntry, IsReported}
+use Rattle.match_top.specs.Reports.{NumberedFunction, numbered, functions_of, setting_of, IsEntry, IsReported}
 
 -- the bytes of a file have one text and one status at most
 abbrev pub OneAnswer : Type 0
@@ -23,9 +27,12 @@ OneFirstFault =
 abbrev pub OneEntry : Type 0
 OneEntry = (items : List ItemTree) (f : NumberedFunction) (e other : ReportEntry) → IsEntry items f e → IsEntry items f other → e ≡ other
 
--- every function has an entry
+-- each function of a file that the tokens of a source spell, and whose types are sound, has an entry
 abbrev pub SomeEntry : Type 0
-SomeEntry = (items : List ItemTree) (f : NumberedFunction) → (e : ReportEntry) × IsEntry items f e
+SomeEntry =
+    (source : List ℕ) (tokens : List Placed) (items : List ItemTree) (k : ℕ) (f : NumberedFunction)
+    → HasTokens source tokens → IsFile (units tokens) items → IsSoundFile (setting_of items)
+    → slice_get (functions_of items) k ≡ Some f → (e : ReportEntry) × IsEntry items f e
 
 -- each item that is a function stands among the functions of its file, with its number
 abbrev pub EachFunctionStands : Type 0
@@ -33,6 +40,8 @@ EachFunctionStands =
     (items : List ItemTree) (i : ℕ) (item : ItemTree) (f : FunctionTree) → slice_get items i ≡ Some item
     → item.kind ≡ Function f.name f.param f.deref f.arms → (k : ℕ) × (slice_get (functions_of items) k ≡ Some (numbered i f))
 
--- items of which none breaks a rule have a report
+-- a file that the tokens of a source spell, of which no item breaks a rule on declarations and whose types are sound, has a report
 abbrev pub SomeReport : Type 0
-SomeReport = (items : List ItemTree) → BreaksNone items Endless → (text : List ℕ) × (status : Status) × IsReported items text status
+SomeReport =
+    (source : List ℕ) (tokens : List Placed) (items : List ItemTree) → HasTokens source tokens → IsFile (units tokens) items
+    → BreaksNone items Endless → IsSoundFile (setting_of items) → (text : List ℕ) × (status : Status) × IsReported items text status

@@ -1,19 +1,66 @@
--- No meaning: what the private functions of `reporting` give, for their proofs.
-use Rattle.std.specs.Prelude.{◌≡◌, List}
+-- No meaning: what the private functions of `judging` and `reporting` give, for their proofs.
+use Rattle.std.specs.Prelude.{◌≡◌, ℕ, nat_eq, List, map, slice_get, Some}
 use Rattle.std.specs.List.{AllZip, list_all}
-use Rattle.decl_syntax.specs.Items.{ItemTree}
-use Rattle.type_names.specs.Views.{AreNames}
-use Rattle.plain_match.specs.Views.{plain_marks}
+use Rattle.decl_lexer.specs.Lexing.{Placed, HasTokens}
+use Rattle.decl_parser.specs.FileGrammar.{IsFile}
+use Rattle.decl_syntax.specs.Functions.{FunctionTree}
+use Rattle.decl_syntax.specs.Items.{ItemTree, file_view}
+use Rattle.decl_syntax.specs.Units.{units}
+use Rattle.match_model.specs.declared.Width.TheVariants.{Endless}
+use Rattle.match_model.specs.ArenaPatterns.{MDeMatch}
+use Rattle.pattern_laws.specs.JudgedLaws.{by_offset}
+use Rattle.pattern_laws.specs.TableLaws.{IsTableMatch}
+use Rattle.pattern_rules.specs.Faults.{BreaksNone, function_of}
+use Rattle.pattern_rules.specs.Settings.{Setting}
+use Rattle.pattern_rules.specs.Verdicts.{IsVerdictOn}
+use Rattle.type_table.specs.Tables.{IsTableOf}
+use Rattle.type_table.specs.declared.table.TyId.{TyId}
 use Rattle.verdict_json.specs.Report.{ReportEntry}
 use Rattle.verdict_json.specs.Writing.{HasEntries}
-use Rattle.match_top.specs.declared.reporting.Known.{Known}
+use Rattle.witness_search.specs.Entries.{plain_entries}
+use Rattle.witnesses.specs.Views.{plain_witness}
+use Rattle.witnesses.specs.declared.judgement.Judgement.{Judgement}
 use Rattle.match_top.specs.declared.reporting.Progress.{Progress}
-use Rattle.match_top.specs.Reports.{NumberedFunction, IsEntry, is_clean}
+use Rattle.match_top.specs.declared.source.Source.{Source}
+use Rattle.match_top.specs.Reports.{NumberedFunction, IsEntry, is_clean, setting_of}
 
--- the names and the marks are those of the items
-pub record IsKnownOf (items : List ItemTree) (known : Known) : Type 0 where
-  pub names : AreNames items known.names
-  pub marks : known.plain.items ≡ plain_marks items
+-- the items of the file
+abbrev pub items_in : Source → List ItemTree
+items_in x = file_view x.file.now
+
+-- what its patterns are read against
+abbrev pub setting_in : Source → Setting
+setting_in x = setting_of (items_in x)
+
+-- some bytes have tokens that spell the items
+abbrev pub AreSpelled : List ItemTree → Type 0
+AreSpelled items = (bytes : List ℕ) × (tokens : List Placed) × HasTokens bytes tokens × IsFile (units tokens) items
+
+-- tokens spell the file, and the table is that of its items
+pub record IsSound (x : Source) : Type 0 where
+  pub spelled : AreSpelled (items_in x)
+  pub table_is : IsTableOf (items_in x) Endless x.table.now
+
+-- the item with this number is the function
+pub record StandsAt (items : List ItemTree) (number : ℕ) (f : FunctionTree) : Type 0 where
+  pub item : ItemTree
+  pub there : slice_get items number ≡ Some item
+  pub is : function_of item.kind ≡ Some f
+
+-- the function, which breaks no rule, is the item with this number
+pub record IsFineFunction (x : Source) (number : ℕ) (f : FunctionTree) : Type 0 where
+  pub sound : IsSound x
+  pub stands : StandsAt (items_in x) number f
+  pub fine : BreaksNone (setting_in x) f
+
+-- the match is the function's, as the engine has it
+abbrev pub IsMatchOf : Source → FunctionTree → MDeMatch TyId → Type 0
+IsMatchOf x f m = IsTableMatch x.table.now (setting_in x) f m
+
+-- what was found is found of the function
+abbrev pub IsVerdictFor : Source → FunctionTree → Judgement → Type 0
+IsVerdictFor x f j =
+    IsVerdictOn (setting_in x) f j.exhaustive (map by_offset (plain_entries j.unreachable.items)) (map plain_witness j.witnesses.items)
 
 -- the text has the entries of these functions of the items
 pub record ReportsOn (items : List ItemTree) (fs : List NumberedFunction) (p : Progress) : Type 0 where

@@ -1,12 +1,19 @@
 -- The report on the functions of a file of which no item breaks a rule on declarations.
-use Rattle.std.specs.Prelude.{◌≡◌, ℕ, ◌+◌, Bool, true, false, List, [], ◌∷◌, ◌++◌, Some, None}
+use Rattle.std.specs.Prelude.{◌≡◌, ℕ, ◌+◌, Bool, true, false, List, [], ◌∷◌, ◌++◌, map, Option, Some}
 use Rattle.std.specs.List.{AllZip, list_all}
 use Rattle.decl_syntax.specs.Functions.{FunctionTree}
 use Rattle.decl_syntax.specs.Items.{KindTree, Enum, Struct, Import, Function, ItemTree}
 use Rattle.match_model.specs.declared.Width.TheVariants.{Endless}
+use Rattle.match_model.specs.Unreachable.{Entry}
+use Rattle.match_model.specs.Witness.{MWitness}
 use Rattle.type_table.specs.Faults.{BreaksNone}
-use Rattle.plain_match.specs.Reports.{IsReportOn}
-use Rattle.plain_match.specs.Answers.{IsNotBuilt, IsUnknownName}
+use Rattle.pattern_rules.specs.declared.Edition.TheVariants.{E2024}
+use Rattle.pattern_rules.specs.Faults as patterns
+use Rattle.pattern_rules.specs.Faults.{IsFirstPatternFault, scrutinee_type}
+use Rattle.pattern_rules.specs.Settings.{Setting, program}
+use Rattle.pattern_rules.specs.Verdicts.{IsVerdictOn}
+use Rattle.witness_names.specs.Named.{named_witness}
+use Rattle.verdict_json.specs.declared.entry.Unreachable.{Unreachable}
 use Rattle.verdict_json.specs.declared.refusal.Refusal.{Refusal}
 use Rattle.verdict_json.specs.Report.{ReportEntry, JudgedFunction, RefusedFunction, report_text}
 use Rattle.verdict_json.specs.Trees.{ReportTree}
@@ -38,20 +45,49 @@ functions_from number (i ∷ items) = function_at number i.kind ++ functions_fro
 abbrev pub functions_of : List ItemTree → List NumberedFunction
 functions_of items = functions_from 0 items
 
--- the refusal of a function that is not built, by rule 90: it has no arm and no place
-abbrev pub not_built : ℕ → Refusal
-not_built number = record { rule = 90; item = Some number; arm = None; at = None }
+-- what the patterns of a file are read against: its items, `usize` and `isize` of no known width, and edition 2024
+abbrev pub setting_of : List ItemTree → Setting
+setting_of items = record { items = items; width = Endless; edition = E2024 }
 
--- the refusal for an unknown name, by rule 20, with the arm and the place of its pattern
-abbrev pub unknown_name : ℕ → (arm at : ℕ) → Refusal
-unknown_name number arm at = record { rule = 20; item = Some number; arm = Some arm; at = Some at }
+-- the refusal of a function by its first broken rule, with the arm where it is in one, and the place
+abbrev pub refusal_of : (number rule : ℕ) → (arm : Option ℕ) → (at : ℕ) → Refusal
+refusal_of number rule arm at = record { rule = rule; item = Some number; arm = arm; at = Some at }
 
--- the entry of a function in the report on a file of these items: its refusal by rule 90 or rule 20, or what is reported
+-- an unreachable arm or alternative as a report shows it: its arm, its place, and whether it is the whole arm
+abbrev pub shown_entry : Entry → Unreachable
+shown_entry e = record { arm = e.arm; at = e.at; whole = e.whole }
+
+-- what is reported of a function by what is found of it: the witnesses are told with the names of the file's types
+abbrev pub report_of : Setting → FunctionTree → (exhaustive : Bool) → (unreachable : List Entry) → (witnesses : List MWitness) → ReportTree
+report_of s f exhaustive unreachable witnesses = record {
+  name = f.name;
+  exhaustive = exhaustive;
+  unreachable = map shown_entry unreachable;
+  witnesses = map (named_witness (program s) (scrutinee_type s f)) witnesses;
+}
+
+-- a function that breaks no rule, what is found of it, and the entry that shows this
+pub record IsJudgedFunction (s : Setting) (f : FunctionTree) (e : ReportEntry) : Type 0 where
+  pub fine : patterns.BreaksNone s f
+  pub exhaustive : Bool
+  pub unreachable : List Entry
+  pub witnesses : List MWitness
+  pub verdict : IsVerdictOn s f exhaustive unreachable witnesses
+  pub shows : e ≡ JudgedFunction (report_of s f exhaustive unreachable witnesses)
+
+-- a function that breaks a rule, and the entry that tells the first one
+pub record IsRefusedFunction (s : Setting) (number : ℕ) (f : FunctionTree) (e : ReportEntry) : Type 0 where
+  pub rule : ℕ
+  pub arm : Option ℕ
+  pub at : ℕ
+  pub fault : IsFirstPatternFault s f rule arm at
+  pub tells : e ≡ RefusedFunction f.name (refusal_of number rule arm at)
+
+-- the entry of a function in the report on a file of these items: the refusal by its first broken rule, or else what is found
 -- of its match
 pub data IsEntry (items : List ItemTree) (f : NumberedFunction) (e : ReportEntry) : Type 0 where
-  is_not_built : IsNotBuilt items f.function → e ≡ RefusedFunction f.function.name (not_built f.number) → IsEntry items f e
-  is_unknown : (arm at : ℕ) → IsUnknownName items f.function arm at → e ≡ RefusedFunction f.function.name (unknown_name f.number arm at) → IsEntry items f e
-  is_judged : (report : ReportTree) → IsReportOn items Endless f.function report → e ≡ JudgedFunction report → IsEntry items f e
+  is_refused : IsRefusedFunction (setting_of items) f.number f.function e → IsEntry items f e
+  is_judged : IsJudgedFunction (setting_of items) f.function e → IsEntry items f e
 
 -- the function is judged, and its match is exhaustive
 abbrev pub is_clean : ReportEntry → Bool

@@ -1,5 +1,6 @@
 // The text that is written for the bytes of a file, with its status.
 ghost use Rattle.std.specs.Prelude.{◌≡◌, ◌≤◌, ◌<◌, ◌^◌, ◌*◌, List, ℕ, length, nat_lt, sum_by, IfOk, IfErr};
+ghost use Rattle.decl_lexer.specs.Lexing.{HasTokens};
 ghost use Rattle.decl_lexer.specs.Tokens.{tokens_view};
 ghost use Rattle.decl_syntax.specs.Counts.{kind_arms};
 ghost use Rattle.decl_syntax.specs.Items.{file_view};
@@ -7,16 +8,18 @@ ghost use Rattle.decl_syntax.specs.Units.{units};
 ghost use Rattle.decl_parser.specs.Counts.{HasAtMost};
 ghost use Rattle.decl_parser.specs.FileGrammar.{IsFile, IsFaultOf as IsFaultOfTokens};
 ghost use Rattle.match_model.specs.declared.Width.TheVariants.{Endless};
-ghost use Rattle.type_table.specs.Faults.{BreaksNone, IsFaultOf};
+ghost use Rattle.type_table.specs.Tables.{IsTableOf};
 ghost use Rattle.match_top.specs.Answers.{Answers, IsJudged, IsAnswerToItems, IsAnswerToTokens};
 ghost use Rattle.match_top.specs.Answers.{IsRefusedIn, IsRefusedAt, IsRefusedBy, taken, longest_source};
 ghost use Rattle.match_top.specs.Reports.{IsReported, status_of};
+ghost use Rattle.match_top.specs.Reporting.{AreSpelled};
 ghost use Rattle.match_top.specs.Statuses.{IsVerdict};
 ghost use Rattle.verdict_json.specs.Rules.{IsRule};
 
 use crate::Status;
 use crate::reading::LONGEST_SOURCE;
 use crate::reporting::{Reported, report_on};
+use crate::source::Source;
 use decl_lexer::{LexFault, Token, lex};
 use decl_parser::{ParseFault, parse};
 use decl_syntax::File;
@@ -66,9 +69,10 @@ fn judged(alloc: Global, source: &[u8]) -> Result<Answer, NoMemory>
     }
 }
 
-// The answer to tokens: the answer to the file that they spell, or else their fault.
+// The answer to the tokens of a source: the answer to the file that they spell, or else their fault.
 fn answer_to_tokens(alloc: Global, tokens: Vec<Token>) -> Result<Answer, NoMemory>
-    requires { length tokens.items ≤ longest_source }
+    requires few { length tokens.items ≤ longest_source }
+    requires lexed { (source : List ℕ) × HasTokens source (tokens_view tokens.items) }
     ensures answers { IfOk result (λ a. IsAnswerToTokens (tokens_view tokens.items) a.text.items a.status) }
     ensures verdict { IfOk result (λ a. IsVerdict a.status) }
 {
@@ -92,36 +96,29 @@ fn file_of(alloc: Global, tokens: Vec<Token>) -> Result<File, ParseFault>
     parse(alloc, &tokens)
 }
 
-// The answer to a file: its first fault on declarations, or else the report on its functions.
+// The answer to a file that tokens spell: its first fault on declarations, or else the report on its functions.
 fn answer_to_file(alloc: Global, file: &File) -> Result<Answer, NoMemory>
-    requires { sum_by (λ i. kind_arms i.kind) (file_view file.now) < 2 ^ 32 }
+    requires spelled { AreSpelled (file_view file.now) }
+    requires few { sum_by (λ i. kind_arms i.kind) (file_view file.now) < 2 ^ 32 }
     ensures answers { IfOk result (λ a. IsAnswerToItems (file_view file.now) a.text.items a.status) }
     ensures verdict { IfOk result (λ a. IsVerdict a.status) }
 {
-    match declared(alloc, file) {
-        Ok(()) => reported(alloc, file),
+    match TypeTable::build(alloc, file, Width::Endless) {
+        Ok(table) => reported(alloc, file, &table),
         Err(DeclFault::Rule { rule, item, at }) => refused_in(alloc, rule, Some(item), Some(at)),
         Err(DeclFault::NoMemory) => Err(NoMemory),
     }
 }
 
-// The first fault of a file on declarations, if there is one. The table of its types is not kept.
-fn declared(alloc: Global, file: &File) -> Result<(), DeclFault>
-    ensures unbroken { IfOk result (λ _. BreaksNone (file_view file.now) Endless) }
-    ensures fault { IfErr result (IsFaultOf (file_view file.now) Endless) }
-{
-    TypeTable::build(alloc, file, Width::Endless)?;
-    Ok(())
-}
-
-// The report on a file of which no item breaks a rule on declarations.
-fn reported(alloc: Global, file: &File) -> Result<Answer, NoMemory>
-    requires unbroken { BreaksNone (file_view file.now) Endless }
+// The report on a file of which no item breaks a rule on declarations, with the table of its types.
+fn reported(alloc: Global, file: &File, table: &TypeTable) -> Result<Answer, NoMemory>
+    requires spelled { AreSpelled (file_view file.now) }
+    requires table { IsTableOf (file_view file.now) Endless table.now }
     requires few { sum_by (λ i. kind_arms i.kind) (file_view file.now) < 2 ^ 32 }
     ensures answers { IfOk result (λ a. IsReported (file_view file.now) a.text.items a.status) }
     ensures verdict { IfOk result (λ a. IsVerdict a.status) }
 {
-    let Reported { text, clean } = report_on(alloc, file)?;
+    let Reported { text, clean } = report_on(alloc, &Source { file, table })?;
     let status = status_of(clean);
     Ok(Answer { text, status })
 }

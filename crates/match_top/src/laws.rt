@@ -4,6 +4,8 @@ ghost use Rattle.match_top.specs.Laws.{OneAnswer, OneFirstFault, OneEntry, SomeE
 
 use decl_lexer::{one_fault as one_lexing_fault, one_token_list, tokens_or_fault};
 use decl_parser::{file_or_fault, one_fault, one_file};
+use pattern_laws::laws::{parsed_functions_are_spelled, some_verdict, verdict_is_one};
+use pattern_rules::laws::{answer_is_one, walk_tells};
 
 /// The bytes of a file have at most one text and one status.
 pub fn one_answer()
@@ -15,6 +17,8 @@ pub fn one_answer()
     one_file();
     one_fault();
     file_or_fault();
+    answer_is_one();
+    verdict_is_one();
 }
 
 /// Items have at most one first fault on declarations.
@@ -27,9 +31,20 @@ pub fn one_entry()
     ensures each { EachFunctionStands }
     ensures some { SomeEntry }
     ensures one { OneEntry }
-{}
+{
+    answer_is_one();
+    verdict_is_one();
+    walk_tells();
+    parsed_functions_are_spelled();
+    some_verdict();
+}
 
-/// Items of which none breaks a rule on declarations have a report.
+/// A file of which no item breaks a rule on declarations, and whose types are sound, has a report. Every file that has a
+/// table of types is so (`pattern_laws::laws::tabled_functions_are_sound`).
 pub fn some_report()
     ensures { SomeReport }
-{}
+{
+    walk_tells();
+    parsed_functions_are_spelled();
+    some_verdict();
+}

@@ -4,14 +4,17 @@
 //! only then writes it to a sink. Its contract says when each status comes and which bytes were written, for every
 //! source and every sink: the relation `Answers` between the bytes of a file, the text and the status is all that it
 //! knows of matches. The way of a file through the modules: `reading` (the bytes), `answering` (tokens, items and their
-//! faults; text and status), `reporting` (the entries of the functions), `writing` (the sink).
+//! faults; text and status), `reporting` (the entries of the functions), `judging` (the match of a function, and the
+//! engine's verdict on it), `writing` (the sink).
 //! `laws` says that a file has one answer, and that no function is left out of a report.
 #![tactic(auto)]
 
 mod answering;
+mod judging;
 mod laws;
 mod reading;
 mod reporting;
+mod source;
 mod statuses;
 #[cfg(test)]
 mod tests;

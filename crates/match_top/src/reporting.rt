@@ -1,23 +1,28 @@
 // The report on a file: an entry for each function, written as soon as it is judged.
-ghost use Rattle.std.specs.Prelude.{◌≡◌, ◌<◌, ◌^◌, ◌&&◌, ◌++◌, ◌∷◌, [], List, map, length, sum_by, IfOk};
+ghost use Rattle.std.specs.Prelude.{◌≡◌, ◌<◌, ◌^◌, ◌&&◌, ◌++◌, ◌∷◌, [], List, Some, map, length, slice_get, sum_by, IfOk};
 ghost use Rattle.decl_syntax.specs.Counts.{kind_arms};
 ghost use Rattle.decl_syntax.specs.Functions.{function_view};
-ghost use Rattle.decl_syntax.specs.Items.{ItemTree, file_view, item_view, kind_view};
+ghost use Rattle.decl_syntax.specs.Items.{ItemTree, item_view, kind_view};
 ghost use Rattle.match_model.specs.declared.Width.TheVariants.{Endless};
 ghost use Rattle.type_table.specs.Faults.{BreaksNone};
 ghost use Rattle.verdict_json.specs.Report.{JudgedFunction, RefusedFunction};
 ghost use Rattle.verdict_json.specs.Rules.{IsRule};
 ghost use Rattle.verdict_json.specs.Trees.{report_view};
 ghost use Rattle.match_top.specs.Reports.{NumberedFunction, numbered, function_at, functions_of};
-ghost use Rattle.match_top.specs.Reports.{IsEntry, IsReported, not_built, unknown_name, status_of};
-ghost use Rattle.match_top.specs.Reporting.{IsKnownOf, ReportsOn};
+ghost use Rattle.match_top.specs.Reports.{IsEntry, IsReported, refusal_of, status_of};
+ghost use Rattle.match_top.specs.Reporting.{IsSound, StandsAt, IsFineFunction, ReportsOn, items_in};
 
-use decl_syntax::{File, FnItem, Item, ItemKind};
+use crate::judging::{match_of, shown_entries, verdict_on};
+use crate::source::Source;
+use bumpalo::Bump;
+use decl_syntax::{FnItem, Item, ItemKind};
 use no_memory::NoMemory;
-use plain_match::{FnAnswer, judge_function, plain_enums};
+use pattern_arena::Placer;
+use pattern_check::function::{Fault, first_fault};
+use pattern_rules::Edition;
 use std::alloc::Global;
-use type_names::Names;
 use verdict_json::{FnReport, Refusal, ReportText};
+use witness_names::name_witnesses;
 
 /// The report on a file as it is written, and whether every function is judged and every match is exhaustive.
 #[derive(Debug, Drop)]
@@ -33,44 +38,29 @@ struct Progress {
     clean: bool,
 }
 
-/// What the functions of a file are judged by: its names, and for each item whether it is an enum without fields.
-#[derive(Debug, Drop)]
-struct Known {
-    names: Names,
-    plain: Vec<bool>,
-}
-
 /// The report on a file of which no item breaks a rule on declarations.
-pub(crate) fn report_on(alloc: Global, file: &File) -> Result<Reported, NoMemory>
-    requires unbroken { BreaksNone (file_view file.now) Endless }
-    requires few { sum_by (λ i. kind_arms i.kind) (file_view file.now) < 2 ^ 32 }
-    ensures { IfOk result (λ r. IsReported (file_view file.now) r.text.items (status_of r.clean)) }
+pub(crate) fn report_on(alloc: Global, source: &Source<'_>) -> Result<Reported, NoMemory>
+    requires sound { IsSound source.now }
+    requires few { sum_by (λ i. kind_arms i.kind) (items_in source.now) < 2 ^ 32 }
+    ensures { IfOk result (λ r. IsReported (items_in source.now) r.text.items (status_of r.clean)) }
 {
-    let known = known_of(alloc, file)?;
-    let entries = all_entries(alloc, &file.items, &known)?;
+    let entries = all_entries(alloc, source, &source.file.items)?;
     finished(entries)
 }
 
-fn known_of(alloc: Global, file: &File) -> Result<Known, NoMemory>
-    ensures { IfOk result (IsKnownOf (file_view file.now)) }
-{
-    let names = Names::new(alloc, file)?;
-    let plain = plain_enums(alloc, &file.items)?;
-    Ok(Known { names, plain })
-}
-
 // The entries of the functions among the items.
-fn all_entries(alloc: Global, items: &[Item], known: &Known) -> Result<Progress, NoMemory>
-    requires known { IsKnownOf (map item_view items.now) known.now }
+fn all_entries(alloc: Global, source: &Source<'_>, items: &[Item]) -> Result<Progress, NoMemory>
+    requires sound { IsSound source.now }
+    requires items { map item_view items.now ≡ items_in source.now }
     requires few { sum_by (λ i. kind_arms i.kind) (map item_view items.now) < 2 ^ 32 }
-    ensures { IfOk result (ReportsOn (map item_view items.now) (functions_of (map item_view items.now))) }
+    ensures { IfOk result (ReportsOn (items_in source.now) (functions_of (map item_view items.now))) }
 {
     let mut so_far = Progress {
         text: ReportText::begin(alloc)?,
         clean: true,
     };
     for (number, item) in items.iter().enumerate() {
-        so_far = add_item(alloc, items, known, so_far, number as u64, item)?;
+        so_far = add_item(alloc, source, so_far, number as u64, item)?;
     }
     Ok(so_far)
 }
@@ -78,68 +68,54 @@ fn all_entries(alloc: Global, items: &[Item], known: &Known) -> Result<Progress,
 // Adds the entry of the item with this number, if it is a function.
 fn add_item(
     alloc: Global,
-    items: &[Item],
-    known: &Known,
+    source: &Source<'_>,
     so_far: Progress,
     number: u64,
     item: &Item,
 ) -> Result<Progress, NoMemory>
-    requires known { IsKnownOf (map item_view items.now) known.now }
+    requires sound { IsSound source.now }
+    requires there { slice_get (items_in source.now) number ≡ Some (item_view item.now) }
     requires few { kind_arms (kind_view item.now.kind) < 2 ^ 32 }
-    ensures { (fs : List NumberedFunction) → ReportsOn (map item_view items.now) fs so_far
-        → IfOk result (ReportsOn (map item_view items.now) (fs ++ function_at number (kind_view item.now.kind))) }
+    ensures { (fs : List NumberedFunction) → ReportsOn (items_in source.now) fs so_far
+        → IfOk result (ReportsOn (items_in source.now) (fs ++ function_at number (kind_view item.now.kind))) }
 {
     match &item.kind {
         ItemKind::Enum(_) => Ok(so_far),
         ItemKind::Struct(_) => Ok(so_far),
         ItemKind::Import(_) => Ok(so_far),
-        ItemKind::Function(f) => add_function(alloc, items, known, so_far, number, f),
+        ItemKind::Function(f) => add_function(alloc, source, so_far, number, f),
     }
 }
 
-// Adds the entry of a function, the item with this number.
+// Adds the entry of a function, the item with this number: its first broken rule, or what is found of it.
 fn add_function(
     alloc: Global,
-    items: &[Item],
-    known: &Known,
+    source: &Source<'_>,
     so_far: Progress,
     number: u64,
     f: &FnItem,
 ) -> Result<Progress, NoMemory>
-    requires known { IsKnownOf (map item_view items.now) known.now }
+    requires sound { IsSound source.now }
+    requires there { StandsAt (items_in source.now) number (function_view f.now) }
     requires few { length f.now.arms.items < 2 ^ 32 }
-    ensures { (fs : List NumberedFunction) → ReportsOn (map item_view items.now) fs so_far
-        → IfOk result (ReportsOn (map item_view items.now)
-        (fs ++ numbered number (function_view f.now) ∷ [])) }
+    ensures { (fs : List NumberedFunction) → ReportsOn (items_in source.now) fs so_far
+        → IfOk result (ReportsOn (items_in source.now) (fs ++ numbered number (function_view f.now) ∷ [])) }
 {
-    match judge_function(alloc, items, &known.names, &known.plain, f)? {
-        FnAnswer::NotBuilt => add_refused(so_far, f.name.as_str(), &not_built(number)),
-        FnAnswer::UnknownName { arm, at } => {
-            add_refused(so_far, f.name.as_str(), &unknown_name(number, arm, at))
-        }
-        FnAnswer::Judged(report) => add_judged(so_far, &report),
+    match first_fault(alloc, source.table, Edition::E2024, number, f)? {
+        Some(fault) => add_refused(so_far, f.name.as_str(), &refusal_of(number, &fault)),
+        None => add_judged(alloc, source, so_far, number, f),
     }
 }
 
-fn not_built(number: u64) -> Refusal
-    ensures { result ≡ not_built number }
+// The refusal of the function with this item number by its first broken rule.
+fn refusal_of(number: u64, fault: &Fault) -> Refusal
+    ensures { result ≡ refusal_of number fault.now.rule fault.now.arm fault.now.at }
 {
     Refusal {
-        rule: 90,
+        rule: fault.rule,
         item: Some(number),
-        arm: None,
-        at: None,
-    }
-}
-
-fn unknown_name(number: u64, arm: u64, at: u64) -> Refusal
-    ensures { result ≡ unknown_name number arm at }
-{
-    Refusal {
-        rule: 20,
-        item: Some(number),
-        arm: Some(arm),
-        at: Some(at),
+        arm: fault.arm,
+        at: Some(fault.at),
     }
 }
 
@@ -155,8 +131,36 @@ fn add_refused(so_far: Progress, name: &str, refusal: &Refusal) -> Result<Progre
     Ok(Progress { text, clean: false })
 }
 
-// Adds a function that is judged.
-fn add_judged(so_far: Progress, report: &FnReport<'_>) -> Result<Progress, NoMemory>
+// Adds a function that breaks no rule, with what is found of it. Its match goes with its arena before the next function.
+fn add_judged(
+    alloc: Global,
+    source: &Source<'_>,
+    so_far: Progress,
+    number: u64,
+    f: &FnItem,
+) -> Result<Progress, NoMemory>
+    requires fine { IsFineFunction source.now number (function_view f.now) }
+    requires few { length f.now.arms.items < 2 ^ 32 }
+    ensures { (fs : List NumberedFunction) → ReportsOn (items_in source.now) fs so_far
+        → IfOk result (ReportsOn (items_in source.now) (fs ++ numbered number (function_view f.now) ∷ [])) }
+{
+    let arena = Bump::new(alloc);
+    let placer = Placer::new(&arena);
+    let m = match_of(alloc, source, &placer, number, f)?;
+    let found = verdict_on(alloc, source, &m)?;
+    let unreachable = shown_entries(alloc, &found.unreachable)?;
+    let witnesses = name_witnesses(alloc, source.table, m.ty, &found.witnesses)?;
+    let report = FnReport {
+        name: f.name.as_str(),
+        exhaustive: found.exhaustive,
+        unreachable,
+        witnesses,
+    };
+    add_report(so_far, &report)
+}
+
+// Adds a function with what is reported of it.
+fn add_report(so_far: Progress, report: &FnReport<'_>) -> Result<Progress, NoMemory>
     ensures { (items : List ItemTree) → (fs : List NumberedFunction) → (f : NumberedFunction)
         → ReportsOn items fs so_far → IsEntry items f (JudgedFunction (report_view report.now))
         → IfOk result (ReportsOn items (fs ++ f ∷ [])) }

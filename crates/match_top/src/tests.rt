@@ -120,6 +120,13 @@ const MISSING_C: &str =
 const UNKNOWN_B: &str = "{\"functions\":[{\"name\":\"f\",\"refused\":\
     {\"arm\":0,\"at\":28,\"item\":1,\"name\":\"unknown-name\",\"rule\":20}}]}\n";
 
+const PAIRS: &str = "fn f(x:(bool,u8)){match x{(true,0)=>1,(false,_)|(true,0)=>2}}";
+
+const MISSING_PAIRS: &str =
+    "{\"functions\":[{\"exhaustive\":false,\"name\":\"f\",\"overlaps\":[],\
+    \"unreachable\":[{\"arm\":1,\"at\":48,\"whole\":false}],\"witnesses\":[\
+    {\"text\":\"(true, 1..=255)\",\"tree\":[\"node\",\"\",[[\"flag\",true],[\"range\",\"1\",\"255\"]]]}]}]}\n";
+
 const NO_LENGTH: &str =
     "{\"refused\":{\"arm\":null,\"at\":0,\"item\":0,\"name\":\"array-length\",\"rule\":16}}\n";
 
@@ -128,10 +135,11 @@ const TWO_OF_THREE: &str = "enum E{A,B,C} fn f(x:E){match x{E::A=>1,E::B=>2}}";
 // A source, the room of the sink, the numbers of the writes that fail, the number of the status, what is written.
 type SourceRow = (&'static str, usize, &'static [u64], u8, &'static str);
 
-const SOURCES: [SourceRow; 7] = [
+const SOURCES: [SourceRow; 8] = [
     (TWO_OF_THREE, 4096, &[], 1, MISSING_C),
     (TWO_OF_THREE, 4096, &[2], 5, "{\"functions\":[{\""),
     (TWO_OF_THREE, 5, &[], 5, "{\"fun"),
+    (PAIRS, 4096, &[], 1, MISSING_PAIRS),
     ("", 4096, &[], 0, "{\"functions\":[]}\n"),
     ("struct S;", 4096, &[], 0, "{\"functions\":[]}\n"),
     (

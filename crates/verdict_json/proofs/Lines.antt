@@ -5,8 +5,9 @@ use Rattle.serde_json.specs.View.{items_of}
 use Rattle.serde_json.specs.Written.{compact_text, items_text, comma_if}
 use Rattle.serde_json.proofs.OnLiterals.{serde_json_on_literals}
 use Rattle.verdict_json.specs.declared.report.ReportText.{ReportText}
-use Rattle.verdict_json.specs.Report.{ReportEntry, unreachable_data, witness_data, function_data, entry_data, report_data, report_text}
+use Rattle.verdict_json.specs.Report.{ReportEntry, unreachable_data, function_data, entry_data, report_data, report_text}
 use Rattle.verdict_json.specs.Trees.{ReportTree}
+use Rattle.witness_text.specs.Reported.{witnesses_data}
 use Rattle.verdict_json.specs.Writing.{flag_word, listed, is_behind, HasEntries}
 
 -- the bracket closes the list
@@ -76,8 +77,8 @@ pub function_written : (f : ReportTree) (x0 x1 x2 x3 x4 x5 x6 x7 x8 x9 : List �
     → x4 ≡ x3 ++ compact_text (string f.name)
     → x5 ≡ x4 ++ codes ",\"overlaps\":[],\"unreachable\":["
     → x6 ≡ x5 ++ items_text false (items_of (map unreachable_data f.unreachable))
-    → x7 ≡ x6 ++ codes ",\"witnesses\":["
-    → x8 ≡ x7 ++ items_text false (items_of (map witness_data f.witnesses))
+    → x7 ≡ x6 ++ codes ",\"witnesses\":"
+    → x8 ≡ x7 ++ compact_text (witnesses_data f.witnesses)
     → x9 ≡ x8 ++ 125 ∷ []
     → x9 ≡ x0 ++ compact_text (function_data f)
 unfolding serde_json_on_literals
@@ -88,8 +89,8 @@ function_written f x0 x1 x2 x3 x4 x5 x6 x7 x8 x9 e1 e2 e3 e4 e5 e6 e7 e8 e9 =
     let p4 = compact_text (string f.name) in
     let p5 = codes ",\"overlaps\":[],\"unreachable\":[" in
     let p6 = items_text false (items_of (map unreachable_data f.unreachable)) in
-    let p7 = codes ",\"witnesses\":[" in
-    let p8 = items_text false (items_of (map witness_data f.witnesses)) in
+    let p7 = codes ",\"witnesses\":" in
+    let p8 = compact_text (witnesses_data f.witnesses) in
     let p9 = 125 ∷ [] in
     e9
     ∙ behind x7 x8 p8 p9 e8

@@ -1,14 +1,14 @@
 -- The report on functions as JSON.
-use Rattle.std.specs.Prelude.{ℕ, List, [], ◌∷◌, ◌++◌, map, codes, Bool, true, false}
-use Rattle.decl_lexer.specs.Written.{written_name}
-use Rattle.serde_json.specs.Data.{Data, boolean, number, unsigned, string, array, object, no_items, item, no_members, member}
+use Rattle.std.specs.Prelude.{ℕ, List, [], ◌∷◌, ◌++◌, map, codes}
+use Rattle.serde_json.specs.Data.{Data, boolean, number, unsigned, string, array, object, no_items, no_members, member}
 use Rattle.serde_json.specs.View.{items_of}
 use Rattle.serde_json.specs.Written.{compact_text}
 use Rattle.verdict_json.specs.declared.entry.Unreachable.{Unreachable}
 use Rattle.verdict_json.specs.declared.refusal.Refusal.{Refusal}
 use Rattle.verdict_json.specs.Refused.{name_or_empty, refusal_data}
 use Rattle.verdict_json.specs.Rules.{name_of}
-use Rattle.verdict_json.specs.Trees.{WitnessTree, Anything, OfFlag, OfVariant, ReportTree}
+use Rattle.verdict_json.specs.Trees.{ReportTree}
+use Rattle.witness_text.specs.Reported.{witnesses_data}
 
 -- an entry of the unreachable list
 abbrev pub unreachable_data : Unreachable → Data
@@ -17,29 +17,6 @@ unreachable_data u =
     (member (codes "at") (number (unsigned u.at))
     (member (codes "whole") (boolean u.whole) no_members)))
 
--- the name of a variant, behind that of its enum
-abbrev pub unit_name : List ℕ → List ℕ → List ℕ
-unit_name owner variant = (written_name owner ++ codes "::") ++ written_name variant
-
--- a witness: its text as Rust writes a pattern, and the witness as a tree
-abbrev pub text_and_tree : List ℕ → Data → Data
-text_and_tree text tree = object (member (codes "text") (string text) (member (codes "tree") tree no_members))
-
--- a variant without fields, by its name
-abbrev pub unit_data : List ℕ → Data
-unit_data name = text_and_tree name (array (item (string (codes "node")) (item (string name) (item (array no_items) no_items))))
-
--- a truth value, as it is written
-abbrev pub flag_text : Bool → List ℕ
-flag_text true = codes "true"
-flag_text false = codes "false"
-
--- a witness
-abbrev pub witness_data : WitnessTree → Data
-witness_data Anything = text_and_tree (codes "_") (array (item (string (codes "any")) no_items))
-witness_data (OfFlag b) = text_and_tree (flag_text b) (array (item (string (codes "flag")) (item (boolean b) no_items)))
-witness_data (OfVariant owner variant) = unit_data (unit_name owner variant)
-
 -- what is reported of one function
 abbrev pub function_data : ReportTree → Data
 function_data f =
@@ -47,7 +24,7 @@ function_data f =
     (member (codes "name") (string f.name)
     (member (codes "overlaps") (array no_items)
     (member (codes "unreachable") (array (items_of (map unreachable_data f.unreachable)))
-    (member (codes "witnesses") (array (items_of (map witness_data f.witnesses))) no_members)))))
+    (member (codes "witnesses") (witnesses_data f.witnesses) no_members)))))
 
 -- the refusal of the function of this name
 abbrev pub refused_data : List ℕ → Refusal → Data

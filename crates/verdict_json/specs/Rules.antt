@@ -51,7 +51,6 @@ rules =
     ∷ rule 40 (codes "value-syntax")
     ∷ rule 41 (codes "value-type")
     ∷ rule 42 (codes "unknown-function")
-    ∷ rule 90 (codes "not-built")
     ∷ []
 
 -- the name of the first rule of that number

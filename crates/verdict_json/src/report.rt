@@ -4,16 +4,17 @@ ghost use Rattle.serde_json.specs.Data.{string};
 ghost use Rattle.serde_json.specs.Written.{compact_text, items_text, comma_if};
 ghost use Rattle.serde_json.specs.View.{items_of};
 ghost use Rattle.verdict_json.specs.Report.{ReportEntry, JudgedFunction, RefusedFunction, report_text};
-ghost use Rattle.verdict_json.specs.Report.{function_data, unreachable_data, witness_data};
+ghost use Rattle.verdict_json.specs.Report.{function_data, unreachable_data};
 ghost use Rattle.verdict_json.specs.Rules.{IsRule};
-ghost use Rattle.verdict_json.specs.Trees.{report_view, witness_view};
+ghost use Rattle.verdict_json.specs.Trees.{report_view};
 ghost use Rattle.verdict_json.specs.Writing.{HasEntries, flag_word};
 
-use crate::entry::{Unreachable, Witness, unreachable_entry, witness_entry};
+use crate::entry::{Unreachable, unreachable_entry};
 use crate::refusal::{Refusal, refused_entry};
 use no_memory::NoMemory;
 use serde_json::json;
 use std::alloc::{AllocError, Global};
+use witness_text::{NamedWitness, push_witnesses};
 
 /// What is reported of a function.
 #[derive(Debug, Drop)]
@@ -25,7 +26,7 @@ pub struct FnReport<'a> {
     /// The arms and alternatives that no value comes to, in reading order.
     pub unreachable: Vec<Unreachable>,
     /// What is missing: disjoint, in constructor order.
-    pub witnesses: Vec<Witness<'a>>,
+    pub witnesses: Vec<NamedWitness<'a>>,
 }
 
 /// The text of a report to which the entry of one function is added after the other.
@@ -75,27 +76,6 @@ fn push_unreachable(
     Ok(())
 }
 
-// Adds the witnesses, with commas between them, and the bracket that closes them.
-fn push_witnesses(
-    alloc: Global,
-    text: &mut String,
-    witnesses: &[Witness<'_>],
-) -> Result<(), AllocError>
-    ensures { OnOk result (string_bytes text.new
-        ≡ string_bytes text.old ++ items_text false (items_of (map witness_data (map witness_view witnesses.now)))) }
-{
-    let mut later = false;
-    for witness in witnesses {
-        if later {
-            text.push(',')?;
-        }
-        text.push_str(witness_entry(alloc, witness)?.as_str())?;
-        later = true;
-    }
-    text.push(']')?;
-    Ok(())
-}
-
 fn flag_word(flag: bool) -> &'static str
     ensures { result.now ≡ flag_word flag }
 {
@@ -103,7 +83,7 @@ fn flag_word(flag: bool) -> &'static str
 }
 
 // Adds what is reported of a function.
-fn push_function(alloc: Global, text: &mut String, report: &FnReport<'_>) -> Result<(), AllocError>
+fn push_function(alloc: Global, text: &mut String, report: &FnReport<'_>) -> Result<(), NoMemory>
     ensures { OnOk result (string_bytes text.new ≡ string_bytes text.old ++ compact_text (function_data (report_view report.now))) }
 {
     text.push_str("{\"exhaustive\":")?;
@@ -112,7 +92,7 @@ fn push_function(alloc: Global, text: &mut String, report: &FnReport<'_>) -> Res
     push_quoted(alloc, text, report.name)?;
     text.push_str(",\"overlaps\":[],\"unreachable\":[")?;
     push_unreachable(alloc, text, &report.unreachable)?;
-    text.push_str(",\"witnesses\":[")?;
+    text.push_str(",\"witnesses\":")?;
     push_witnesses(alloc, text, &report.witnesses)?;
     text.push('}')?;
     Ok(())

@@ -46,7 +46,6 @@ pub fn rule_name(rule: u32) -> Option<&'static str>
         40 => Some("value-syntax"),
         41 => Some("value-type"),
         42 => Some("unknown-function"),
-        90 => Some("not-built"),
         _ => None,
     }
 }

@@ -1,7 +1,8 @@
 // The texts as the specification of the output gives them.
-use crate::{FnReport, Refusal, ReportText, Unreachable, Witness, refusal_bytes, rule_name};
+use crate::{FnReport, Refusal, ReportText, Unreachable, refusal_bytes, rule_name};
 use std::alloc::Global;
 use std::test::Fail;
+use witness_text::{FormName, NamedWitness};
 
 const EMPTY: &[u8] = b"{\"functions\":[]}\n";
 
@@ -13,8 +14,8 @@ const THREE: &[u8] = b"{\"functions\":[\
 {\"exhaustive\":false,\"name\":\"h\",\"overlaps\":[],\"unreachable\":[],\"witnesses\":[\
 {\"text\":\"_\",\"tree\":[\"any\"]},{\"text\":\"true\",\"tree\":[\"flag\",true]}]}]}\n";
 
-const NOT_BUILT: &[u8] =
-    b"{\"refused\":{\"arm\":null,\"at\":null,\"item\":null,\"name\":\"not-built\",\"rule\":90}}\n";
+const TOO_LONG: &[u8] =
+    b"{\"refused\":{\"arm\":null,\"at\":null,\"item\":null,\"name\":\"too-long\",\"rule\":7}}\n";
 
 const ALL_PLACES: &[u8] =
     b"{\"refused\":{\"arm\":0,\"at\":19,\"item\":1,\"name\":\"literal-out-of-range\",\"rule\":28}}\n";
@@ -23,7 +24,7 @@ const ALL_PLACES: &[u8] =
 const WITH_REFUSED: &[u8] = b"{\"functions\":[\
 {\"name\":\"f\",\"refused\":{\"arm\":0,\"at\":28,\"item\":1,\"name\":\"unknown-name\",\"rule\":20}},\
 {\"exhaustive\":true,\"name\":\"g\",\"overlaps\":[],\"unreachable\":[],\"witnesses\":[]},\
-{\"name\":\"h\",\"refused\":{\"arm\":null,\"at\":null,\"item\":0,\"name\":\"not-built\",\"rule\":90}}]}\n";
+{\"name\":\"h\",\"refused\":{\"arm\":null,\"at\":19,\"item\":0,\"name\":\"deref-needs-reference\",\"rule\":34}}]}\n";
 
 fn with_refused(alloc: Global) -> Result<Vec<u8>, Fail> {
     let unknown = Refusal {
@@ -38,16 +39,16 @@ fn with_refused(alloc: Global) -> Result<Vec<u8>, Fail> {
         unreachable: Vec::new(alloc),
         witnesses: Vec::new(alloc),
     };
-    let not_built = Refusal {
-        rule: 90,
+    let no_reference = Refusal {
+        rule: 34,
         item: Some(0),
         arm: None,
-        at: None,
+        at: Some(19),
     };
     let report = ReportText::begin(alloc)?
         .add_refused("f", &unknown)?
         .add(&judged)?
-        .add_refused("h", &not_built)?;
+        .add_refused("h", &no_reference)?;
     Ok(report.finish()?)
 }
 
@@ -74,19 +75,19 @@ fn three(alloc: Global) -> Result<Vec<u8>, Fail> {
         unreachable: Vec::new(alloc),
         witnesses: Vec::new(alloc),
     };
-    second.witnesses.push(Witness::Unit {
+    second.witnesses.push(NamedWitness::UnitForm(FormName::Variant {
         owner: "E",
         variant: "C",
-    })?;
-    second.witnesses.push(Witness::Flag(false))?;
+    }))?;
+    second.witnesses.push(NamedWitness::Flag(false))?;
     let mut third = FnReport {
         name: "h",
         exhaustive: false,
         unreachable: Vec::new(alloc),
         witnesses: Vec::new(alloc),
     };
-    third.witnesses.push(Witness::Any)?;
-    third.witnesses.push(Witness::Flag(true))?;
+    third.witnesses.push(NamedWitness::Any)?;
+    third.witnesses.push(NamedWitness::Flag(true))?;
     let report = ReportText::begin(alloc)?
         .add(&first)?
         .add(&second)?
@@ -107,12 +108,12 @@ fn reports(rt: HostRuntime) -> Result<(), Fail> {
 fn refusals(rt: HostRuntime) -> Result<(), Fail> {
     let alloc = rt.alloc();
     let whole = Refusal {
-        rule: 90,
+        rule: 7,
         item: None,
         arm: None,
         at: None,
     };
-    assert_eq!(rt; refusal_bytes(alloc, &whole)?.as_slice(), NOT_BUILT);
+    assert_eq!(rt; refusal_bytes(alloc, &whole)?.as_slice(), TOO_LONG);
     let placed = Refusal {
         rule: 28,
         item: Some(1),

@@ -3,8 +3,11 @@ use Rattle.decl_syntax.specs.Items.{file_view}
 use Rattle.match_top.proofs.Judged.{file_answer, syntax_answer, width_answer, few_of}
 use Rattle.match_top.proofs.answering.answer_to_tokens.Goals as goal
 
-pub answer_to_file-requires : goal.answer_to_file-requires
-answer_to_file-requires c = few_of _ _ c.in-Ok.ensures.counts.few_arms c.requires
+pub answer_to_file-requires-clause-spelled : goal.answer_to_file-requires-clause-spelled
+answer_to_file-requires-clause-spelled c = (c.requires.lexed.0, tokens_view c.args.tokens.items, c.requires.lexed.1, c.in-Ok.ensures.file)
+
+pub answer_to_file-requires-clause-few : goal.answer_to_file-requires-clause-few
+answer_to_file-requires-clause-few c = few_of _ _ c.in-Ok.ensures.counts.few_arms c.requires.few
 
 pub returns-in-Ok-clause-answers : goal.returns-in-Ok-clause-answers
 returns-in-Ok-clause-answers c = file_answer (tokens_view c.args.tokens.items) (file_view c.in-Ok.file) _ c.in-Ok.ensures.file c.answer_to_file.ensures.answers

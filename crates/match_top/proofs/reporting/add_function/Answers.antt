@@ -1,21 +1,47 @@
-use Rattle.std.proofs.Common.{map, refl}
+use Rattle.std.proofs.Common.{◌≡◌, refl, sym, ap, subst, Some}
 use Rattle.decl_syntax.specs.Functions.{function_view}
-use Rattle.decl_syntax.specs.Items.{item_view}
 use Rattle.match_model.specs.declared.Width.TheVariants.{Endless}
-use Rattle.plain_match.specs.Answers.{IsUnknownName}
-use Rattle.plain_match.specs.Reports.{IsReportOn}
-use Rattle.verdict_json.specs.Trees.{report_view}
-use Rattle.match_top.specs.Reports.{numbered, is_unknown, is_judged}
+use Rattle.pattern_rules.specs.Faults.{IsFirstPatternFault, BreaksNone}
+use Rattle.verdict_json.specs.Rules.{IsRule}
+use Rattle.verdict_json.specs.declared.refusal.Refusal.{Refusal}
+use Rattle.match_top.specs.Reports.{numbered, is_refused}
+use Rattle.match_top.specs.Reporting.{items_in, setting_in}
 use Rattle.match_top.proofs.Entries.{same_refusal}
+use Rattle.match_top.proofs.RuleNames.{fault_is_named}
 use Rattle.match_top.proofs.reporting.add_function.Goals as goal
 
-pub returns-in-UnknownName : goal.returns-in-UnknownName
-returns-in-UnknownName c = λ fs h.
-    let told : IsUnknownName (map item_view c.args.items.now) (function_view c.args.f.now) c.in-UnknownName.arm c.in-UnknownName.at = rw c.in-UnknownName.is at c.in_ok-judge_function.ensures in
-    c.add_refused-in-UnknownName.ensures (map item_view c.args.items.now) fs (numbered c.args.number (function_view c.args.f.now)) h
-    (is_unknown c.in-UnknownName.arm c.in-UnknownName.at told (same_refusal _ _ _ _ c.as_str-in-UnknownName.ensures.value c.unknown_name.ensures))
+pub first_fault-requires : goal.first_fault-requires
+first_fault-requires c = (items_in c.args.source.now, Endless, c.requires.sound.table_is)
 
-pub returns-in-Judged : goal.returns-in-Judged
-returns-in-Judged c = λ fs h.
-    let told : IsReportOn (map item_view c.args.items.now) Endless (function_view c.args.f.now) (report_view c.in-Judged.report) = (rw c.in-Judged.is at c.in_ok-judge_function.ensures) Endless in
-    c.add_judged.ensures (map item_view c.args.items.now) fs (numbered c.args.number (function_view c.args.f.now)) h (is_judged (report_view c.in-Judged.report) told refl)
+pub add_refused-requires : goal.add_refused-requires
+add_refused-requires c =
+    let x = c.args.source.now in
+    let at = c.requires.there in
+    let told : IsFirstPatternFault (setting_in x) (function_view c.args.f.now) c.in-Some.fault.rule c.in-Some.fault.arm c.in-Some.fault.at =
+    rw c.in-Some.is at c.in_ok-fault.ensures.found (setting_in x) at.item c.requires.sound.table_is refl at.there at.is in
+    let named : IsRule c.in-Some.fault.rule = fault_is_named (setting_in x) (function_view c.args.f.now) _ _ _ told in
+    subst IsRule (sym (ap (λ (r : Refusal). r.rule) c.refusal_of.ensures)) named
+
+pub returns-in-Some : goal.returns-in-Some
+returns-in-Some c = λ fs h.
+    let x = c.args.source.now in
+    let at = c.requires.there in
+    let told : IsFirstPatternFault (setting_in x) (function_view c.args.f.now) c.in-Some.fault.rule c.in-Some.fault.arm c.in-Some.fault.at =
+    rw c.in-Some.is at c.in_ok-fault.ensures.found (setting_in x) at.item c.requires.sound.table_is refl at.there at.is in
+    c.add_refused.ensures (items_in x) fs (numbered c.args.number (function_view c.args.f.now)) h
+    (is_refused (record {
+      rule = c.in-Some.fault.rule;
+      arm = c.in-Some.fault.arm;
+      at = c.in-Some.fault.at;
+      fault = told;
+      tells = same_refusal _ _ _ _ c.as_str.ensures.value c.refusal_of.ensures;
+    }))
+
+pub add_judged-requires-clause-fine : goal.add_judged-requires-clause-fine
+add_judged-requires-clause-fine c =
+    let x = c.args.source.now in
+    let at = c.requires.there in record {
+      sound = c.requires.sound;
+      stands = at;
+      fine = c.in_ok-fault.ensures.none (setting_in x) at.item c.requires.sound.table_is refl at.there at.is c.in-None.is;
+    }

@@ -1,8 +1,10 @@
 use Rattle.std.proofs.Common.{◌∙◌, ap, ◌++◌, false, map, string_bytes}
 use Rattle.serde_json.specs.View.{items_of}
-use Rattle.serde_json.specs.Written.{items_text}
-use Rattle.verdict_json.specs.Report.{unreachable_data, witness_data}
-use Rattle.verdict_json.specs.Trees.{report_view, witness_view}
+use Rattle.serde_json.specs.Written.{compact_text, items_text}
+use Rattle.verdict_json.specs.Report.{unreachable_data}
+use Rattle.verdict_json.specs.Trees.{report_view}
+use Rattle.witness_text.specs.Reported.{witnesses_data}
+use Rattle.witness_text.specs.Trees.{witness_view}
 use Rattle.verdict_json.proofs.Lines.{function_written}
 use Rattle.verdict_json.proofs.report.push_function.Goals as goal
 
@@ -19,5 +21,5 @@ returns c =
     ∙ ap (λ us. string_bytes c.push_str-4.new.self ++ items_text false (items_of (map unreachable_data us))) c.deref.ensures.value)
     c.in_ok-push_str-5.ensures.bytes
     (c.in_ok-push_witnesses.ensures
-    ∙ ap (λ ws. string_bytes c.push_str-5.new.self ++ items_text false (items_of (map witness_data (map witness_view ws)))) c.deref-2.ensures.value)
+    ∙ ap (λ ws. string_bytes c.push_str-5.new.self ++ compact_text (witnesses_data (map witness_view ws))) c.deref-2.ensures.value)
     c.in_ok-push.ensures.bytes

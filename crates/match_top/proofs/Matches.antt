@@ -1,0 +1,116 @@
+-- The match of a function as the engine has it, and what is found of it.
+use Rattle.std.proofs.Common.{◌≡◌, ◌∙◌, ℕ, ◌<◌, nat_eq, Bool, List, [], ◌∷◌, map, length, Result, Ok, Err, IfOk, refl, sym, ap, subst}
+use Rattle.std.specs.List.{flat_map, Contains, IsDistinct}
+use Rattle.std.proofs.lemmas.List.{length-map}
+use Rattle.decl_syntax.specs.Functions.{FunctionTree}
+use Rattle.decl_syntax.specs.Items.{ArmTree}
+use Rattle.match_model.specs.ArenaPatterns.{MDeArm, MDeMatch, MDePat, type_of}
+use Rattle.match_model.specs.Declarations.{MProgram}
+use Rattle.match_model.specs.Lists.{Every}
+use Rattle.match_model.specs.Made.{AreArmsMade}
+use Rattle.match_model.specs.Types.{MType}
+use Rattle.match_model.specs.Unreachable.{Entry}
+use Rattle.match_model.specs.WellTyped.{uids_in}
+use Rattle.match_model.specs.Witness.{MWitness}
+use Rattle.pattern_arena.specs.declared.matches.CheckedMatch.{CheckedMatch}
+use Rattle.pattern_arena.specs.Trees.{plain_arm, plain_match}
+use Rattle.pattern_elaboration.specs.Arms.{IsMatchMade}
+use Rattle.pattern_laws.proofs.ParsedSound.{every_of}
+use Rattle.pattern_laws.specs.JudgedLaws.{by_offset}
+use Rattle.pattern_laws.specs.ParsedLaws.{ParsedArmsAreSound}
+use Rattle.pattern_laws.specs.TableLaws.{JudgedTableMatch}
+use Rattle.pattern_matrix.specs.SearchLaws.{IsJudged}
+use Rattle.pattern_rules.specs.ArenaForms.{all_within}
+use Rattle.pattern_rules.specs.Faults.{scrutinee_type}
+use Rattle.pattern_rules.specs.Settings.{program}
+use Rattle.pattern_rules.specs.ShownMatches.{IsSoundArm, IsShownMatch}
+use Rattle.type_table.specs.TableContext.{TableValue, table_context}
+use Rattle.type_table.specs.Tables.{IsOf, table_program, table_type}
+use Rattle.type_table.specs.declared.table.TyId.{TyId}
+use Rattle.verdict_json.specs.Report.{ReportEntry, JudgedFunction}
+use Rattle.verdict_json.specs.declared.entry.Unreachable.{Unreachable}
+use Rattle.witness_names.specs.Named.{named_witness}
+use Rattle.witness_search.specs.Entries.{plain_entries}
+use Rattle.witness_text.specs.Trees.{WitnessTree}
+use Rattle.witnesses.specs.Views.{plain_witness}
+use Rattle.witnesses.specs.declared.judgement.Judgement.{Judgement}
+use Rattle.witnesses.specs.declared.witness.Witness.{Witness}
+use Rattle.match_top.specs.declared.source.Source.{Source}
+use Rattle.match_top.specs.Reports.{numbered, shown_entry, report_of, IsEntry, is_judged}
+use Rattle.match_top.specs.Reporting.{items_in, setting_in, IsFineFunction, IsMatchOf, IsVerdictFor}
+use Rattle.match_top.proofs.Entries.{contains_at}
+
+-- each arm of a function that breaks no rule is sound
+pub sound_arm : ParsedArmsAreSound → (x : Source) (number : ℕ) (f : FunctionTree) → IsFineFunction x number f → (a : ArmTree) → Contains f.arms a
+    → IsSoundArm (setting_in x) f a
+sound_arm law x number f h a among =
+    let spelled = h.sound.spelled in
+    law spelled.0 spelled.1 (setting_in x) x.table.now h.stands.item f a spelled.2 spelled.3 h.sound.table_is
+    (contains_at (items_in x) number h.stands.item h.stands.there) h.stands.is h.fine among
+
+-- a match that was made and shows the function is its match as the engine has it
+pub is_match_of : (x : Source) (number : ℕ) (f : FunctionTree) (m : MDeMatch TyId) → IsFineFunction x number f → IsMatchMade x.table.now m
+    → IsShownMatch (table_type x.table.now) (setting_in x) f m → AreArmsMade m.arms → IsMatchOf x f m
+is_match_of x number f m h made shown ranges = record {
+  table_is = h.sound.table_is;
+  shown = shown;
+  type_is = made.type;
+  types = λ d among. every_of (λ (a : MDeArm TyId). Every (λ (q : MDePat TyId). IsOf x.table.now (type_of q)) (all_within a.pat)) m.arms made.types d among;
+  uids = made.uids;
+  made = ranges;
+}
+
+-- the match has as many arms as the function
+pub few_arms : (x : Source) (f : FunctionTree) (m : CheckedMatch TyId) (most : ℕ) → IsMatchOf x f (plain_match m) → length f.arms < most → length m.arms.now < most
+few_arms x f m most h few =
+    let count : length (map plain_arm m.arms.now) ≡ length f.arms = h.shown.count in
+    let same : length (map plain_arm m.arms.now) ≡ length m.arms.now = length-map m.arms.now plain_arm in
+    subst (λ (n : ℕ). n < most) (sym count ∙ same) few
+
+-- what is judged of the match is found of the function
+pub verdict_of : {E : Type 0} → JudgedTableMatch → (x : Source) (f : FunctionTree) (m : MDeMatch TyId) (r : Result Judgement E) → IsMatchOf x f m
+    → IfOk r (λ j. IsJudged (TableValue x.table.now) (table_context x.table.now) m j.exhaustive (plain_entries j.unreachable.items) (map plain_witness j.witnesses.items))
+    → IfOk r (λ j. IsVerdictFor x f j)
+verdict_of law x f m (Ok j) h judged =
+    law x.table.now (setting_in x) f m j.exhaustive (plain_entries j.unreachable.items) (map plain_witness j.witnesses.items) h judged
+verdict_of law x f m (Err e) h judged = tt
+
+-- an entry is shown without its number
+shown_by_offset : (es : List Entry) → map shown_entry es ≡ map shown_entry (map by_offset es)
+shown_by_offset [] = refl
+shown_by_offset (e ∷ es) = ap (λ (us : List Unreachable). shown_entry e ∷ us) (shown_by_offset es)
+
+-- witnesses are named one by one
+named_each : (p : MProgram) (t : MType) (ws : List Witness) → map (λ (w : Witness). named_witness p t (plain_witness w)) ws ≡ map (named_witness p t) (map plain_witness ws)
+named_each p t [] = refl
+named_each p t (w ∷ ws) = ap (λ (us : List WitnessTree). named_witness p t (plain_witness w) ∷ us) (named_each p t ws)
+
+-- a report on a function that shows what was found of it is its entry
+pub judged_entry : (x : Source) (number : ℕ) (f : FunctionTree) (m : MDeMatch TyId) (j : Judgement) (name : List ℕ) (us : List Unreachable) (vs : List WitnessTree)
+    → IsFineFunction x number f → IsMatchOf x f m → IsVerdictFor x f j → name ≡ f.name → us ≡ map shown_entry (plain_entries j.unreachable.items)
+    → vs ≡ map (λ (w : Witness). named_witness (table_program x.table.now) (table_type x.table.now m.type) (plain_witness w)) j.witnesses.items
+    → IsEntry (items_in x) (numbered number f) (JudgedFunction (record { name = name; exhaustive = j.exhaustive; unreachable = us; witnesses = vs }))
+judged_entry x number f m j name us vs fine is_match verdict name_is unreachable witnesses =
+    let s = setting_in x in
+    let es = plain_entries j.unreachable.items in
+    let ws = map plain_witness j.witnesses.items in
+    let program_is : table_program x.table.now ≡ program s = fine.sound.table_is.program in
+    let type_is : table_type x.table.now m.type ≡ scrutinee_type s f = is_match.shown.type_is in
+    let shown : us ≡ map shown_entry (map by_offset es) = unreachable ∙ shown_by_offset es in
+    let named : vs ≡ map (named_witness (program s) (scrutinee_type s f)) ws =
+    witnesses ∙ named_each (table_program x.table.now) (table_type x.table.now m.type) j.witnesses.items
+    ∙ ap (λ (p : MProgram). map (named_witness p (table_type x.table.now m.type)) ws) program_is
+    ∙ ap (λ (t : MType). map (named_witness (program s) t) ws) type_is in
+    let entry : List ℕ → List Unreachable → List WitnessTree → ReportEntry =
+    λ n es vs. JudgedFunction (record { name = n; exhaustive = j.exhaustive; unreachable = es; witnesses = vs }) in
+    is_judged (record {
+      fine = fine.fine;
+      exhaustive = j.exhaustive;
+      unreachable = map by_offset es;
+      witnesses = ws;
+      verdict = verdict;
+      shows =
+          ap (λ (n : List ℕ). entry n us vs) name_is
+          ∙ ap (λ (es : List Unreachable). entry f.name es vs) shown
+          ∙ ap (λ (vs : List WitnessTree). entry f.name (map shown_entry (map by_offset es)) vs) named;
+    })

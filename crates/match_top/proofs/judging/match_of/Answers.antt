@@ -1,0 +1,24 @@
+use Rattle.std.proofs.Common.{Some, None, Option, IsSomeAnd, IfSome}
+use Rattle.decl_syntax.specs.Functions.{function_view}
+use Rattle.match_model.specs.declared.Width.TheVariants.{Endless}
+use Rattle.pattern_arena.specs.Trees.{plain_match}
+use Rattle.pattern_elaboration.specs.Arms.{IsMatchMade}
+use Rattle.pattern_rules.specs.ShownMatches.{IsShownMatch}
+use Rattle.type_table.specs.Tables.{table_type}
+use Rattle.match_top.specs.Reporting.{items_in, setting_in}
+use Rattle.match_top.proofs.Matches.{is_match_of, sound_arm}
+use Rattle.match_top.proofs.judging.match_of.Goals as goal
+
+pub elaborate-requires : goal.elaborate-requires
+elaborate-requires c = (items_in c.args.source.now, Endless, c.requires.fine.sound.table_is)
+
+pub returns-in-Some : goal.returns-in-Some
+returns-in-Some c =
+    let x = c.args.source.now in
+    let f = function_view c.args.f.now in
+    let h = c.requires.fine in
+    let arms = sound_arm c.parsed_arms_are_sound.ensures x c.args.number f h in
+    let shown : IsShownMatch (table_type x.table.now) (setting_in x) f (plain_match c.in-Some.m) =
+    rw c.in-Some.is at c.in_ok-m.ensures.shown (setting_in x) h.stands.item h.sound.table_is h.stands.there h.stands.is h.fine arms in
+    let made : IsMatchMade x.table.now (plain_match c.in-Some.m) = rw c.in-Some.is at c.in_ok-m.ensures.made in
+    is_match_of x c.args.number f (plain_match c.in-Some.m) h made shown c.matches_are_made.ensures

@@ -1,6 +1,0 @@
-pub mod Answers
-pub mod Cases
-pub mod Judging
-pub mod Plain
-pub mod Reports
-pub mod Views
