@@ -12,8 +12,15 @@ use Rattle.match_top.proofs.judging.match_of.Goals as goal
 pub elaborate-requires : goal.elaborate-requires
 elaborate-requires c = (items_in c.args.source.now, Endless, c.requires.fine.sound.table_is)
 
-pub returns-in-Some : goal.returns-in-Some
-returns-in-Some c =
+pub unreachable-requires : goal.unreachable-requires
+unreachable-requires c =
+    let x = c.args.source.now in
+    let h = c.requires.fine in
+    let arms = sound_arm c.parsed_arms_are_sound.ensures x c.args.number (function_view c.args.f.now) h in
+    rw c.in-None.is at c.in_ok-m.ensures.shown (setting_in x) h.stands.item h.sound.table_is h.stands.there h.stands.is h.fine arms
+
+pub returns : goal.returns
+returns c =
     let x = c.args.source.now in
     let f = function_view c.args.f.now in
     let h = c.requires.fine in
