@@ -122,8 +122,7 @@ const UNKNOWN_B: &str = "{\"functions\":[{\"name\":\"f\",\"refused\":\
 
 const PAIRS: &str = "fn f(x:(bool,u8)){match x{(true,0)=>1,(false,_)|(true,0)=>2}}";
 
-const MISSING_PAIRS: &str =
-    "{\"functions\":[{\"exhaustive\":false,\"name\":\"f\",\"overlaps\":[],\
+const MISSING_PAIRS: &str = "{\"functions\":[{\"exhaustive\":false,\"name\":\"f\",\"overlaps\":[],\
     \"unreachable\":[{\"arm\":1,\"at\":48,\"whole\":false}],\"witnesses\":[\
     {\"text\":\"(true, 1..=255)\",\"tree\":[\"node\",\"\",[[\"flag\",true],[\"range\",\"1\",\"255\"]]]}]}]}\n";
 
