@@ -24,8 +24,6 @@ mod names;
 mod params;
 mod parts;
 mod runs;
-#[cfg(test)]
-mod tests;
 mod widths;
 
 pub use file::{ParseFault, parse};

@@ -131,14 +131,31 @@ const NO_LENGTH: &str =
 
 const TWO_OF_THREE: &str = "enum E{A,B,C} fn f(x:E){match x{E::A=>1,E::B=>2}}";
 
+// Each form of type and of pattern, so that each call below that takes memory is come to.
+const FORMS: &str = "use E::{A};enum E<'a>{A,B(&'a str,[u8;2]),C{x:Option<char>}}struct S(i8,bool);\
+    fn f(x:&E)->u8{match x{A=>1,E::B(\"a\",[0..=9,_])|E::B(_,[_,7..=255])=>2,E::C{x:Some('a'..='z')}=>3,\
+    E::C{x:None} if g()=>4,_=>5,A=>6}}\
+    fn g(x:&[S])->u8{match x{[]=>1,[S(-1,true),..,_y@S(..)]=>2,[_z@..]=>3}}\
+    fn h(x:(&[bool],&str)){match x{([true,..],\"a\")=>1}}";
+
+const FORMS_JUDGED: &str = "{\"functions\":[\
+    {\"exhaustive\":true,\"name\":\"f\",\"overlaps\":[],\"unreachable\":[{\"arm\":5,\"at\":204,\"whole\":true}],\"witnesses\":[]},\
+    {\"exhaustive\":true,\"name\":\"g\",\"overlaps\":[],\"unreachable\":[],\"witnesses\":[]},\
+    {\"exhaustive\":false,\"name\":\"h\",\"overlaps\":[],\"unreachable\":[],\"witnesses\":[\
+    {\"text\":\"(&[], _)\",\"tree\":[\"node\",\"\",[[\"point\",\"&\",[\"row\",[],false,[]]],[\"any\"]]]},\
+    {\"text\":\"(&[false, ..], _)\",\"tree\":[\"node\",\"\",[[\"point\",\"&\",[\"row\",[[\"flag\",false]],true,[]]],[\"any\"]]]},\
+    {\"text\":\"(&[true, ..], &_)\",\"tree\":[\"node\",\"\",[[\"point\",\"&\",[\"row\",[[\"flag\",true]],true,[]]],\
+    [\"point\",\"&\",[\"else\",[\"a\"]]]]]}]}]}\n";
+
 // A source, the room of the sink, the numbers of the writes that fail, the number of the status, what is written.
 type SourceRow = (&'static str, usize, &'static [u64], u8, &'static str);
 
-const SOURCES: [SourceRow; 8] = [
+const SOURCES: [SourceRow; 9] = [
     (TWO_OF_THREE, 4096, &[], 1, MISSING_C),
     (TWO_OF_THREE, 4096, &[2], 5, "{\"functions\":[{\""),
     (TWO_OF_THREE, 5, &[], 5, "{\"fun"),
     (PAIRS, 4096, &[], 1, MISSING_PAIRS),
+    (FORMS, 4096, &[], 1, FORMS_JUDGED),
     ("", 4096, &[], 0, "{\"functions\":[]}\n"),
     ("struct S;", 4096, &[], 0, "{\"functions\":[]}\n"),
     (

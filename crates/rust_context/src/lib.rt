@@ -16,7 +16,5 @@ mod context;
 mod kinds;
 pub mod laws;
 mod numbers;
-#[cfg(test)]
-mod tests;
 
 pub use context::RustCx;

@@ -21,8 +21,6 @@ mod meanings;
 mod name_rules;
 mod names;
 mod targets;
-#[cfg(test)]
-mod tests;
 mod type_rules;
 
 pub use attributes::is_marked;

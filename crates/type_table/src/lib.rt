@@ -41,8 +41,6 @@ mod lookups;
 mod nodes;
 mod readers;
 mod table;
-#[cfg(test)]
-mod tests;
 mod values;
 mod written;
 

@@ -14,8 +14,6 @@
 mod forms;
 mod naming;
 mod numbers;
-#[cfg(test)]
-mod tests;
 mod types;
 
 pub use naming::{name_witness, name_witnesses};

@@ -10,8 +10,6 @@ mod pieces;
 mod rows;
 mod search;
 mod stacks;
-#[cfg(test)]
-mod tests;
 mod top;
 mod unreachable;
 
