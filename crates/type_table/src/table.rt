@@ -10,7 +10,7 @@ use match_model::Width;
 use type_names::{Finder, Names};
 
 /// A type of a table. Two of one table are equal exactly where their types are.
-#[derive(Clone, Copy, Debug, PartialEq, Eq)]
+#[derive(Clone, Copy, Debug, PartialEq, Eq, Hash)]
 pub struct TyId {
     pub(crate) index: usize,
 }
