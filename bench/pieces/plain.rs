@@ -86,12 +86,12 @@ pub trait PatCx {
 pub struct Present<'a> {
     pub ctors: Vec<Ctor<'a>>,
     pub missing: bool,
-    pub of: Vec<(u32, u32)>,
+    pub of: Vec<(usize, usize)>,
     pub gaps: Vec<Ctor<'a>>,
 }
 
-fn index<T: Ord>(sorted: &[T], x: &T) -> u32 {
-    sorted.partition_point(|y| y < x) as u32
+fn index<T: Ord>(sorted: &[T], x: &T) -> usize {
+    sorted.partition_point(|y| y < x)
 }
 
 pub fn present<'a, C: PatCx>(cx: &C, ty: C::Ty, sure: bool, heads: &[Ctor<'a>]) -> Present<'a> {
@@ -147,7 +147,7 @@ fn variants<'a, C: PatCx>(cx: &C, ty: C::Ty, sure: bool, count: u32, later: bool
         .map(|h| {
             let Ctor::Variant(k) = h else { unreachable!() };
             let i = index(&ks, k);
-            (i, i + (ks.get(i as usize) == Some(k)) as u32)
+            (i, i + (ks.get(i) == Some(k)) as usize)
         })
         .collect();
     Present { ctors: ks.into_iter().map(Ctor::Variant).collect(), missing, of, gaps: vec![] }
@@ -191,26 +191,26 @@ fn numbers<'a>(whole: &Whole, heads: &[Ctor<'a>]) -> Present<'a> {
     let n = cuts.len();
     // how many heads begin at a cut, less those that ended there
     let mut rise = vec![0i32; n + 1];
-    let mut of: Vec<(u32, u32)> = Vec::with_capacity(heads.len());
+    let mut of: Vec<(usize, usize)> = Vec::with_capacity(heads.len());
     for h in heads {
         let Ctor::Numbers(lo, hi) = h else { unreachable!() };
         let next = whole.after(*hi);
-        let (a, b) = (index(&cuts, lo), if next == FREE_HIGH { n as u32 } else { index(&cuts, &next) });
-        rise[a as usize] += 1;
-        rise[b as usize] -= 1;
+        let (a, b) = (index(&cuts, lo), if next == FREE_HIGH { n } else { index(&cuts, &next) });
+        rise[a] += 1;
+        rise[b] -= 1;
         of.push((a, b));
     }
     let (mut ctors, mut gaps, mut at) = (vec![], vec![], Vec::with_capacity(n + 1));
     let mut held = 0;
     for i in 0..n {
-        at.push(ctors.len() as u32);
+        at.push(ctors.len());
         held += rise[i];
         let c = Ctor::Numbers(cuts[i], if i + 1 < n { whole.before(cuts[i + 1]) } else { whole.last() });
         if held > 0 { ctors.push(c) } else { gaps.push(c) }
     }
-    at.push(ctors.len() as u32);
+    at.push(ctors.len());
     for o in of.iter_mut() {
-        *o = (at[o.0 as usize], at[o.1 as usize]);
+        *o = (at[o.0], at[o.1]);
     }
     Present { ctors, missing: !gaps.is_empty(), of, gaps }
 }
@@ -230,7 +230,7 @@ fn lengths<'a>(items: bool, heads: &[Ctor<'a>]) -> Present<'a> {
     }
     let top = top.max(front + back) as usize;
     let mut rise = vec![0i32; top + 2];
-    let mut of: Vec<(u32, u32)> = vec![];
+    let mut of: Vec<(usize, usize)> = vec![];
     for h in heads {
         let (a, b) = match h {
             Ctor::Fixed(n) => (*n as usize, *n as usize + 1),
@@ -239,12 +239,12 @@ fn lengths<'a>(items: bool, heads: &[Ctor<'a>]) -> Present<'a> {
         };
         rise[a] += 1;
         rise[b] -= 1;
-        of.push((a as u32, b as u32));
+        of.push((a, b));
     }
     let (mut ctors, mut gaps, mut at) = (vec![], vec![], vec![]);
     let mut held = 0;
     for n in 0..=top {
-        at.push(ctors.len() as u32);
+        at.push(ctors.len());
         held += rise[n];
         if n > 0 && !items {
             continue;
@@ -252,9 +252,9 @@ fn lengths<'a>(items: bool, heads: &[Ctor<'a>]) -> Present<'a> {
         let c = if n < top { Ctor::Fixed(n as u64) } else { Ctor::Longer(top as u64 - back, back) };
         if held > 0 { ctors.push(c) } else { gaps.push(c) }
     }
-    at.push(ctors.len() as u32);
+    at.push(ctors.len());
     for o in of.iter_mut() {
-        *o = (at[o.0 as usize], at[o.1 as usize]);
+        *o = (at[o.0], at[o.1]);
     }
     Present { ctors, missing: !gaps.is_empty(), of, gaps }
 }

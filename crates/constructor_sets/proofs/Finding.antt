@@ -1,10 +1,9 @@
 -- What is found of the pieces of a set, piece by piece.
-use Rattle.std.proofs.Common.{◌≡◌, ℕ, ◌+◌, ◌<◌, Bool, true, false, ◌||◌, List, [], ◌∷◌, ◌++◌, map, filter_map, take, length, get_or, refl, sym, ap, subst, ◌∙◌, arith, IsTrue}
+use Rattle.std.proofs.Common.{◌≡◌, ℕ, ◌+◌, ◌<◌, Bool, true, false, ◌||◌, List, [], ◌∷◌, ◌++◌, map, filter_map, take, length, get_or, refl, sym, ap, subst, ◌∙◌, arith}
 use Rattle.std.specs.List.{All, list_any}
 use Rattle.std.proofs.lemmas.List.{map-append}
 use Rattle.std.proofs.lemmas.List.Elements.{All-push, filter_map-append}
 use Rattle.std.proofs.lemmas.List.Folds.{list_any-append}
-use Rattle.std.proofs.lemmas.Grind.{common_steps}
 use Rattle.match_model.specs.Values.{MValue}
 use Rattle.match_model.specs.Constructors.{MCtor, MSet, has_piece}
 use Rattle.match_model.specs.Contexts.{Context, Open}
@@ -16,7 +15,7 @@ use Rattle.pat_context.specs.declared.ctor.Ctor.{Ctor}
 use Rattle.pat_context.specs.declared.ctor.CtorSet.{CtorSet}
 use Rattle.constructor_sets.specs.declared.piece.Piece.{Piece}
 use Rattle.constructor_sets.specs.declared.piece.PieceState.{PieceState}
-use Rattle.constructor_sets.specs.Columns.{is_head, writes, plain_ctors, plain_piece, plain_flagged, IsSetSplit}
+use Rattle.constructor_sets.specs.Columns.{writes, plain_ctors, plain_piece, plain_flagged, IsSetSplit}
 use Rattle.constructor_sets.specs.Serving.{IsServing, IsFoundState}
 use Rattle.constructor_sets.specs.Present.{present_piece, is_missing, gap_of, AreFound, AreFoundOf}
 use Rattle.constructor_sets.proofs.Sharp.{AreSharp, sharp_heads, sharp_writes}

@@ -1,19 +1,18 @@
 -- What is missing of a column, said of values.
-use Rattle.std.proofs.Common.{◌≡◌, ◌≢◌, ℕ, ◌+◌, Bool, true, false, ◌||◌, List, [], ◌∷◌, map, refl, sym, ap, ◌∙◌, arith, IsTrue}
+use Rattle.std.proofs.Common.{◌≡◌, ℕ, ◌+◌, Bool, true, false, ◌||◌, List, [], ◌∷◌, map, refl, sym, ap, ◌∙◌, arith}
 use Rattle.std.specs.List.{All, list_any}
 use Rattle.std.proofs.lemmas.List.Elements.{All-head, All-tail}
-use Rattle.match_model.specs.Values.{MValue, Unseen, Thing}
+use Rattle.match_model.specs.Values.{MValue}
 use Rattle.match_model.specs.Constructors.{MCtor, builds, has_piece}
 use Rattle.match_model.specs.Contexts.{Context, Open}
 use Rattle.match_model.specs.PieceStates.{named_in}
-use Rattle.match_model.specs.Rows.{is_wild_ctor}
 use Rattle.match_model.proofs.Basics.{untrue}
 use Rattle.range_split.proofs.Splits.{All-unmap}
 use Rattle.constructor_sets.specs.declared.piece.PieceState.{PieceState}
 use Rattle.constructor_sets.specs.declared.piece.PieceState.TheVariants.{Present, Missing, Empty}
 use Rattle.constructor_sets.specs.Columns.{IsOneSided, IsState, hits, one}
-use Rattle.constructor_sets.specs.Present.{is_missing, AreFound}
-use Rattle.constructor_sets.specs.Laws.{head_has, TellsWhatIsMissing, MissingIsOfValues}
+use Rattle.constructor_sets.specs.Present.{is_missing}
+use Rattle.constructor_sets.specs.Laws.{head_has, MissingIsOfValues}
 
 -- of a value that the piece builds, the heads that have it are those that have the piece
 agree : (named : List (List ℕ)) (p : MCtor) (heads : List MCtor) (v : MValue) → All (IsOneSided named p) heads → builds named p v ≡ true →

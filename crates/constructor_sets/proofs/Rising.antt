@@ -160,16 +160,16 @@ rising_of NothingSet heads pieces asc a = subst (AllPairs Precedes) (sym a) (λ 
 
 -- the pieces that are present are in order too
 
-kept_behind : (c : MCtor) (ps : List (MCtor × PieceState)) → All (Precedes c) (map (λ p. p.0) ps) → All (Precedes c) (filter_map present_piece ps)
-kept_behind c [] all = All-nil (Precedes c)
-kept_behind c ((p, Present) ∷ ps) all =
-    All-cons (Precedes c) p (filter_map present_piece ps) (All-head (Precedes c) p (map (λ q. q.0) ps) all) (kept_behind c ps (All-tail (Precedes c) p (map (λ q. q.0) ps) all))
-kept_behind c ((p, Missing) ∷ ps) all = kept_behind c ps (All-tail (Precedes c) p (map (λ q. q.0) ps) all)
-kept_behind c ((p, Empty) ∷ ps) all = kept_behind c ps (All-tail (Precedes c) p (map (λ q. q.0) ps) all)
+-- what holds of each piece holds of those that are present
+pub kept_each : (P : MCtor → Type 0) (ps : List (MCtor × PieceState)) → All P (map (λ p. p.0) ps) → All P (filter_map present_piece ps)
+kept_each P [] all = All-nil P
+kept_each P ((p, Present) ∷ ps) all = All-cons P p (filter_map present_piece ps) (All-head P p (map (λ q. q.0) ps) all) (kept_each P ps (All-tail P p (map (λ q. q.0) ps) all))
+kept_each P ((p, Missing) ∷ ps) all = kept_each P ps (All-tail P p (map (λ q. q.0) ps) all)
+kept_each P ((p, Empty) ∷ ps) all = kept_each P ps (All-tail P p (map (λ q. q.0) ps) all)
 
 pub kept_rise : (ps : List (MCtor × PieceState)) → AllPairs Precedes (map (λ p. p.0) ps) → AllPairs Precedes (filter_map present_piece ps)
 kept_rise [] all = λ i j d l m. absurd (omega arith)
 kept_rise ((p, Present) ∷ ps) all =
-    AllPairs-cons Precedes p (filter_map present_piece ps) (kept_behind p ps (first_before Precedes p (map (λ q. q.0) ps) all)) (kept_rise ps (rest_pairs Precedes p (map (λ q. q.0) ps) all))
+    AllPairs-cons Precedes p (filter_map present_piece ps) (kept_each (Precedes p) ps (first_before Precedes p (map (λ q. q.0) ps) all)) (kept_rise ps (rest_pairs Precedes p (map (λ q. q.0) ps) all))
 kept_rise ((p, Missing) ∷ ps) all = kept_rise ps (rest_pairs Precedes p (map (λ q. q.0) ps) all)
 kept_rise ((p, Empty) ∷ ps) all = kept_rise ps (rest_pairs Precedes p (map (λ q. q.0) ps) all)

@@ -1,12 +1,13 @@
 -- Of pieces in order a head has those between the ones that lie before and the ones behind.
-use Rattle.std.proofs.Common.{◌≡◌, ◌⊎◌, inl, inr, ℕ, ◌+◌, ◌-◌, ◌<◌, ◌≤◌, Bool, true, false, not, ◌&&◌, ◌||◌, nat_eq, nat_lt, nat_le, List, [], ◌∷◌, ◌++◌, map, take, length, get_or, refl, sym, ap, subst, ◌∙◌, arith}
-use Rattle.std.specs.List.{AllPairs}
+use Rattle.std.proofs.Common.{◌≡◌, ◌⊎◌, inl, inr, ℕ, ◌+◌, ◌-◌, ◌<◌, ◌≤◌, Bool, true, false, not, ◌&&◌, ◌||◌, nat_eq, nat_lt, nat_le, List, [], ◌∷◌, ◌++◌, map, take, length, get_or, replicate, zero, suc, IsTrue, refl, sym, ap, subst, ◌∙◌, arith}
+use Rattle.std.specs.List.{All, AllPairs}
 use Rattle.std.specs.List.Sorted.{IsPartitionedBy, IsPartitionPoint}
 use Rattle.std.specs.Ordering.{is_lt, ordering_reverse}
 use Rattle.std.specs.declared.cmp.Ordering.{Ordering}
 use Rattle.std.specs.declared.cmp.Ordering.TheVariants.{Less, Equal, Greater}
 use Rattle.std.proofs.lemmas.Cmp.{nat_list_cmp_total}
 use Rattle.std.proofs.lemmas.Bool.Decides.{nat_tests}
+use Rattle.std.proofs.lemmas.List.Elements.{All-head, All-tail}
 use Rattle.std.proofs.lemmas.List.{get_or-map, length-map, map-append}
 use Rattle.std.proofs.lemmas.Grind.{common_steps}
 use Rattle.match_model.specs.Texts.{text_eq, compare_texts}
@@ -19,7 +20,7 @@ use Rattle.pat_context.specs.Views.{plain_ctor}
 use Rattle.pat_context.specs.declared.ctor.Ctor.{Ctor}
 use Rattle.pat_context.specs.declared.ctor.Ctor.TheVariants as c
 use Rattle.constructor_sets.specs.Columns.{plain_ctors}
-use Rattle.constructor_sets.specs.Spans.{starts_before, shape_starts_before, is_up_to_head, Precedes, plain_span, IsSpan, AreSpans, HoldsBelow, FailsAt, IsFirst, IsEnd}
+use Rattle.constructor_sets.specs.Spans.{starts_before, shape_starts_before, is_up_to_head, Precedes, plain_span, IsSpan, AreSpans, HoldsBelow, FailsAt, IsFirst, IsEnd, AreHadByAll}
 use Rattle.constructor_sets.specs.declared.piece.Span.{Span}
 
 -- texts
@@ -311,3 +312,35 @@ more_spans pieces heads i x old new s l e n a b =
     subst (λ hs. AreSpans (plain_ctors pieces) hs (map plain_span new)) (sym (ap plain_ctors grown ∙ map-append plain_ctor (take i heads) (x ∷ [])))
     (subst (AreSpans (plain_ctors pieces) (plain_ctors (take i heads) ++ plain_ctor x ∷ [])) (sym (ap (map plain_span) n ∙ map-append plain_span old (s ∷ [])))
     (pushed (plain_ctors pieces) (plain_ctors (take i heads)) (map plain_span old) (plain_ctor x) (plain_span s) a b))
+
+-- where each head has each piece
+
+whole_span : (pieces : List MCtor) (h : MCtor) → All (λ p. IsTrue (has_piece h p)) pieces → IsSpan pieces h (0, length pieces)
+whole_span pieces h all = record {
+  forward = omega arith;
+  within = omega arith;
+  each = λ i d l. all i d l ∙ sym (told i (length pieces) l);
+}
+  where
+    told : (i n : ℕ) → i < n → (nat_le 0 i && nat_lt i n) ≡ true
+    told i n l = grind (arith, nat_tests)
+
+pub whole_spans : (pieces heads : List MCtor) → AreHadByAll pieces heads → AreSpans pieces heads (replicate (length heads) (0, length pieces))
+whole_spans pieces [] all = tt
+whole_spans pieces (h ∷ hs) all = (
+  whole_span pieces h (λ k d l. All-head (λ x. IsTrue (has_piece x (get_or pieces k d))) h hs (all k d l)),
+  whole_spans pieces hs (λ k d l. All-tail (λ x. IsTrue (has_piece x (get_or pieces k d))) h hs (all k d l)),
+)
+
+map-replicate : (n : ℕ) (s : Span) → map plain_span (replicate n s) ≡ replicate n (plain_span s)
+map-replicate zero s = refl
+map-replicate (suc n) s = ap (λ xs. plain_span s ∷ xs) (map-replicate n s)
+
+pub repeated_spans : (pieces heads : List Ctor) (s : Span) (spans : List Span) → AreHadByAll (plain_ctors pieces) (plain_ctors heads) → plain_span s ≡ (0, length pieces) → spans ≡ replicate (length heads) s →
+    AreSpans (plain_ctors pieces) (plain_ctors heads) (map plain_span spans)
+repeated_spans pieces heads s spans all e f =
+    subst (AreSpans (plain_ctors pieces) (plain_ctors heads))
+    (sym
+    (ap (map plain_span) f ∙ map-replicate (length heads) s ∙ ap (replicate (length heads)) e ∙ ap (λ n. replicate n (0, length pieces)) (sym (length-map heads plain_ctor))
+    ∙ ap (λ n. replicate (length (plain_ctors heads)) (0, n)) (sym (length-map pieces plain_ctor))))
+    (whole_spans (plain_ctors pieces) (plain_ctors heads) all)

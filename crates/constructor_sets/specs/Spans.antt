@@ -1,6 +1,7 @@
 -- Which pieces a head has: those between the pieces that lie before them and the pieces behind.
 use Rattle.std.specs.Prelude.{◌≡◌, ℕ, ◌-◌, ◌≤◌, ◌<◌, Bool, true, false, not, ◌&&◌, ◌||◌, List, [], ◌∷◌, length, slice_index_or, nat_lt, nat_le, ⊤, IsTrue}
 use Rattle.std.specs.Ordering.{is_lt}
+use Rattle.std.specs.List.{All}
 use Rattle.std.specs.List.Sorted.{IsPartitionPoint}
 use Rattle.match_model.specs.Texts.{compare_texts}
 use Rattle.match_model.specs.Constructors.{MShape, MCtor, LaterCtor, OtherTextCtor, VariantCtor, FlagCtor, NumbersCtor, TextCtor, RowCtor, least_length, low_within, high_within, has_piece}
@@ -51,6 +52,10 @@ abbrev pub AreSpans : (pieces heads : List MCtor) → List (ℕ × ℕ) → Type
 AreSpans pieces [] [] = ⊤
 AreSpans pieces (h ∷ heads) (s ∷ spans) = IsSpan pieces h s × AreSpans pieces heads spans
 AreSpans pieces _ _ = ⊥
+
+-- each head has each of the pieces
+abbrev pub AreHadByAll : (pieces heads : List MCtor) → Type 0
+AreHadByAll pieces heads = All (λ p. All (λ h. IsTrue (has_piece h p)) heads) pieces
 
 -- the test holds of the piece just below the place, if there is one
 abbrev pub HoldsBelow : (p : Ctor → Bool) → (pieces : List Ctor) → (place : ℕ) → Type 0

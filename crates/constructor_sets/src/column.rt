@@ -11,7 +11,7 @@ ghost use Rattle.constructor_sets.specs.Present.{AreFoundOf, ArePresent};
 
 use crate::numbers::found_numbers;
 use crate::set_pieces::set_pieces;
-use crate::spans::spans_of;
+use crate::spans::spans_by_set;
 use crate::split::piece_state;
 use crate::variants::found_variants;
 use crate::{PieceState, PresentPieces};
@@ -39,7 +39,7 @@ pub fn present<'a, C: PatCx>(
         (plain_ctors p.ctors.items) p.missing (plain_ctors p.gaps.items) (map plain_span p.spans.items)) }
 {
     let found = found_by_set(alloc, cx, ty, validity, heads)?;
-    let spans = spans_of(alloc, &found.ctors, heads)?;
+    let spans = spans_by_set(alloc, cx.set(ty), &found.ctors, heads)?;
     Ok(PresentPieces {
         ctors: found.ctors,
         missing: found.missing,

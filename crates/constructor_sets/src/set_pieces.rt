@@ -1,5 +1,5 @@
 // The pieces of a set of constructors by the heads of a column.
-ghost use Rattle.std.specs.Prelude.{◌≡◌, ◌<◌, ◌^◌, IsTrue, IfOk, OnOk, map, length, true};
+ghost use Rattle.std.specs.Prelude.{◌≡◌, ◌<◌, ◌^◌, None, IsTrue, IfOk, OnOk, map, length, true};
 ghost use Rattle.std.specs.List.{All, list_any, filter_map};
 ghost use Rattle.std.specs.Str.{IsUtf8};
 ghost use Rattle.match_model.specs.Constructors.{VariantSet, NumberSet, SingleSet, PointSet, FlagSet, TextSet};
@@ -13,6 +13,7 @@ ghost use Rattle.pat_context.specs.Views.{plain_ctor, plain_set, plain_second};
 ghost use Rattle.constructor_sets.specs.Columns.{is_head, writes, plain_ctors, plain_flagged, plain_texts};
 ghost use Rattle.constructor_sets.specs.Columns.{IsSetSplit, AreVariantMarks, shape_of, AddsRanges, IsVariantBelow};
 
+use crate::arrays::array;
 use crate::heads::is_written;
 use no_memory::NoMemory;
 use pat_context::{Ctor, CtorSet};
@@ -37,7 +38,8 @@ pub(crate) fn set_pieces<'a>(
         CtorSet::Variants { count, later } => variants(alloc, count, later, column),
         CtorSet::Numbers { first, second } => numbers(alloc, &first, &second, column),
         CtorSet::Texts => texts(alloc, column),
-        CtorSet::Rows { len } => rows(alloc, len, column),
+        CtorSet::Rows { len: Some(len) } => array(alloc, len, column),
+        CtorSet::Rows { len: None } => slices(alloc, column),
         CtorSet::Opaque => Ok(Vec::new(alloc)),
         CtorSet::Nothing => Ok(Vec::new(alloc)),
     }
@@ -237,17 +239,13 @@ fn as_text(text: &str) -> &str
     text
 }
 
-// The pieces of rows.
-fn rows<'a>(
-    alloc: Global,
-    len: Option<u64>,
-    column: &[Ctor<'a>],
-) -> Result<Vec<(Ctor<'a>, bool)>, NoMemory>
-    requires { All (λ h. IsTrue (is_head (RowSet len) h)) (plain_ctors column.now) }
-    ensures { IfOk result (λ v. IsSetSplit (RowSet len) (plain_ctors column.now) (plain_flagged v.items)) }
+// The pieces of rows of every length.
+fn slices<'a>(alloc: Global, column: &[Ctor<'a>]) -> Result<Vec<(Ctor<'a>, bool)>, NoMemory>
+    requires { All (λ h. IsTrue (is_head (RowSet None) h)) (plain_ctors column.now) }
+    ensures { IfOk result (λ v. IsSetSplit (RowSet None) (plain_ctors column.now) (plain_flagged v.items)) }
 {
     let shapes = shapes_of(alloc, column)?;
-    let lengths = split_lengths(alloc, len, &shapes)?;
+    let lengths = split_lengths(alloc, None, &shapes)?;
     row_pieces(alloc, &lengths)
 }
 

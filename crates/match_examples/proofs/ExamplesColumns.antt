@@ -10,7 +10,7 @@ use Rattle.match_model.specs.Values.{MValue, Flag, Num, Text, Node, Point, Row, 
 use Rattle.match_model.specs.Typing.{is_value}
 use Rattle.match_model.specs.Texts.{text_eq}
 use Rattle.match_model.specs.Numbers.{MRange, Free, At}
-use Rattle.match_model.specs.Constructors.{FixedShape, LongerShape, MCtor, SingleCtor, PointCtor, LaterCtor, OtherTextCtor, VariantCtor, FlagCtor, NumbersCtor, TextCtor, RowCtor, builds}
+use Rattle.match_model.specs.Constructors.{FixedShape, LongerShape, MCtor, SingleCtor, PointCtor, LaterCtor, OtherTextCtor, VariantCtor, FlagCtor, NumbersCtor, TextCtor, RowCtor, WildCtor, builds}
 use Rattle.match_model.specs.Pieces.{ArePieces, AreNamed, IsCut, last_one, one_more}
 use Rattle.match_model.specs.PieceStates.{IsPresentPiece, IsMissingPiece, IsEmptyPiece, named_in}
 use Rattle.match_model.specs.RustTypes.{rust_set, RustValue}
@@ -302,3 +302,44 @@ empty_array = (refl, ((λ e. no_array e.0 e.1 e.2), tt))
 -- the greatest array: its one piece
 pub greatest_array : ArePieces (rust_set program (ArrayType BoolType 4294967295)) (longer 1 0 ∷ longer 0 2 ∷ []) (longer 1 2 ∷ [])
 greatest_array = refl
+
+-- at an unsure place all pieces have values that have them at a sure one
+pub flags_unsure : Column BoolType false [] ((FlagCtor false, missing) ∷ (FlagCtor true, missing) ∷ [])
+flags_unsure = (refl, (((Flag false, refl, refl), refl), (((Flag true, refl, refl), refl), tt)))
+
+pub reference_unsure : Column (PointType false NeverType) false (PointCtor ∷ []) ((PointCtor, present) ∷ [])
+reference_unsure = (refl, (((Point false Unseen, refl, refl), refl), tt))
+
+pub variants_named_unsure : Column choice false (VariantCtor 0 ∷ []) ((VariantCtor 0, present) ∷ (VariantCtor 1, missing) ∷ [])
+variants_named_unsure = (refl, (((with_unseen, refl, refl), refl), (((with_flag, refl, refl), refl), tt)))
+
+pub marked_unsure : Column (declared 1) false [] ((VariantCtor 0, missing) ∷ (VariantCtor 1, missing) ∷ (LaterCtor, missing) ∷ [])
+marked_unsure = (refl, (((Node 0 no_values, refl, refl), refl), (((Node 1 no_values, refl, refl), refl), (((Later, refl, refl), refl), tt))))
+
+pub array_ends_unsure : Column (ArrayType BoolType 3) false (longer 1 0 ∷ longer 0 1 ∷ []) ((longer 1 1, present) ∷ [])
+array_ends_unsure = (refl, (((flags_of (Flag true ∷ Flag true ∷ Flag true ∷ []), refl, refl), refl), tt))
+
+-- no text: all texts are others
+none_named : AreNamed [] []
+unfolding IsStrictlySortedBy
+none_named = record { each = λ t. refl; ascending = tt }
+
+pub any_text : Column StrType false [] ((OtherTextCtor, missing) ∷ [])
+any_text = (([], none_named, refl), (((Text [], refl, refl), refl), tt))
+
+-- `!` has no piece, at a sure place or not
+pub never_sure : Column NeverType true [] []
+never_sure = (refl, tt)
+
+pub never_unsure : Column NeverType false [] []
+never_unsure = (refl, tt)
+
+-- a wildcard has every piece, and makes none: on flags, on a marked enum and its later variants, and on texts with those that no head names
+pub flags_wild : Column BoolType true (WildCtor ∷ []) ((FlagCtor false, present) ∷ (FlagCtor true, present) ∷ [])
+flags_wild = (refl, (((Flag false, refl, refl), refl), (((Flag true, refl, refl), refl), tt)))
+
+pub marked_wild : Column (declared 1) true (VariantCtor 0 ∷ WildCtor ∷ []) ((VariantCtor 0, present) ∷ (VariantCtor 1, present) ∷ (LaterCtor, present) ∷ [])
+marked_wild = (refl, (((Node 0 no_values, refl, refl), refl), (((Node 1 no_values, refl, refl), refl), (((Later, refl, refl), refl), tt))))
+
+pub lengths_wild : Column (SliceType BoolType) true (WildCtor ∷ fixed 0 ∷ []) ((fixed 0, present) ∷ (longer 1 0, present) ∷ [])
+lengths_wild = (refl, (((flags_of [], refl, refl), refl), (((flags_of (Flag true ∷ []), refl, refl), refl), tt)))
