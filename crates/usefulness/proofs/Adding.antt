@@ -15,10 +15,10 @@ use Rattle.pattern_matrix.specs.Counting.{Question}
 use Rattle.pattern_matrix.specs.Searching.{Submatrix}
 use Rattle.usefulness.specs.declared.frames.Frame.{Frame}
 use Rattle.usefulness.specs.declared.frames.Apart.{Apart}
-use Rattle.usefulness.specs.declared.marks.Marks.{Marks}
-use Rattle.usefulness.specs.Marking.{is_marked}
+use Rattle.usefulness.specs.declared.frames.Reached.{Reached}
+use Rattle.usefulness.specs.Scope.{Scope}
 use Rattle.usefulness.specs.Listing.{IsListedAs, AreAllListed}
-use Rattle.usefulness.specs.States.{frame_view, frame_views, child_views, IsGood, piece_view}
+use Rattle.usefulness.specs.States.{frame_view, frame_views, child_views, IsGood, piece_view, is_noted, scope_of}
 use Rattle.usefulness.proofs.Looking.{one_listed}
 use Rattle.usefulness.proofs.Searching.{AreAdded}
 
@@ -27,9 +27,9 @@ all_of P None h = All-nil P
 all_of P (Some x) h = All-cons P x [] h (All-nil P)
 
 -- the child is good, and one submatrix more is listed
-pub good_added : {T : Type 0} (arms : ℕ) (frames after : List (Frame T)) (child : Option (Frame T)) → after ≡ frames ++ option_to_list child → All (IsGood arms) frames → IfSome child (λ f. IsGood arms f) →
-    All (IsGood arms) after
-good_added arms frames after child e a h = subst (All (IsGood arms)) (sym e) (All-append (IsGood arms) frames (option_to_list child) a (all_of (IsGood arms) child h))
+pub good_added : {T : Type 0} (scope : Scope T) (frames after : List (Frame T)) (child : Option (Frame T)) → after ≡ frames ++ option_to_list child → All (IsGood scope) frames → IfSome child (λ f. IsGood scope f) →
+    All (IsGood scope) after
+good_added scope frames after child e a h = subst (All (IsGood scope)) (sym e) (All-append (IsGood scope) frames (option_to_list child) a (all_of (IsGood scope) child h))
 
 pub child_added : {T : Type 0} (IsValue : T → Bool → MValue → Type 0) (old now then : Question → Bool) (left : List (Submatrix T)) (s : Submatrix T) (frames after : List (Frame T)) (child : Option (Frame T)) →
     after ≡ frames ++ option_to_list child → AreAllListed IsValue old now left (frame_views frames) → IsListedAs IsValue now then s (child_views child) →
@@ -51,17 +51,17 @@ none_is done zero e = refl
 none_is done (suc n) e = cc
 
 module _ {T : Type 0} (IsValue : T → Bool → MValue → Type 0) (cx : Context T) (a : Apart T) (missing : Bool) (ctors : List MCtor) (spans : List Span)
-    (first now : Marks) (start new : List (Frame T)) (todo : List Part) (added : AreAdded IsValue cx a missing ctors spans first now start new todo) where
+    (first now : Reached T) (start new : List (Frame T)) (todo : List Part) (added : AreAdded IsValue cx a missing ctors spans first now start new todo) where
   -- the piece that comes next
   pub next_within : (piece : ℕ) (rest : List ℕ) → pieces_left todo ≡ piece ∷ rest → piece < length ctors
   next_within piece rest e =
       let (some, same, more) = next_is added.done (length ctors - added.done) piece rest (sym added.left ∙ e) in
       omega (arith, some, same)
 
-  pub one_added : (piece : ℕ) (ctor : MCtor) (then : Marks) (after : List (Frame T)) (others : List Part) → pieces_left todo ≡ piece ∷ pieces_left others → All (IsFull spans) others →
-      ctor ≡ get_or ctors piece ctor → length then.arms.items ≡ length now.arms.items → All (IsGood (length first.arms.items)) after →
-      ((old : Question → Bool) (left : List (Submatrix T)) → AreAllListed IsValue old (is_marked now) left (frame_views new) →
-      AreAllListed IsValue old (is_marked then) (left ++ piece_view cx a missing ctor ∷ []) (frame_views after)) →
+  pub one_added : (piece : ℕ) (ctor : MCtor) (then : Reached T) (after : List (Frame T)) (others : List Part) → pieces_left todo ≡ piece ∷ pieces_left others → All (IsFull spans) others →
+      ctor ≡ get_or ctors piece ctor → scope_of then ≡ scope_of now → All (IsGood (scope_of first)) after →
+      ((old : Question → Bool) (left : List (Submatrix T)) → AreAllListed IsValue old (is_noted now) left (frame_views new) →
+      AreAllListed IsValue old (is_noted then) (left ++ piece_view cx a missing ctor ∷ []) (frame_views after)) →
       AreAdded IsValue cx a missing ctors spans first then start after others
   one_added piece ctor then after others e f g k h l =
       let done = added.done in
@@ -70,35 +70,35 @@ module _ {T : Type 0} (IsValue : T → Bool → MValue → Type 0) (cx : Context
       record {
         done = done + 1;
         within = omega (arith, within);
-        arms = k ∙ added.arms;
+        scope = k ∙ added.scope;
         good = h;
         full = f;
         left = more ∙ ap (columns_from (done + 1)) (let less : length ctors - done - 1 ≡ length ctors - (done + 1) = omega arith in less);
         listed = λ old left i.
             let view : MCtor → Submatrix T = piece_view cx a missing in
             let taken : take (done + 1) ctors ≡ take done ctors ++ ctor ∷ [] = take_more ctors done ctor within ∙ ap (λ z. take done ctors ++ z ∷ []) (sym (g ∙ ap (λ n. get_or ctors n ctor) same)) in
-            subst (λ ys. AreAllListed IsValue old (is_marked then) ys (frame_views after))
+            subst (λ ys. AreAllListed IsValue old (is_noted then) ys (frame_views after))
             (append_assoc left (map view (take done ctors)) (view ctor ∷ []) ∙ ap (λ ys. left ++ ys) (sym (map-append view (take done ctors) (ctor ∷ [])) ∙ ap (map view) (sym taken)))
             (l old (left ++ map view (take done ctors)) (added.listed old left i));
       }
 
   -- none is left
-  pub all_added : pieces_left todo ≡ [] → (old : Question → Bool) (left : List (Submatrix T)) → AreAllListed IsValue old (is_marked first) left (frame_views start) →
-      AreAllListed IsValue old (is_marked now) (left ++ map (piece_view cx a missing) ctors) (frame_views new)
+  pub all_added : pieces_left todo ≡ [] → (old : Question → Bool) (left : List (Submatrix T)) → AreAllListed IsValue old (is_noted first) left (frame_views start) →
+      AreAllListed IsValue old (is_noted now) (left ++ map (piece_view cx a missing) ctors) (frame_views new)
   all_added e old left i =
       let none = none_is added.done (length ctors - added.done) (sym added.left ∙ e) in
-      subst (λ cs. AreAllListed IsValue old (is_marked now) (left ++ map (piece_view cx a missing) cs) (frame_views new)) (take_all added.done ctors (omega (arith, none))) (added.listed old left i)
+      subst (λ cs. AreAllListed IsValue old (is_noted now) (left ++ map (piece_view cx a missing) cs) (frame_views new)) (take_all added.done ctors (omega (arith, none))) (added.listed old left i)
 
 -- none is added at first
 pub added_first : {T : Type 0} (IsValue : T → Bool → MValue → Type 0) (cx : Context T) (a : Apart T) (missing : Bool) (ctors : List MCtor) (spans : List Span)
-    (first : Marks) (start : List (Frame T)) (todo : List Part) → All (IsGood (length first.arms.items)) start → All (IsFull spans) todo → pieces_left todo ≡ columns_from 0 (length ctors) →
+    (first : Reached T) (start : List (Frame T)) (todo : List Part) → All (IsGood (scope_of first)) start → All (IsFull spans) todo → pieces_left todo ≡ columns_from 0 (length ctors) →
     AreAdded IsValue cx a missing ctors spans first first start start todo
 added_first IsValue cx a missing ctors spans first start todo g f e = record {
   done = 0;
   within = omega arith;
-  arms = refl;
+  scope = refl;
   good = g;
   full = f;
   left = e ∙ ap (columns_from 0) (let whole : length ctors ≡ length ctors - 0 = omega arith in whole);
-  listed = λ old left i. subst (λ ys. AreAllListed IsValue old (is_marked first) ys (frame_views start)) (sym (append-nil left)) i;
+  listed = λ old left i. subst (λ ys. AreAllListed IsValue old (is_noted first) ys (frame_views start)) (sym (append-nil left)) i;
 }

@@ -18,7 +18,8 @@ pub first_lists : {T : Type 0} (rows : List (Asked T)) → has_start (plain_aske
 first_lists [] e = untrue e
 first_lists (x ∷ rows) e = (omega arith, λ d. some_heads x.row.heads.items e)
 
-same_got : {A : Type 0} (xs : List A) (k : ℕ) (d e : A) → k < length xs → get_or xs k d ≡ get_or xs k e
+-- what stands at a place within does not depend on the default
+pub same_got : {A : Type 0} (xs : List A) (k : ℕ) (d e : A) → k < length xs → get_or xs k d ≡ get_or xs k e
 same_got [] k d e l = absurd (omega (arith, l))
 same_got (x ∷ xs) zero d e l = refl
 same_got (x ∷ xs) (suc k) d e l = same_got xs k d e (omega (arith, l))

@@ -7,13 +7,13 @@ use Rattle.match_model.specs.ArenaPatterns.{MDeMatch}
 use Rattle.pattern_matrix.specs.Counting.{Question}
 use Rattle.pattern_matrix.specs.Searching.{Submatrix, IsFit, IsSearch, first_submatrix}
 use Rattle.usefulness.specs.declared.frames.Listing.{Listing}
-use Rattle.usefulness.specs.declared.marks.Marks.{Marks}
+use Rattle.usefulness.specs.declared.frames.Reached.{Reached}
 use Rattle.usefulness.specs.Children.{bare_sub}
 use Rattle.usefulness.specs.Frames.{AreOpen, sub_view, subs_of}
 use Rattle.usefulness.specs.Listing.{IsListedAs}
-use Rattle.usefulness.specs.Marking.{is_marked}
+use Rattle.usefulness.specs.Scope.{Scope}
 use Rattle.usefulness.specs.Starting.{asked_from}
-use Rattle.usefulness.specs.States.{plain_askeds, IsListed}
+use Rattle.usefulness.specs.States.{plain_askeds, IsListed, is_noted}
 use Rattle.usefulness.proofs.BareRows.{fit_bare}
 use Rattle.usefulness.proofs.Beginning.{search_begins, first_view}
 use Rattle.usefulness.proofs.Listed.{listing_ends}
@@ -35,14 +35,14 @@ module _ {T : Type 0} (IsType : T → Type 0) (IsValue : T → Bool → MValue �
     listed = l.listed;
   }
 
-  pub first_search : (count : ℕ) (m : MDeMatch T) (old : Question → Bool) (now : Marks) (l : Listing T) (new : List (Submatrix T)) → ((q : Question) → old q ≡ false) → IsFit IsType IsValue cx (first_submatrix m) →
-      IsListed count old now (0 ∷ []) (asked_from m.arms) l → new ≡ subs_of ((0, record { type = m.type; sure = m.sure }) ∷ []) (take l.end (plain_askeds l.rows.items)) →
-      IsSearch IsType IsValue cx (bare_sub (first_submatrix m)) (is_marked now) new []
-  first_search count m old now l new none f i e =
+  pub first_search : (scope : Scope T) (m : MDeMatch T) (old : Question → Bool) (now : Reached T) (l : Listing T) (new : List (Submatrix T)) → ((q : Question) → old q ≡ false) → IsFit IsType IsValue cx (first_submatrix m) →
+      IsListed scope old now (0 ∷ []) (asked_from m.arms) l → new ≡ subs_of ((0, record { type = m.type; sure = m.sure }) ∷ []) (take l.end (plain_askeds l.rows.items)) →
+      IsSearch IsType IsValue cx (bare_sub (first_submatrix m)) (is_noted now) new []
+  first_search scope m old now l new none f i e =
       let shown : List (ℕ × Open T) = (0, record { type = m.type; sure = m.sure }) ∷ [] in
       let kept = plain_askeds l.rows.items in
-      search_begins IsType IsValue cx (bare_sub (first_submatrix m)) (is_marked now) new (fit_bare IsType IsValue cx (first_submatrix m) f)
-      (subst (λ s. IsListedAs IsValue (λ q. false) (is_marked now) s new) (first_view m)
-      (subst (IsListedAs IsValue (λ q. false) (is_marked now) (sub_view shown (asked_from m.arms))) (sym e)
-      (none_before old (is_marked now) (sub_view shown (asked_from m.arms)) (subs_of shown (take l.end kept)) none
-      (listing_ends IsValue old (is_marked now) shown (asked_from m.arms) kept f.some l.closed l.end i.listed i.kept.end))))
+      search_begins IsType IsValue cx (bare_sub (first_submatrix m)) (is_noted now) new (fit_bare IsType IsValue cx (first_submatrix m) f)
+      (subst (λ s. IsListedAs IsValue (λ q. false) (is_noted now) s new) (first_view m)
+      (subst (IsListedAs IsValue (λ q. false) (is_noted now) (sub_view shown (asked_from m.arms))) (sym e)
+      (none_before old (is_noted now) (sub_view shown (asked_from m.arms)) (subs_of shown (take l.end kept)) none
+      (listing_ends IsValue old (is_noted now) shown (asked_from m.arms) kept f.some l.closed l.end i.listed i.kept.end))))

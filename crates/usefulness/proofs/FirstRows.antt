@@ -1,5 +1,5 @@
 -- The rows of the arms are listed one by one, and then the one behind them.
-use Rattle.std.proofs.Common.{◌≡◌, ◌≤◌, ◌<◌, ℕ, true, false, List, [], ◌∷◌, ◌++◌, length, refl, ap, sym, subst, ◌∙◌, arith}
+use Rattle.std.proofs.Common.{◌≡◌, ◌<◌, ℕ, true, false, List, [], ◌∷◌, ◌++◌, length, refl, ap, sym, subst, ◌∙◌, arith}
 use Rattle.std.proofs.lemmas.List.{map-append, append-nil}
 use Rattle.std.proofs.lemmas.List.Elements.{All-nil, All-head, All-tail}
 use Rattle.std.specs.List.{All}
@@ -9,6 +9,7 @@ use Rattle.pattern_matrix.specs.declared.rows.Row.{Row}
 use Rattle.pattern_matrix.specs.Sparse.{SparseRow}
 use Rattle.pattern_matrix.specs.Views.{plain_row, plain_rows}
 use Rattle.pattern_matrix.specs.Starting.{starting_rows}
+use Rattle.usefulness.specs.Scope.{Scope, scope_for}
 use Rattle.usefulness.specs.Frames.{SparseAsked, IsHeadIn, IsRowIn}
 use Rattle.usefulness.specs.Starting.{wanted_all, behind_row, asked_from}
 use Rattle.usefulness.proofs.Beginning.{starting_in}
@@ -18,12 +19,12 @@ at_row : {T : Type 0} (P : SparseAsked T → Type 0) (ys : List (Row T)) (x : Ro
 at_row P [] x rest a = All-head P (record { row = plain_row x; wanted = true }) (wanted_all (plain_rows rest)) a
 at_row P (y ∷ ys) x rest a = at_row P ys x rest (All-tail P (record { row = plain_row y; wanted = true }) (wanted_all (plain_rows (ys ++ x ∷ rest))) a)
 
-pub next_in : {T : Type 0} (arms : ℕ) (m : List (MDeArm T)) (ys : List (Row T)) (x : Row T) (left rest : List (Row T)) → length m ≤ arms → plain_rows (ys ++ left) ≡ starting_rows 0 m → left ≡ x ∷ rest →
-    IsRowIn arms (0 ∷ []) (record { row = plain_row x; wanted = true })
-next_in arms m ys x left rest l e f =
-    at_row (IsRowIn arms (0 ∷ [])) ys x rest
-    (subst (λ zs. All (IsRowIn arms (0 ∷ [])) (wanted_all (plain_rows (ys ++ zs)))) f
-    (subst (λ rs. All (IsRowIn arms (0 ∷ [])) (wanted_all rs)) (sym e) (starting_in arms 0 m (omega (arith, l)))))
+pub next_in : {T : Type 0} (m : List (MDeArm T)) (ys : List (Row T)) (x : Row T) (left rest : List (Row T)) → plain_rows (ys ++ left) ≡ starting_rows 0 m → left ≡ x ∷ rest →
+    IsRowIn (scope_for m) (0 ∷ []) (record { row = plain_row x; wanted = true })
+next_in m ys x left rest e f =
+    at_row (IsRowIn (scope_for m) (0 ∷ [])) ys x rest
+    (subst (λ zs. All (IsRowIn (scope_for m) (0 ∷ [])) (wanted_all (plain_rows (ys ++ zs)))) f
+    (subst (λ rs. All (IsRowIn (scope_for m) (0 ∷ [])) (wanted_all rs)) (sym e) (starting_in (scope_for m) 0 m (omega arith) (λ p c. c))))
 
 -- what is left is less by it
 pub one_gone : {T : Type 0} (ys : List (Row T)) (x : Row T) (left rest : List (Row T)) → left ≡ x ∷ rest → plain_rows ((ys ++ x ∷ []) ++ rest) ≡ plain_rows (ys ++ left)
@@ -46,8 +47,8 @@ with_behind m ys left x e f g =
     ∙ ap (λ rs. wanted_all rs ++ record { row = behind_row (length m); wanted = true } ∷ []) (sym (ap (λ zs. plain_rows (ys ++ zs)) f ∙ ap plain_rows (append-nil ys)) ∙ e)
     ∙ sym (map-append (λ (r : SparseRow _). record { row = r; wanted = true }) (starting_rows 0 m) (behind_row (length m) ∷ []))
 
-pub behind_in : {T : Type 0} (arms n : ℕ) (x : SparseAsked T) → n < arms → x ≡ record { row = behind_row n; wanted = true } → IsRowIn arms (0 ∷ []) x
-behind_in {T} arms n x l g = subst (IsRowIn arms (0 ∷ [])) (sym g) (l, All-nil (IsHeadIn {T = T} (0 ∷ [])))
+pub behind_in : {T : Type 0} (scope : Scope T) (n : ℕ) (x : SparseAsked T) → n < scope.arms → x ≡ record { row = behind_row n; wanted = true } → IsRowIn scope (0 ∷ []) x
+behind_in scope n x l g = subst (IsRowIn scope (0 ∷ [])) (sym g) (record { arm = l; heads = All-nil (IsHeadIn scope (0 ∷ [])) })
 
 -- a row without heads is the one behind
 abbrev pub plain_behind : {T : Type 0} → List (ℕ × MDePat T) → ℕ → List ℕ → SparseAsked T

@@ -4,6 +4,17 @@ pub mod ChildRows
 pub mod Commute
 pub mod Entered
 pub mod Looking
+pub mod Unused
+pub mod Replacing
+pub mod Pinned
+pub mod SameWords
+pub mod SameSubs
+pub mod Stepping
+pub mod ToldKeys
+pub mod Writing
+pub mod Noting
+pub mod Placing
+pub mod Inside
 pub mod Through
 pub mod DoneRows
 pub mod Settled

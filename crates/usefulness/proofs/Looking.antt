@@ -33,15 +33,15 @@ listed_later old now left new g a = record {
   of_left = λ m i. let (n, j, e, s) = a.of_left m i in (n, j, e, stand_later old now (length n.places) n.rows m.rows g s);
 }
 
-in_left : {A : Type 0} (xs ys : List A) (z : A) → Contains xs z → Contains (xs ++ ys) z
+pub in_left : {A : Type 0} (xs ys : List A) (z : A) → Contains xs z → Contains (xs ++ ys) z
 in_left [] ys z (k, l, e) = absurd (omega (arith, l))
 in_left (x ∷ xs) ys z c = in_cons x z xs (λ w. Contains (x ∷ (xs ++ ys)) w) (here x (xs ++ ys)) (λ w d. there x w (xs ++ ys) (in_left xs ys w d)) c
 
-in_right : {A : Type 0} (xs ys : List A) (z : A) → Contains ys z → Contains (xs ++ ys) z
+pub in_right : {A : Type 0} (xs ys : List A) (z : A) → Contains ys z → Contains (xs ++ ys) z
 in_right [] ys z c = c
 in_right (x ∷ xs) ys z c = there x z (xs ++ ys) (in_right xs ys z c)
 
-in_either : {A : Type 0} (xs ys : List A) (z : A) → Contains (xs ++ ys) z → Contains xs z ⊎ Contains ys z
+pub in_either : {A : Type 0} (xs ys : List A) (z : A) → Contains (xs ++ ys) z → Contains xs z ⊎ Contains ys z
 in_either [] ys z c = inr c
 in_either (x ∷ xs) ys z c =
     in_cons x z (xs ++ ys) (λ w. Contains (x ∷ xs) w ⊎ Contains ys w) (inl (here x xs))

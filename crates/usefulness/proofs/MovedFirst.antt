@@ -11,6 +11,7 @@ use Rattle.pattern_matrix.specs.Searching.{Submatrix, weight_of, IsFit, IsLooked
 use Rattle.pattern_matrix.proofs.HandingOn.{here, there, in_cons}
 use Rattle.pattern_matrix.proofs.Moving.{weighs_moved, comes_moved, comes_unmoved}
 use Rattle.usefulness.specs.Frames.{SparseAsked, asked_view, asked_views, numbers, places, sub_view, IsHeadIn, IsRowIn, AreOpen}
+use Rattle.usefulness.specs.Scope.{Scope}
 
 map_second : {A B : Type 0} (f : A → B) (x : A) (xs : List A) → map f (put_second x xs) ≡ put_second (f x) (map f xs)
 map_second f x [] = refl
@@ -63,17 +64,17 @@ open_moved next i [] o = o
 open_moved next zero (c ∷ columns) o = o
 open_moved next (suc i) (c ∷ columns) o = open_second next c (moved i columns) o.0 (all_moved (λ (x : ℕ). (x < next) × (x ≢ c)) i columns o.1) (open_moved next i columns o.2)
 
-heads_moved : {T : Type 0} (i : ℕ) (columns : List ℕ) (heads : List (ℕ × MDePat T)) → All (IsHeadIn columns) heads → All (IsHeadIn (moved i columns)) heads
-heads_moved i columns [] a = All-nil (IsHeadIn (moved i columns))
-heads_moved i columns (h ∷ heads) a =
-    let b = All-head (IsHeadIn columns) h heads a in
-    All-cons (IsHeadIn (moved i columns)) h heads (moved_in i h.0 columns b.0, b.1) (heads_moved i columns heads (All-tail (IsHeadIn columns) h heads a))
+heads_moved : {T : Type 0} (scope : Scope T) (i : ℕ) (columns : List ℕ) (heads : List (ℕ × MDePat T)) → All (IsHeadIn scope columns) heads → All (IsHeadIn scope (moved i columns)) heads
+heads_moved scope i columns [] a = All-nil (IsHeadIn scope (moved i columns))
+heads_moved scope i columns (h ∷ heads) a =
+    let b = All-head (IsHeadIn scope columns) h heads a in
+    All-cons (IsHeadIn scope (moved i columns)) h heads (record { column = moved_in i h.0 columns b.column; sharp = b.sharp; known = b.known }) (heads_moved scope i columns heads (All-tail (IsHeadIn scope columns) h heads a))
 
-pub rows_in_moved : {T : Type 0} (arms i : ℕ) (columns : List ℕ) (xs : List (SparseAsked T)) → All (IsRowIn arms columns) xs → All (IsRowIn arms (moved i columns)) xs
-rows_in_moved arms i columns [] a = All-nil (IsRowIn arms (moved i columns))
-rows_in_moved arms i columns (x ∷ xs) a =
-    let b = All-head (IsRowIn arms columns) x xs a in
-    All-cons (IsRowIn arms (moved i columns)) x xs (b.0, heads_moved i columns x.row.heads b.1) (rows_in_moved arms i columns xs (All-tail (IsRowIn arms columns) x xs a))
+pub rows_in_moved : {T : Type 0} (scope : Scope T) (i : ℕ) (columns : List ℕ) (xs : List (SparseAsked T)) → All (IsRowIn scope columns) xs → All (IsRowIn scope (moved i columns)) xs
+rows_in_moved scope i columns [] a = All-nil (IsRowIn scope (moved i columns))
+rows_in_moved scope i columns (x ∷ xs) a =
+    let b = All-head (IsRowIn scope columns) x xs a in
+    All-cons (IsRowIn scope (moved i columns)) x xs (record { arm = b.arm; heads = heads_moved scope i columns x.row.heads b.heads }) (rows_in_moved scope i columns xs (All-tail (IsRowIn scope columns) x xs a))
 
 module _ {T : Type 0} (IsType : T → Type 0) (IsValue : T → Bool → MValue → Type 0) (cx : Context T) where
   -- looking at it with another place first is looking at it

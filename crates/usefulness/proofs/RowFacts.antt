@@ -9,6 +9,7 @@ use Rattle.pattern_matrix.specs.Sparse.{SparseLeaf, head_at, columns_from, liste
 use Rattle.pattern_matrix.specs.Opening.{opened_row, dropped_row}
 use Rattle.pattern_matrix.specs.Searching.{heads_in}
 use Rattle.pattern_matrix.proofs.HandingOn.{here, there, in_cons}
+use Rattle.usefulness.specs.Scope.{Scope, AreKnown}
 use Rattle.usefulness.specs.Frames.{SparseAsked, asked_view, asked_views, IsHeadIn, IsRowIn, AreOpen}
 
 -- what holds of each holds of the one that is got
@@ -27,74 +28,74 @@ in_after (x ∷ xs) ys c i = there x c (xs ++ ys) (in_after xs ys c i)
 below_all : (next : ℕ) (columns : List ℕ) (c : ℕ) → All (λ d. d < next) columns → Contains columns c → c < next
 below_all next columns c a (k, l, e) = let b = a k c l in subst (λ d. d < next) e b
 
-module _ {T : Type 0} where
+module _ {T : Type 0} (scope : Scope T) where
   -- heads at the other columns
-  others_in : (column : ℕ) (columns : List ℕ) (heads : List (ℕ × MDePat T)) → All (IsHeadIn (column ∷ columns)) heads → All (IsHeadIn columns) (without column heads)
-  others_in column columns [] h = All-nil (IsHeadIn columns)
+  others_in : (column : ℕ) (columns : List ℕ) (heads : List (ℕ × MDePat T)) → All (IsHeadIn scope (column ∷ columns)) heads → All (IsHeadIn scope columns) (without column heads)
+  others_in column columns [] h = All-nil (IsHeadIn scope columns)
   others_in column columns (x ∷ heads) h = elim (eqb_tells x.0 column) [
-    | inl same ↦ rw (same.0) (others_in column columns heads (All-tail (IsHeadIn (column ∷ columns)) x heads h))
+    | inl same ↦ rw (same.0) (others_in column columns heads (All-tail (IsHeadIn scope (column ∷ columns)) x heads h))
     | inr other ↦
-        let in_all = All-head (IsHeadIn (column ∷ columns)) x heads h in
-        rw (other.0) (All-cons (IsHeadIn columns) x (without column heads) (not_first column x.0 columns (λ e. other.1 (sym e)) in_all.0, in_all.1)
-        (others_in column columns heads (All-tail (IsHeadIn (column ∷ columns)) x heads h)))
+        let in_all = All-head (IsHeadIn scope (column ∷ columns)) x heads h in
+        rw (other.0) (All-cons (IsHeadIn scope columns) x (without column heads) (record { column = not_first column x.0 columns (λ e. other.1 (sym e)) in_all.column; sharp = in_all.sharp; known = in_all.known })
+        (others_in column columns heads (All-tail (IsHeadIn scope (column ∷ columns)) x heads h)))
   ]
 
-  more_in : (xs ys : List ℕ) (heads : List (ℕ × MDePat T)) → All (IsHeadIn ys) heads → All (IsHeadIn (xs ++ ys)) heads
-  more_in xs ys [] h = All-nil (IsHeadIn (xs ++ ys))
+  more_in : (xs ys : List ℕ) (heads : List (ℕ × MDePat T)) → All (IsHeadIn scope ys) heads → All (IsHeadIn scope (xs ++ ys)) heads
+  more_in xs ys [] h = All-nil (IsHeadIn scope (xs ++ ys))
   more_in xs ys (x ∷ heads) h =
-      let i = All-head (IsHeadIn ys) x heads h in
-      All-cons (IsHeadIn (xs ++ ys)) x heads (in_after xs ys x.0 i.0, i.1) (more_in xs ys heads (All-tail (IsHeadIn ys) x heads h))
+      let i = All-head (IsHeadIn scope ys) x heads h in
+      All-cons (IsHeadIn scope (xs ++ ys)) x heads (record { column = in_after xs ys x.0 i.column; sharp = i.sharp; known = i.known }) (more_in xs ys heads (All-tail (IsHeadIn scope ys) x heads h))
 
-  one_more : (c : ℕ) (ys : List ℕ) (heads : List (ℕ × MDePat T)) → All (IsHeadIn ys) heads → All (IsHeadIn (c ∷ ys)) heads
+  one_more : (c : ℕ) (ys : List ℕ) (heads : List (ℕ × MDePat T)) → All (IsHeadIn scope ys) heads → All (IsHeadIn scope (c ∷ ys)) heads
   one_more c ys heads h = more_in (c ∷ []) ys heads h
 
   -- the heads of parts stand at the parts' columns
-  listed_in : (first : ℕ) (hs : List (Head T)) (others : List ℕ) → All (IsHeadIn (columns_from first (length hs) ++ others)) (listed first hs)
-  listed_in first [] others = All-nil (IsHeadIn others)
-  listed_in first (None ∷ hs) others = one_more first (columns_from (suc first) (length hs) ++ others) (listed (suc first) hs) (listed_in (suc first) hs others)
-  listed_in first (Some p ∷ hs) others = go (is_wild (Some p)) refl (one_more first (columns_from (suc first) (length hs) ++ others) (listed (suc first) hs) (listed_in (suc first) hs others))
+  listed_in : (first : ℕ) (hs : List (Head T)) (others : List ℕ) → AreKnown scope hs → All (IsHeadIn scope (columns_from first (length hs) ++ others)) (listed first hs)
+  listed_in first [] others k = All-nil (IsHeadIn scope others)
+  listed_in first (None ∷ hs) others k = one_more first (columns_from (suc first) (length hs) ++ others) (listed (suc first) hs) (listed_in (suc first) hs others k.1)
+  listed_in first (Some p ∷ hs) others k = go (is_wild (Some p)) refl (one_more first (columns_from (suc first) (length hs) ++ others) (listed (suc first) hs) (listed_in (suc first) hs others k.1))
     where
-      go : (b : Bool) → is_wild (Some p) ≡ b → All (IsHeadIn (first ∷ (columns_from (suc first) (length hs) ++ others))) (listed (suc first) hs) →
-          All (IsHeadIn (first ∷ (columns_from (suc first) (length hs) ++ others))) (cond b [] ((first, p) ∷ []) ++ listed (suc first) hs)
+      go : (b : Bool) → is_wild (Some p) ≡ b → All (IsHeadIn scope (first ∷ (columns_from (suc first) (length hs) ++ others))) (listed (suc first) hs) →
+          All (IsHeadIn scope (first ∷ (columns_from (suc first) (length hs) ++ others))) (cond b [] ((first, p) ∷ []) ++ listed (suc first) hs)
       go true e h = h
-      go false e h = All-cons (IsHeadIn (first ∷ (columns_from (suc first) (length hs) ++ others))) (first, p) (listed (suc first) hs) (here first (columns_from (suc first) (length hs) ++ others), e) h
+      go false e h = All-cons (IsHeadIn scope (first ∷ (columns_from (suc first) (length hs) ++ others))) (first, p) (listed (suc first) hs) (record { column = here first (columns_from (suc first) (length hs) ++ others); sharp = e; known = k.0 }) h
 
   -- a row that is left over, and one that is opened
-  pub dropped_in : (arms column : ℕ) (columns : List ℕ) (l : SparseLeaf T) (x : SparseAsked T) → IsRowIn arms (column ∷ columns) x →
-      IsRowIn arms columns (record { row = dropped_row column l x.row; wanted = x.wanted })
-  dropped_in arms column columns l x i = (i.0, others_in column columns x.row.heads i.1)
+  pub dropped_in : (column : ℕ) (columns : List ℕ) (l : SparseLeaf T) (x : SparseAsked T) → IsRowIn scope (column ∷ columns) x →
+      IsRowIn scope columns (record { row = dropped_row column l x.row; wanted = x.wanted })
+  dropped_in column columns l x i = record { arm = i.arm; heads = others_in column columns x.row.heads i.heads }
 
-  pub opened_in : (arms column first count : ℕ) (columns : List ℕ) (w : Bool) (l : SparseLeaf T) (x : SparseAsked T) → length (leaf_parts count l.head) ≡ count → IsRowIn arms (column ∷ columns) x →
-      IsRowIn arms (columns_from first count ++ columns) (record { row = opened_row column first count l x.row; wanted = w })
-  opened_in arms column first count columns w l x e i = (
-    i.0,
-    All-append (IsHeadIn (columns_from first count ++ columns)) (listed first (leaf_parts count l.head)) (without column x.row.heads)
-        (subst (λ n. All (IsHeadIn (columns_from first n ++ columns)) (listed first (leaf_parts count l.head))) e (listed_in first (leaf_parts count l.head) columns))
-        (more_in (columns_from first count) columns (without column x.row.heads) (others_in column columns x.row.heads i.1)),
-  )
+  pub opened_in : (column first count : ℕ) (columns : List ℕ) (w : Bool) (l : SparseLeaf T) (x : SparseAsked T) → length (leaf_parts count l.head) ≡ count → AreKnown scope (leaf_parts count l.head) → IsRowIn scope (column ∷ columns) x →
+      IsRowIn scope (columns_from first count ++ columns) (record { row = opened_row column first count l x.row; wanted = w })
+  opened_in column first count columns w l x e k i = record {
+    arm = i.arm;
+    heads = All-append (IsHeadIn scope (columns_from first count ++ columns)) (listed first (leaf_parts count l.head)) (without column x.row.heads)
+        (subst (λ n. All (IsHeadIn scope (columns_from first n ++ columns)) (listed first (leaf_parts count l.head))) e (listed_in first (leaf_parts count l.head) columns k))
+        (more_in (columns_from first count) columns (without column x.row.heads) (others_in column columns x.row.heads i.heads));
+  }
 
   -- heads at open columns are below the next one
-  pub heads_below : (next : ℕ) (columns : List ℕ) (heads : List (ℕ × MDePat T)) → All (λ d. d < next) columns → All (IsHeadIn columns) heads → AreHeadsBelow next heads
+  pub heads_below : (next : ℕ) (columns : List ℕ) (heads : List (ℕ × MDePat T)) → All (λ d. d < next) columns → All (IsHeadIn scope columns) heads → AreHeadsBelow next heads
   heads_below next columns [] a h = All-nil (λ x. x.0 < next)
   heads_below next columns (x ∷ heads) a h =
-      All-cons (λ x. x.0 < next) x heads (below_all next columns x.0 a (All-head (IsHeadIn columns) x heads h).0) (heads_below next columns heads a (All-tail (IsHeadIn columns) x heads h))
+      All-cons (λ x. x.0 < next) x heads (below_all next columns x.0 a (All-head (IsHeadIn scope columns) x heads h).column) (heads_below next columns heads a (All-tail (IsHeadIn scope columns) x heads h))
 
   -- a head that is listed is no wildcard
-  sharp_at : (columns : List ℕ) (c : ℕ) (heads : List (ℕ × MDePat T)) (h : ℕ × MDePat T) → All (IsHeadIn columns) heads → Contains heads h → h.0 ≡ c → is_wild (head_at heads c) ≡ false
+  sharp_at : (columns : List ℕ) (c : ℕ) (heads : List (ℕ × MDePat T)) (h : ℕ × MDePat T) → All (IsHeadIn scope columns) heads → Contains heads h → h.0 ≡ c → is_wild (head_at heads c) ≡ false
   sharp_at columns c [] h a (k, l, e) f = absurd (omega (arith, l))
   sharp_at columns c (x ∷ heads) h a i f = elim (eqb_tells x.0 c) [
-    | inl same ↦ let w = (All-head (IsHeadIn columns) x heads a).1 in rw (same.0, w) w
-    | inr other ↦ rw (other.0) (sharp_at columns c heads h (All-tail (IsHeadIn columns) x heads a) (in_cons x h heads (λ z. (z.0 ≡ c) → Contains heads z) (λ k. absurd (other.1 k)) (λ z j k. j) i f) f)
+    | inl same ↦ let w = (All-head (IsHeadIn scope columns) x heads a).sharp in rw (same.0, w) w
+    | inr other ↦ rw (other.0) (sharp_at columns c heads h (All-tail (IsHeadIn scope columns) x heads a) (in_cons x h heads (λ z. (z.0 ≡ c) → Contains heads z) (λ k. absurd (other.1 k)) (λ z j k. j) i f) f)
   ]
 
   -- where a row lists a head at the column not all rows are wild there
-  pub some_sharp : (arms : ℕ) (columns others : List ℕ) (c : ℕ) (xs : List (SparseAsked T)) (x : SparseAsked T) (h : ℕ × MDePat T) → All (IsRowIn arms columns) xs → Contains xs x → Contains x.row.heads h → h.0 ≡ c →
+  pub some_sharp : (columns others : List ℕ) (c : ℕ) (xs : List (SparseAsked T)) (x : SparseAsked T) (h : ℕ × MDePat T) → All (IsRowIn scope columns) xs → Contains xs x → Contains x.row.heads h → h.0 ≡ c →
       list_all starts_wild (heads_in (asked_views (c ∷ others) xs)) ≡ false
-  some_sharp arms columns others c [] x h a (k, l, e) j f = absurd (omega (arith, l))
-  some_sharp arms columns others c (y ∷ xs) x h a i j f =
+  some_sharp columns others c [] x h a (k, l, e) j f = absurd (omega (arith, l))
+  some_sharp columns others c (y ∷ xs) x h a i j f =
       in_cons y x xs (λ z. Contains z.row.heads h → list_all starts_wild (heads_in (asked_views (c ∷ others) (y ∷ xs))) ≡ false)
-      (λ m. ap (λ b. b && list_all starts_wild (heads_in (asked_views (c ∷ others) xs))) (sharp_at columns c y.row.heads h (All-head (IsRowIn arms columns) y xs a).1 m f))
-      (λ z k m. last (starts_wild (asked_view (c ∷ others) y).row.heads) (list_all starts_wild (heads_in (asked_views (c ∷ others) xs))) (some_sharp arms columns others c xs z h (All-tail (IsRowIn arms columns) y xs a) k m f))
+      (λ m. ap (λ b. b && list_all starts_wild (heads_in (asked_views (c ∷ others) xs))) (sharp_at columns c y.row.heads h (All-head (IsRowIn scope columns) y xs a).heads m f))
+      (λ z k m. last (starts_wild (asked_view (c ∷ others) y).row.heads) (list_all starts_wild (heads_in (asked_views (c ∷ others) xs))) (some_sharp columns others c xs z h (All-tail (IsRowIn scope columns) y xs a) k m f))
       i j
     where
       last : (b d : Bool) → d ≡ false → (b && d) ≡ false
@@ -105,7 +106,7 @@ wider_open : (next more : ℕ) (columns : List ℕ) → next ≤ more → AreOpe
 wider_open next more [] l o = tt
 wider_open next more (c ∷ columns) l o = (omega (arith, l, o.0), (λ k d i. let b = o.1 k d i in let m = b.0 in (omega (arith, l, m), b.1)), wider_open next more columns l o.2)
 
-numbers_below : (next : ℕ) (columns : List ℕ) → AreOpen next columns → All (λ c. c < next) columns
+pub numbers_below : (next : ℕ) (columns : List ℕ) → AreOpen next columns → All (λ c. c < next) columns
 numbers_below next [] o = All-nil (λ c. c < next)
 numbers_below next (c ∷ columns) o = All-cons (λ c. c < next) c columns o.0 (numbers_below next columns o.2)
 
@@ -122,7 +123,7 @@ parts_open_too first (suc count) next low others l m o =
     (omega (arith, m), others_far first (suc first) count next others (omega arith) (omega (arith, m)) (λ k d i. let b = below k d i in omega (arith, b, l)), parts_open_too (suc first) count next low others (omega (arith, l)) (omega (arith, m)) o)
 
 -- rows list their heads below the next column
-pub rows_below : {T : Type 0} (arms next column : ℕ) (others : List ℕ) (xs : List (SparseAsked T)) → column < next → AreOpen next others → All (IsRowIn arms (column ∷ others)) xs →
+pub rows_below : {T : Type 0} (scope : Scope T) (next column : ℕ) (others : List ℕ) (xs : List (SparseAsked T)) → column < next → AreOpen next others → All (IsRowIn scope (column ∷ others)) xs →
     (k : ℕ) (x : SparseAsked T) → slice_get xs k ≡ Some x → AreHeadsBelow next x.row.heads
-rows_below arms next column others xs l o a k x e =
-    heads_below next (column ∷ others) x.row.heads (All-cons (λ c. c < next) column others l (numbers_below next others o)) (at_get (IsRowIn arms (column ∷ others)) xs k x a e).1
+rows_below scope next column others xs l o a k x e =
+    heads_below scope next (column ∷ others) x.row.heads (All-cons (λ c. c < next) column others l (numbers_below next others o)) (at_get (IsRowIn scope (column ∷ others)) xs k x a e).heads

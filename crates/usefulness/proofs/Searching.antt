@@ -12,26 +12,28 @@ use Rattle.pattern_matrix.specs.Counting.{Question}
 use Rattle.pattern_matrix.specs.Searching.{Submatrix, IsSearch}
 use Rattle.usefulness.specs.declared.frames.Frame.{Frame}
 use Rattle.usefulness.specs.declared.frames.Apart.{Apart}
-use Rattle.usefulness.specs.declared.marks.Marks.{Marks}
-use Rattle.usefulness.specs.Marking.{is_marked}
+use Rattle.usefulness.specs.declared.frames.Reached.{Reached}
+use Rattle.usefulness.specs.Scope.{Scope}
+use Rattle.usefulness.specs.Told.{AreTold}
 use Rattle.usefulness.specs.Listing.{AreAllListed}
-use Rattle.usefulness.specs.States.{frame_views, IsGood, piece_view}
+use Rattle.usefulness.specs.States.{frame_views, IsGood, piece_view, is_noted, scope_of}
 
 -- so many of the pieces were added
 pub record AreAdded {T : Type 0} (IsValue : T → Bool → MValue → Type 0) (cx : Context T) (a : Apart T) (missing : Bool) (ctors : List MCtor) (spans : List Span)
-    (first now : Marks) (start new : List (Frame T)) (todo : List Part) : Type 0 where
+    (first now : Reached T) (start new : List (Frame T)) (todo : List Part) : Type 0 where
   pub done : ℕ
   pub within : done ≤ length ctors
-  pub arms : length now.arms.items ≡ length first.arms.items
-  pub good : All (IsGood (length first.arms.items)) new
+  pub scope : scope_of now ≡ scope_of first
+  pub good : All (IsGood (scope_of first)) new
   pub full : All (IsFull spans) todo
   pub left : pieces_left todo ≡ columns_from done (length ctors - done)
-  pub listed : (old : Question → Bool) (left : List (Submatrix T)) → AreAllListed IsValue old (is_marked first) left (frame_views start) →
-      AreAllListed IsValue old (is_marked now) (left ++ map (piece_view cx a missing) (take done ctors)) (frame_views new)
+  pub listed : (old : Question → Bool) (left : List (Submatrix T)) → AreAllListed IsValue old (is_noted first) left (frame_views start) →
+      AreAllListed IsValue old (is_noted now) (left ++ map (piece_view cx a missing) (take done ctors)) (frame_views new)
 
 -- a search goes on
-pub record IsGoing {T : Type 0} (IsType : T → Type 0) (IsValue : T → Bool → MValue → Type 0) (cx : Context T) (first : Submatrix T) (arms : ℕ) (m : Marks) (todo : List (Frame T)) : Type 0 where
-  pub known : length m.arms.items ≡ arms
-  pub good : All (IsGood arms) todo
+pub record IsGoing {T : Type 0} (IsType : T → Type 0) (IsValue : T → Bool → MValue → Type 0) (cx : Context T) (first : Submatrix T) (scope : Scope T) (m : Reached T) (keys : List (List ℕ)) (todo : List (Frame T)) : Type 0 where
+  pub known : scope_of m ≡ scope
+  pub good : All (IsGood scope) todo
   pub seen : List (Submatrix T)
-  pub search : IsSearch IsType IsValue cx first (is_marked m) (frame_views todo) seen
+  pub search : IsSearch IsType IsValue cx first (is_noted m) (frame_views todo) seen
+  pub told : AreTold IsType IsValue cx scope seen keys

@@ -26,6 +26,7 @@ use Rattle.usefulness.proofs.Commute.{settled_none}
 use Rattle.usefulness.proofs.ColumnFacts.{ctors_are, long_parts}
 use Rattle.usefulness.proofs.ColumnFacts as column
 use Rattle.usefulness.proofs.Looking.{left_fit, looked}
+use Rattle.usefulness.specs.Scope.{Scope}
 
 -- what is left of the pieces
 entered_all : {T : Type 0} (cx : Context T) (a : Apart T) (missing : Bool) (ctors : List MCtor) →
@@ -47,7 +48,7 @@ all_present P ((c, Missing) ∷ pieces) a = all_present P pieces (All-tail P c (
 all_present P ((c, Empty) ∷ pieces) a = all_present P pieces (All-tail P c (map (λ (p : MCtor × PieceState). p.0) pieces) a)
 
 module _ {T : Type 0} (IsType : T → Type 0) (IsValue : T → Bool → MValue → Type 0) (cx : Context T) (values : ValuesLaw IsType IsValue cx) (law : PartsLaw IsType IsValue cx)
-    (arms : ℕ) (a : Apart T) (apart : IsApart arms a) (fit : IsFit IsType IsValue cx (apart_view a)) where
+    (scope : Scope T) (a : Apart T) (apart : IsApart scope a) (fit : IsFit IsType IsValue cx (apart_view a)) where
   ctors_same : leaf_ctors (apart_leaves a) ≡ first_ctors (apart_wanted a)
   ctors_same = ap leaf_ctors apart.leaves ∙ ctors_are a.taken.number (other_numbers a) (apart_rows a)
 

@@ -12,11 +12,13 @@ use Rattle.pattern_matrix.specs.Counting.{Question}
 use Rattle.pattern_matrix.specs.Searching.{IsDone}
 use Rattle.usefulness.specs.declared.frames.Listing.{Listing}
 use Rattle.usefulness.specs.declared.marks.Marks.{Marks}
+use Rattle.usefulness.specs.declared.frames.Reached.{Reached}
+use Rattle.usefulness.specs.Scope.{Scope}
 use Rattle.usefulness.specs.Frames.{SparseAsked, asked_view, has_heads, starts_listed, IsRowIn}
 use Rattle.usefulness.specs.Marking.{is_marked}
 use Rattle.usefulness.specs.Listing.{IsWantedAs, IsListing}
 use Rattle.usefulness.specs.Done.{is_done}
-use Rattle.usefulness.specs.States.{plain_asked, plain_askeds, IsKept, IsListed}
+use Rattle.usefulness.specs.States.{plain_asked, plain_askeds, IsKept, IsListed, is_noted, scope_of}
 use Rattle.usefulness.proofs.Listed.{after_closed, left_guarded, listing_begins}
 use Rattle.usefulness.proofs.DoneRows.{done_row}
 use Rattle.usefulness.proofs.Finishing.{start_more, end_unwanted, end_all}
@@ -66,42 +68,42 @@ module _ {T : Type 0} (l after : Listing T) where
     }
 
 -- nothing is listed at first
-pub listed_first : {T : Type 0} (arms : ℕ) (m : Marks) (columns : List ℕ) (l : Listing T) → length m.arms.items ≡ arms → plain_askeds l.rows.items ≡ [] → l.closed ≡ false → IsKept l →
-    IsListed arms (is_marked m) m columns [] l
-listed_first {T} arms m columns l k e f g = record {
+pub listed_first : {T : Type 0} (scope : Scope T) (m : Reached T) (columns : List ℕ) (l : Listing T) → scope_of m ≡ scope → plain_askeds l.rows.items ≡ [] → l.closed ≡ false → IsKept l →
+    IsListed scope (is_noted m) m columns [] l
+listed_first {T} scope m columns l k e f g = record {
   known = k;
   kept = g;
-  rows = subst (All (IsRowIn arms columns)) (sym e) (All-nil (IsRowIn {T = T} arms columns));
-  listed = subst (λ ks. IsListing {T = T} (is_marked m) (is_marked m) columns [] ks l.closed) (sym e)
-      (subst (λ c. IsListing {T = T} (is_marked m) (is_marked m) columns [] [] c) (sym f) (listing_begins (is_marked m) columns));
+  rows = subst (All (IsRowIn scope columns)) (sym e) (All-nil (IsRowIn {T = T} scope columns));
+  listed = subst (λ ks. IsListing {T = T} (is_noted m) (is_noted m) columns [] ks l.closed) (sym e)
+      (subst (λ c. IsListing {T = T} (is_noted m) (is_noted m) columns [] [] c) (sym f) (listing_begins (is_noted m) columns));
 }
 
-module _ {T : Type 0} (arms : ℕ) (old : Question → Bool) (columns : List ℕ) (through : List (SparseAsked T)) (x : SparseAsked T) (m : Marks) (l : Listing T) (listed : IsListed arms old m columns through l) where
+module _ {T : Type 0} (scope : Scope T) (old : Question → Bool) (columns : List ℕ) (through : List (SparseAsked T)) (x : SparseAsked T) (m : Reached T) (l : Listing T) (listed : IsListed scope old m columns through l) where
   -- no row counts any more
-  pub listed_closed : l.closed ≡ true → IsListed arms old m columns (through ++ x ∷ []) l
+  pub listed_closed : l.closed ≡ true → IsListed scope old m columns (through ++ x ∷ []) l
   listed_closed e = record {
     known = listed.known;
     kept = listed.kept;
     rows = listed.rows;
-    listed = subst (λ c. IsListing old (is_marked m) columns (through ++ x ∷ []) (plain_askeds l.rows.items) c) (sym e)
-        (after_closed old (is_marked m) columns through (plain_askeds l.rows.items) x
-        (subst (λ c. IsListing old (is_marked m) columns through (plain_askeds l.rows.items) c) e listed.listed));
+    listed = subst (λ c. IsListing old (is_noted m) columns (through ++ x ∷ []) (plain_askeds l.rows.items) c) (sym e)
+        (after_closed old (is_noted m) columns through (plain_askeds l.rows.items) x
+        (subst (λ c. IsListing old (is_noted m) columns through (plain_askeds l.rows.items) c) e listed.listed));
   }
 
   -- the row is left out
-  pub listed_left : l.closed ≡ false → x.row.guarded ≡ true → IsDone (is_marked m) (asked_view columns x) → IsListed arms old m columns (through ++ x ∷ []) l
+  pub listed_left : l.closed ≡ false → x.row.guarded ≡ true → IsDone (is_noted m) (asked_view columns x) → IsListed scope old m columns (through ++ x ∷ []) l
   listed_left e g d = record {
     known = listed.known;
     kept = listed.kept;
     rows = listed.rows;
-    listed = subst (λ c. IsListing old (is_marked m) columns (through ++ x ∷ []) (plain_askeds l.rows.items) c) (sym e)
-        (left_guarded old (is_marked m) columns through (plain_askeds l.rows.items) x
-        (subst (λ c. IsListing old (is_marked m) columns through (plain_askeds l.rows.items) c) e listed.listed) g d);
+    listed = subst (λ c. IsListing old (is_noted m) columns (through ++ x ∷ []) (plain_askeds l.rows.items) c) (sym e)
+        (left_guarded old (is_noted m) columns through (plain_askeds l.rows.items) x
+        (subst (λ c. IsListing old (is_noted m) columns through (plain_askeds l.rows.items) c) e listed.listed) g d);
   }
 
   -- what the row answers is marked
-  pub listed_noted : (then : Marks) (after : Listing T) → after.rows ≡ l.rows → after.end ≡ l.end → length then.arms.items ≡ length m.arms.items →
-      IsListing old (is_marked then) columns (through ++ x ∷ []) (plain_askeds after.rows.items) after.closed → IsListed arms old then columns (through ++ x ∷ []) after
+  pub listed_noted : (then : Reached T) (after : Listing T) → after.rows ≡ l.rows → after.end ≡ l.end → scope_of then ≡ scope_of m →
+      IsListing old (is_noted then) columns (through ++ x ∷ []) (plain_askeds after.rows.items) after.closed → IsListed scope old then columns (through ++ x ∷ []) after
   listed_noted then after e f k i = record {
     known = k ∙ listed.known;
     kept = kept_same l after e f listed.kept;
@@ -110,13 +112,13 @@ module _ {T : Type 0} (arms : ℕ) (old : Question → Bool) (columns : List ℕ
   }
 
   -- the row is kept
-  pub listed_kept : (after : Listing T) (y : SparseAsked T) → plain_askeds after.rows.items ≡ plain_askeds l.rows.items ++ y ∷ [] → IsKept after → IsRowIn arms columns y →
-      IsListing old (is_marked m) columns (through ++ x ∷ []) (plain_askeds after.rows.items) after.closed → IsListed arms old m columns (through ++ x ∷ []) after
+  pub listed_kept : (after : Listing T) (y : SparseAsked T) → plain_askeds after.rows.items ≡ plain_askeds l.rows.items ++ y ∷ [] → IsKept after → IsRowIn scope columns y →
+      IsListing old (is_noted m) columns (through ++ x ∷ []) (plain_askeds after.rows.items) after.closed → IsListed scope old m columns (through ++ x ∷ []) after
   listed_kept after y e k r i = record {
     known = listed.known;
     kept = k;
-    rows = subst (All (IsRowIn arms columns)) (sym e)
-        (All-append (IsRowIn arms columns) (plain_askeds l.rows.items) (y ∷ []) listed.rows (All-cons (IsRowIn arms columns) y [] r (All-nil (IsRowIn arms columns))));
+    rows = subst (All (IsRowIn scope columns)) (sym e)
+        (All-append (IsRowIn scope columns) (plain_askeds l.rows.items) (y ∷ []) listed.rows (All-cons (IsRowIn scope columns) y [] r (All-nil (IsRowIn scope columns))));
     listed = i;
   }
 

@@ -7,6 +7,7 @@ use Rattle.match_model.specs.Rows.{is_wild}
 use Rattle.pattern_matrix.specs.Sparse.{SparseRow, row_view, AreOthers}
 use Rattle.pattern_matrix.specs.Counting.{WantedRow}
 use Rattle.pattern_matrix.specs.Searching.{Submatrix}
+use Rattle.usefulness.specs.Scope.{Scope, patterns_of}
 
 -- a row, and whether something new is looked for in it
 pub record SparseAsked (T : Type 0) : Type 0 where
@@ -37,13 +38,16 @@ places shown = map (λ o. o.1) shown
 abbrev pub sub_view : {T : Type 0} → List (ℕ × Open T) → List (SparseAsked T) → Submatrix T
 sub_view shown xs = record { places = places shown; rows = asked_views (numbers shown) xs }
 
--- the head is no wildcard, and stands at one of these columns
-abbrev pub IsHeadIn : {T : Type 0} → (columns : List ℕ) → ℕ × MDePat T → Type 0
-IsHeadIn columns h = Contains columns h.0 × (is_wild (Some h.1) ≡ false)
+-- the head is no wildcard, stands at one of these columns, and is of the patterns
+pub record IsHeadIn {T : Type 0} (scope : Scope T) (columns : List ℕ) (h : ℕ × MDePat T) : Type 0 where
+  pub column : Contains columns h.0
+  pub sharp : is_wild (Some h.1) ≡ false
+  pub known : Contains (patterns_of scope.written) h.1
 
--- all heads of the row do, and its arm is one of so many
-abbrev pub IsRowIn : {T : Type 0} → (arms : ℕ) → (columns : List ℕ) → SparseAsked T → Type 0
-IsRowIn arms columns x = (x.row.arm < arms) × All (IsHeadIn columns) x.row.heads
+-- all heads of the row are so, and its arm is one of those
+pub record IsRowIn {T : Type 0} (scope : Scope T) (columns : List ℕ) (x : SparseAsked T) : Type 0 where
+  pub arm : x.row.arm < scope.arms
+  pub heads : All (IsHeadIn scope columns) x.row.heads
 
 -- some head is listed
 abbrev pub has_heads : {T : Type 0} → List (ℕ × MDePat T) → Bool
@@ -65,11 +69,11 @@ abbrev pub AreOpen : (next : ℕ) → List ℕ → Type 0
 AreOpen next [] = ⊤
 AreOpen next (c ∷ columns) = (c < next) × AreOthers c next columns × AreOpen next columns
 
--- columns are open whose numbers differ and are below the next one, the rows are of so many arms and list heads at these
+-- columns are open whose numbers differ and are below the next one, the rows are of these arms and list heads at these
 -- columns that are no wildcards, and the first row has one
-pub record IsFrame {T : Type 0} (arms : ℕ) (shown : List (ℕ × Open T)) (next : ℕ) (xs : List (SparseAsked T)) : Type 0 where
+pub record IsFrame {T : Type 0} (scope : Scope T) (shown : List (ℕ × Open T)) (next : ℕ) (xs : List (SparseAsked T)) : Type 0 where
   pub columns : AreOpen next (numbers shown)
-  pub heads : All (IsRowIn arms (numbers shown)) xs
+  pub heads : All (IsRowIn scope (numbers shown)) xs
   pub start : has_start xs ≡ true
 
 -- the submatrix of the rows, where there are any

@@ -1,7 +1,12 @@
+pub mod Scope
 pub mod Frames
 pub mod Marking
 pub mod Done
+pub mod Words
 pub mod Children
 pub mod Listing
 pub mod States
+pub mod Compact
+pub mod Told
+pub mod Keys
 pub mod Starting

@@ -11,6 +11,7 @@ use Rattle.pat_context.specs.Laws.{HasFewItems}
 use Rattle.pat_context.specs.Parts.{AreValues}
 use Rattle.pattern_matrix.specs.Sparse.{SparseLeaf, AreOthers, head_has, leaf_parts}
 use Rattle.pattern_matrix.specs.Columns.{plain_column}
+use Rattle.pattern_arena.specs.Trees.{plain_arm}
 use Rattle.pattern_matrix.specs.Views.{plain_row, plain_leaves}
 use Rattle.pattern_matrix.specs.Spreading.{all_apart}
 use Rattle.pattern_matrix.specs.Searching.{Submatrix, apart, entered, left_over}
@@ -19,12 +20,21 @@ use Rattle.usefulness.specs.declared.frames.Asked.{Asked}
 use Rattle.usefulness.specs.declared.frames.Frame.{Frame}
 use Rattle.usefulness.specs.declared.frames.Listing.{Listing}
 use Rattle.usefulness.specs.declared.frames.Apart.{Apart}
-use Rattle.usefulness.specs.declared.marks.Marks.{Marks}
+use Rattle.usefulness.specs.declared.frames.Reached.{Reached}
 use Rattle.usefulness.specs.Marking.{is_marked}
+use Rattle.usefulness.specs.Scope.{Scope}
 use Rattle.usefulness.specs.Listing.{IsListing}
 use Rattle.pattern_matrix.specs.Counting.{Question, WantedRow}
 use Rattle.usefulness.specs.Children.{bare_sub, settled_if}
 use Rattle.usefulness.specs.Frames.{SparseAsked, numbers, places, asked_views, sub_view, rows_of, IsRowIn, AreOpen, starts_listed, IsFrame}
+
+-- the question is marked in what was found
+abbrev pub is_noted : {T : Type 0} → Reached T → Question → Bool
+is_noted f q = is_marked f.marks q
+
+-- what the rows of its match may hold
+abbrev pub scope_of : {T : Type 0} → Reached T → Scope T
+scope_of f = record { arms = length f.marks.arms.items; written = map plain_arm f.arms.now }
 
 -- the place of an open column with its number
 abbrev pub plain_open : {T : Type 0} → OpenColumn T → ℕ × Open T
@@ -54,9 +64,9 @@ frame_views frames = map frame_view frames
 abbrev pub child_views : {T : Type 0} → Option (Frame T) → List (Submatrix T)
 child_views child = frame_views (option_to_list child)
 
--- the rows are of so many arms and over the open columns
-abbrev pub IsGood : {T : Type 0} → (arms : ℕ) → Frame T → Type 0
-IsGood arms f = IsFrame arms (plain_opens f.columns.items) f.next (plain_askeds f.rows.items)
+-- the rows are of these arms and over the open columns
+abbrev pub IsGood : {T : Type 0} → (scope : Scope T) → Frame T → Type 0
+IsGood scope f = IsFrame scope (plain_opens f.columns.items) f.next (plain_askeds f.rows.items)
 
 -- rows that are kept: no row from the end on is wanted, and the first one lists a head
 pub record IsKept {T : Type 0} (l : Listing T) : Type 0 where
@@ -65,19 +75,19 @@ pub record IsKept {T : Type 0} (l : Listing T) : Type 0 where
   pub start : starts_listed (plain_askeds l.rows.items) ≡ true
 
 -- a column was taken from the open ones, and the leaves are those of the rows there
-pub record IsApart {T : Type 0} (arms : ℕ) (a : Apart T) : Type 0 where
+pub record IsApart {T : Type 0} (scope : Scope T) (a : Apart T) : Type 0 where
   pub leaves : plain_leaves a.leaves.items ≡ all_apart a.taken.number 0 (rows_of (plain_askeds a.rows.items))
   pub number : a.taken.number < a.next
   pub others : AreOthers a.taken.number a.next (numbers (plain_opens a.others.items))
   pub columns : AreOpen a.next (numbers (plain_opens a.others.items))
-  pub rows : All (IsRowIn arms (a.taken.number ∷ numbers (plain_opens a.others.items))) (plain_askeds a.rows.items)
+  pub rows : All (IsRowIn scope (a.taken.number ∷ numbers (plain_opens a.others.items))) (plain_askeds a.rows.items)
 
--- rows of so many arms were listed: those over these columns that were gone through
-pub record IsListed {T : Type 0} (arms : ℕ) (old : Question → Bool) (m : Marks) (columns : List ℕ) (through : List (SparseAsked T)) (l : Listing T) : Type 0 where
-  pub known : length m.arms.items ≡ arms
+-- rows of these arms were listed: those over these columns that were gone through
+pub record IsListed {T : Type 0} (scope : Scope T) (old : Question → Bool) (m : Reached T) (columns : List ℕ) (through : List (SparseAsked T)) (l : Listing T) : Type 0 where
+  pub known : scope_of m ≡ scope
   pub kept : IsKept l
-  pub rows : All (IsRowIn arms columns) (plain_askeds l.rows.items)
-  pub listed : IsListing old (is_marked m) columns through (plain_askeds l.rows.items) l.closed
+  pub rows : All (IsRowIn scope columns) (plain_askeds l.rows.items)
+  pub listed : IsListing old (is_noted m) columns through (plain_askeds l.rows.items) l.closed
 
 -- the numbers of the other columns
 abbrev pub other_numbers : {T : Type 0} → Apart T → List ℕ

@@ -11,13 +11,11 @@ ghost use Rattle.pattern_matrix.specs.Sparse.{leaves_listed, head_has};
 ghost use Rattle.pattern_matrix.specs.Parts.{plain_spans};
 ghost use Rattle.pattern_matrix.specs.Counting.{Question};
 ghost use Rattle.pattern_matrix.specs.Searching.{Submatrix, IsFit, IsLookedAt, heads_in};
-ghost use Rattle.usefulness.specs.Marking.{is_marked};
 ghost use Rattle.usefulness.specs.Listing.{AreAllListed};
-ghost use Rattle.usefulness.specs.States.{child_views, frame_views, IsGood, IsApart, IsEnterable, apart_leaves, apart_place, apart_view, piece_view, wild_view};
+ghost use Rattle.usefulness.specs.States.{child_views, frame_views, IsGood, IsApart, IsEnterable, apart_leaves, apart_place, apart_view, piece_view, wild_view, is_noted, scope_of};
 
-use crate::Marks;
 use crate::entering::piece_child;
-use crate::frames::{Apart, Frame};
+use crate::frames::{Apart, Frame, Reached};
 use crate::wild::wild_child;
 use constructor_sets::{PresentPieces, Span, present};
 use no_memory::NoMemory;
@@ -45,19 +43,19 @@ pub(crate) fn add_child<'a, T: Copy>(
 fn add_wild<'a, C: PatCx>(
     alloc: Global,
     cx: &C,
-    marks: &mut Marks,
+    reached: &mut Reached<'a, C::Ty>,
     a: &Apart<'a, C::Ty>,
     new: &mut Vec<Frame<'a, C::Ty>>,
 ) -> Result<(), NoMemory>
-    requires apart { IsApart (length marks.old.arms.items) a.now }
-    requires good { All (IsGood (length marks.old.arms.items)) new.old.items }
-    ensures arms { OnOk result (length marks.new.arms.items ≡ length marks.old.arms.items) }
-    ensures good { OnOk result (All (IsGood (length marks.old.arms.items)) new.new.items) }
+    requires apart { IsApart (scope_of reached.old) a.now }
+    requires good { All (IsGood (scope_of reached.old)) new.old.items }
+    ensures scope { OnOk result (scope_of reached.new ≡ scope_of reached.old) }
+    ensures good { OnOk result (All (IsGood (scope_of reached.old)) new.new.items) }
     ensures listed { OnOk result ((old : Question → Bool) (left : List (Submatrix C.Ty)) → IsFit (C.is_type cx.now) (C.is_value cx.now) (C.context cx.now) (wild_view a.now)
-        → AreAllListed (C.is_value cx.now) old (is_marked marks.old) left (frame_views new.old.items)
-        → AreAllListed (C.is_value cx.now) old (is_marked marks.new) (left ++ wild_view a.now ∷ []) (frame_views new.new.items)) }
+        → AreAllListed (C.is_value cx.now) old (is_noted reached.old) left (frame_views new.old.items)
+        → AreAllListed (C.is_value cx.now) old (is_noted reached.new) (left ++ wild_view a.now ∷ []) (frame_views new.new.items)) }
 {
-    let child = wild_child(alloc, cx, marks, a)?;
+    let child = wild_child(alloc, cx, reached, a)?;
     add_child(new, child)
 }
 
@@ -65,26 +63,26 @@ fn add_wild<'a, C: PatCx>(
 fn add_piece<'a, C: PatCx>(
     alloc: Global,
     cx: &C,
-    marks: &mut Marks,
+    reached: &mut Reached<'a, C::Ty>,
     a: &Apart<'a, C::Ty>,
     piece: &Ctor,
     leaves: &[usize],
     missing: bool,
     new: &mut Vec<Frame<'a, C::Ty>>,
 ) -> Result<(), NoMemory>
-    requires apart { IsApart (length marks.old.arms.items) a.now }
+    requires apart { IsApart (scope_of reached.old) a.now }
     requires ty { C.is_type cx.now a.now.taken.column.ty }
     requires piece { IsEnterable (C.is_value cx.now) (C.context cx.now) a.now (plain_ctor piece.now) }
     requires within { All (λ k. k < length a.now.leaves.items) leaves.now }
     requires leaves { leaves_listed (apart_leaves a.now) leaves.now ≡ filter (λ l. head_has (plain_ctor piece.now) l.head) (apart_leaves a.now) }
-    requires good { All (IsGood (length marks.old.arms.items)) new.old.items }
-    ensures arms { OnOk result (length marks.new.arms.items ≡ length marks.old.arms.items) }
-    ensures good { OnOk result (All (IsGood (length marks.old.arms.items)) new.new.items) }
+    requires good { All (IsGood (scope_of reached.old)) new.old.items }
+    ensures scope { OnOk result (scope_of reached.new ≡ scope_of reached.old) }
+    ensures good { OnOk result (All (IsGood (scope_of reached.old)) new.new.items) }
     ensures listed { OnOk result ((old : Question → Bool) (left : List (Submatrix C.Ty))
-        → AreAllListed (C.is_value cx.now) old (is_marked marks.old) left (frame_views new.old.items)
-        → AreAllListed (C.is_value cx.now) old (is_marked marks.new) (left ++ piece_view (C.context cx.now) a.now missing (plain_ctor piece.now) ∷ []) (frame_views new.new.items)) }
+        → AreAllListed (C.is_value cx.now) old (is_noted reached.old) left (frame_views new.old.items)
+        → AreAllListed (C.is_value cx.now) old (is_noted reached.new) (left ++ piece_view (C.context cx.now) a.now missing (plain_ctor piece.now) ∷ []) (frame_views new.new.items)) }
 {
-    let child = piece_child(alloc, cx, marks, a, piece, leaves, missing)?;
+    let child = piece_child(alloc, cx, reached, a, piece, leaves, missing)?;
     add_child(new, child)
 }
 
@@ -92,27 +90,36 @@ fn add_piece<'a, C: PatCx>(
 fn add_pieces<'a, C: PatCx>(
     alloc: Global,
     cx: &C,
-    marks: &mut Marks,
+    reached: &mut Reached<'a, C::Ty>,
     a: &Apart<'a, C::Ty>,
     found: &PresentPieces<'a>,
     spans: &[Span],
     new: &mut Vec<Frame<'a, C::Ty>>,
 ) -> Result<(), NoMemory>
-    requires apart { IsApart (length marks.old.arms.items) a.now }
+    requires apart { IsApart (scope_of reached.old) a.now }
     requires ty { C.is_type cx.now a.now.taken.column.ty }
     requires pieces { All (IsEnterable (C.is_value cx.now) (C.context cx.now) a.now) (plain_ctors found.now.ctors.items) }
     requires spans { AreLeafSpans (plain_ctors found.now.ctors.items) (apart_leaves a.now) (plain_spans spans.now) }
-    requires good { All (IsGood (length marks.old.arms.items)) new.old.items }
-    ensures arms { OnOk result (length marks.new.arms.items ≡ length marks.old.arms.items) }
-    ensures good { OnOk result (All (IsGood (length marks.old.arms.items)) new.new.items) }
+    requires good { All (IsGood (scope_of reached.old)) new.old.items }
+    ensures scope { OnOk result (scope_of reached.new ≡ scope_of reached.old) }
+    ensures good { OnOk result (All (IsGood (scope_of reached.old)) new.new.items) }
     ensures listed { OnOk result ((old : Question → Bool) (left : List (Submatrix C.Ty))
-        → AreAllListed (C.is_value cx.now) old (is_marked marks.old) left (frame_views new.old.items)
-        → AreAllListed (C.is_value cx.now) old (is_marked marks.new) (left ++ map (piece_view (C.context cx.now) a.now found.now.missing) (plain_ctors found.now.ctors.items)) (frame_views new.new.items)) }
+        → AreAllListed (C.is_value cx.now) old (is_noted reached.old) left (frame_views new.old.items)
+        → AreAllListed (C.is_value cx.now) old (is_noted reached.new) (left ++ map (piece_view (C.context cx.now) a.now found.now.missing) (plain_ctors found.now.ctors.items)) (frame_views new.new.items)) }
 {
     let mut todo = all_parts(alloc, spans, found.ctors.len())?;
     while let Some(next) = next_piece(alloc, &mut todo, spans)? {
         let piece = &found.ctors[next.piece];
-        add_piece(alloc, cx, marks, a, piece, &next.leaves, found.missing, new)?;
+        add_piece(
+            alloc,
+            cx,
+            reached,
+            a,
+            piece,
+            &next.leaves,
+            found.missing,
+            new,
+        )?;
     }
     Ok(())
 }
@@ -121,19 +128,19 @@ fn add_pieces<'a, C: PatCx>(
 fn dropped_column<'a, C: PatCx>(
     alloc: Global,
     cx: &C,
-    marks: &mut Marks,
+    reached: &mut Reached<'a, C::Ty>,
     a: &Apart<'a, C::Ty>,
 ) -> Result<Vec<Frame<'a, C::Ty>>, NoMemory>
-    requires apart { IsApart (length marks.old.arms.items) a.now }
+    requires apart { IsApart (scope_of reached.old) a.now }
     requires fit { IsFit (C.is_type cx.now) (C.is_value cx.now) (C.context cx.now) (apart_view a.now) }
     requires sharp { list_all starts_wild (heads_in (apart_view a.now).rows) ≡ false }
     requires none { leaf_ctors (apart_leaves a.now) ≡ [] }
-    ensures arms { OnOk result (length marks.new.arms.items ≡ length marks.old.arms.items) }
-    ensures good { IfOk result (λ v. All (IsGood (length marks.old.arms.items)) v.items) }
-    ensures looked { IfOk result (λ v. IsLookedAt (C.is_type cx.now) (C.is_value cx.now) (C.context cx.now) (is_marked marks.old) (is_marked marks.new) (apart_view a.now) (frame_views v.items)) }
+    ensures scope { OnOk result (scope_of reached.new ≡ scope_of reached.old) }
+    ensures good { IfOk result (λ v. All (IsGood (scope_of reached.old)) v.items) }
+    ensures looked { IfOk result (λ v. IsLookedAt (C.is_type cx.now) (C.is_value cx.now) (C.context cx.now) (is_noted reached.old) (is_noted reached.new) (apart_view a.now) (frame_views v.items)) }
 {
     let mut new = Vec::new(alloc);
-    add_wild(alloc, cx, marks, a, &mut new)?;
+    add_wild(alloc, cx, reached, a, &mut new)?;
     Ok(new)
 }
 
@@ -142,29 +149,29 @@ fn dropped_column<'a, C: PatCx>(
 fn split_column<'a, C: PatCx>(
     alloc: Global,
     cx: &C,
-    marks: &mut Marks,
+    reached: &mut Reached<'a, C::Ty>,
     a: &Apart<'a, C::Ty>,
     found: &PresentPieces<'a>,
     spans: &[Span],
 ) -> Result<Vec<Frame<'a, C::Ty>>, NoMemory>
-    requires apart { IsApart (length marks.old.arms.items) a.now }
+    requires apart { IsApart (scope_of reached.old) a.now }
     requires fit { IsFit (C.is_type cx.now) (C.is_value cx.now) (C.context cx.now) (apart_view a.now) }
     requires sharp { list_all starts_wild (heads_in (apart_view a.now).rows) ≡ false }
     requires some { (leaf_ctors (apart_leaves a.now) ≡ []) → ⊥ }
     requires found { AreFound (C.is_value cx.now) (C.context cx.now) (apart_place a.now) (leaf_ctors (apart_leaves a.now)) (plain_ctors found.now.ctors.items) found.now.missing (plain_ctors found.now.gaps.items) }
     requires spans { AreLeafSpans (plain_ctors found.now.ctors.items) (apart_leaves a.now) (plain_spans spans.now) }
-    ensures arms { OnOk result (length marks.new.arms.items ≡ length marks.old.arms.items) }
-    ensures good { IfOk result (λ v. All (IsGood (length marks.old.arms.items)) v.items) }
-    ensures looked { IfOk result (λ v. IsLookedAt (C.is_type cx.now) (C.is_value cx.now) (C.context cx.now) (is_marked marks.old) (is_marked marks.new) (apart_view a.now) (frame_views v.items)) }
+    ensures scope { OnOk result (scope_of reached.new ≡ scope_of reached.old) }
+    ensures good { IfOk result (λ v. All (IsGood (scope_of reached.old)) v.items) }
+    ensures looked { IfOk result (λ v. IsLookedAt (C.is_type cx.now) (C.is_value cx.now) (C.context cx.now) (is_noted reached.old) (is_noted reached.new) (apart_view a.now) (frame_views v.items)) }
 {
     let mut new = Vec::new(alloc);
     if found.missing {
-        let wild = wild_child(alloc, cx, marks, a)?;
-        add_pieces(alloc, cx, marks, a, found, spans, &mut new)?;
+        let wild = wild_child(alloc, cx, reached, a)?;
+        add_pieces(alloc, cx, reached, a, found, spans, &mut new)?;
         add_child(&mut new, wild)?;
         Ok(new)
     } else {
-        add_pieces(alloc, cx, marks, a, found, spans, &mut new)?;
+        add_pieces(alloc, cx, reached, a, found, spans, &mut new)?;
         Ok(new)
     }
 }
@@ -173,19 +180,19 @@ fn split_column<'a, C: PatCx>(
 pub(crate) fn children<'a, C: PatCx>(
     alloc: Global,
     cx: &C,
-    marks: &mut Marks,
+    reached: &mut Reached<'a, C::Ty>,
     a: &Apart<'a, C::Ty>,
 ) -> Result<Vec<Frame<'a, C::Ty>>, NoMemory>
-    requires apart { IsApart (length marks.old.arms.items) a.now }
+    requires apart { IsApart (scope_of reached.old) a.now }
     requires fit { IsFit (C.is_type cx.now) (C.is_value cx.now) (C.context cx.now) (apart_view a.now) }
     requires sharp { list_all starts_wild (heads_in (apart_view a.now).rows) ≡ false }
-    ensures arms { OnOk result (length marks.new.arms.items ≡ length marks.old.arms.items) }
-    ensures good { IfOk result (λ v. All (IsGood (length marks.old.arms.items)) v.items) }
-    ensures looked { IfOk result (λ v. IsLookedAt (C.is_type cx.now) (C.is_value cx.now) (C.context cx.now) (is_marked marks.old) (is_marked marks.new) (apart_view a.now) (frame_views v.items)) }
+    ensures scope { OnOk result (scope_of reached.new ≡ scope_of reached.old) }
+    ensures good { IfOk result (λ v. All (IsGood (scope_of reached.old)) v.items) }
+    ensures looked { IfOk result (λ v. IsLookedAt (C.is_type cx.now) (C.is_value cx.now) (C.context cx.now) (is_noted reached.old) (is_noted reached.new) (apart_view a.now) (frame_views v.items)) }
 {
     let ctors = leaf_ctors(alloc, &a.leaves)?;
     if ctors.is_empty() {
-        return dropped_column(alloc, cx, marks, a);
+        return dropped_column(alloc, cx, reached, a);
     }
     let found = present(
         alloc,
@@ -195,5 +202,5 @@ pub(crate) fn children<'a, C: PatCx>(
         &ctors,
     )?;
     let spans = leaf_spans(alloc, &found.ctors, &a.leaves, &found.spans)?;
-    split_column(alloc, cx, marks, a, &found, &spans)
+    split_column(alloc, cx, reached, a, &found, &spans)
 }

@@ -9,14 +9,13 @@ ghost use Rattle.pattern_matrix.specs.Columns.{plain_columns};
 ghost use Rattle.pattern_matrix.specs.Sparse.{columns_from, leaf_parts, leaves_listed, head_has, AreParts};
 ghost use Rattle.pattern_matrix.specs.Views.{plain_leaf};
 ghost use Rattle.pattern_matrix.specs.Counting.{Question};
+ghost use Rattle.usefulness.specs.Scope.{Scope, IsKnown};
 ghost use Rattle.usefulness.specs.Frames.{SparseAsked, IsRowIn, numbers, places};
-ghost use Rattle.usefulness.specs.Marking.{is_marked};
 ghost use Rattle.usefulness.specs.Children.{opened_at, opened};
 ghost use Rattle.usefulness.specs.Listing.{IsListedAs};
-ghost use Rattle.usefulness.specs.States.{plain_opens, plain_asked, child_views, IsGood, IsKept, IsListed, IsApart, IsEnterable, other_numbers, apart_rows, apart_leaves, apart_place, piece_view};
+ghost use Rattle.usefulness.specs.States.{plain_opens, plain_asked, child_views, IsGood, IsKept, IsListed, IsApart, IsEnterable, other_numbers, apart_rows, apart_leaves, apart_place, piece_view, is_noted, scope_of};
 
-use crate::Marks;
-use crate::frames::{Apart, Asked, Frame, Listing, OpenColumn};
+use crate::frames::{Apart, Asked, Frame, Listing, OpenColumn, Reached};
 use crate::listing::{finish, list_row, none_listed};
 use no_memory::NoMemory;
 use pat_context::{Ctor, PatCx};
@@ -78,8 +77,9 @@ fn piece_row<'a, T: Copy>(
     requires fits { a.now.next + count < 2 ^ 64 }
     requires parts { length (leaf_parts count (plain_leaf leaf.now).head) ≡ count }
     ensures at { IfOk result (λ x. opened_at missing a.now.taken.number a.now.next count (apart_rows a.now) (plain_leaf leaf.now) ≡ plain_asked x ∷ []) }
-    ensures row { IfOk result (λ x. (arms : ℕ) (columns : List ℕ) → All (IsRowIn arms (a.now.taken.number ∷ columns)) (apart_rows a.now)
-        → IsRowIn arms (columns_from a.now.next count ++ columns) (plain_asked x)) }
+    ensures row { IfOk result (λ x. (scope : Scope T) (columns : List ℕ) → IsKnown scope (plain_leaf leaf.now).head
+        → All (IsRowIn scope (a.now.taken.number ∷ columns)) (apart_rows a.now)
+        → IsRowIn scope (columns_from a.now.next count ++ columns) (plain_asked x)) }
 {
     let asked = &a.rows[leaf.row];
     let row = opened_row(alloc, &asked.row, leaf, a.taken.number, a.next, count)?;
@@ -93,7 +93,7 @@ fn piece_row<'a, T: Copy>(
 // Lists the row of the leaf, opened so.
 fn list_opened<'a, T: Copy>(
     alloc: Global,
-    marks: &mut Marks,
+    reached: &mut Reached<'a, T>,
     listing: &mut Listing<'a, T>,
     a: &Apart<'a, T>,
     leaf: &Leaf<'a, T>,
@@ -103,21 +103,22 @@ fn list_opened<'a, T: Copy>(
     requires within { leaf.now.row < length a.now.rows.items }
     requires fits { a.now.next + count < 2 ^ 64 }
     requires parts { length (leaf_parts count (plain_leaf leaf.now).head) ≡ count }
-    requires apart { IsApart (length marks.old.arms.items) a.now }
+    requires known { IsKnown (scope_of reached.old) (plain_leaf leaf.now).head }
+    requires apart { IsApart (scope_of reached.old) a.now }
     requires kept { IsKept listing.old }
     ensures { OnOk result ((old : Question → Bool) (through : List (SparseAsked T))
-        → IsListed (length marks.old.arms.items) old marks.old (columns_from a.now.next count ++ other_numbers a.now) through listing.old
-        → IsListed (length marks.old.arms.items) old marks.new (columns_from a.now.next count ++ other_numbers a.now)
+        → IsListed (scope_of reached.old) old reached.old (columns_from a.now.next count ++ other_numbers a.now) through listing.old
+        → IsListed (scope_of reached.old) old reached.new (columns_from a.now.next count ++ other_numbers a.now)
         (through ++ opened_at missing a.now.taken.number a.now.next count (apart_rows a.now) (plain_leaf leaf.now)) listing.new) }
 {
     let row = piece_row(alloc, a, leaf, count, missing)?;
-    list_row(marks, listing, row)
+    list_row(reached, listing, row)
 }
 
 // The rows of the leaves with these numbers, opened and listed.
 fn opened_listing<'a, T: Copy>(
     alloc: Global,
-    marks: &mut Marks,
+    reached: &mut Reached<'a, T>,
     a: &Apart<'a, T>,
     leaves: &[usize],
     count: usize,
@@ -126,13 +127,21 @@ fn opened_listing<'a, T: Copy>(
     requires fits { a.now.next + count < 2 ^ 64 }
     requires within { All (λ k. k < length a.now.leaves.items) leaves.now }
     requires parts { All (AreParts count (apart_leaves a.now)) leaves.now }
-    requires apart { IsApart (length marks.old.arms.items) a.now }
-    ensures { IfOk result (λ l. IsListed (length marks.old.arms.items) (is_marked marks.old) marks.new (columns_from a.now.next count ++ other_numbers a.now)
+    requires apart { IsApart (scope_of reached.old) a.now }
+    ensures { IfOk result (λ l. IsListed (scope_of reached.old) (is_noted reached.old) reached.new (columns_from a.now.next count ++ other_numbers a.now)
         (opened missing a.now.taken.number a.now.next count (apart_rows a.now) (leaves_listed (apart_leaves a.now) leaves.now)) l) }
 {
     let mut listing = none_listed(alloc);
     for k in leaves {
-        list_opened(alloc, marks, &mut listing, a, &a.leaves[*k], count, missing)?;
+        list_opened(
+            alloc,
+            reached,
+            &mut listing,
+            a,
+            &a.leaves[*k],
+            count,
+            missing,
+        )?;
     }
     Ok(listing)
 }
@@ -141,25 +150,25 @@ fn opened_listing<'a, T: Copy>(
 pub(crate) fn piece_child<'a, C: PatCx>(
     alloc: Global,
     cx: &C,
-    marks: &mut Marks,
+    reached: &mut Reached<'a, C::Ty>,
     a: &Apart<'a, C::Ty>,
     piece: &Ctor,
     leaves: &[usize],
     missing: bool,
 ) -> Result<Option<Frame<'a, C::Ty>>, NoMemory>
-    requires apart { IsApart (length marks.old.arms.items) a.now }
+    requires apart { IsApart (scope_of reached.old) a.now }
     requires ty { C.is_type cx.now a.now.taken.column.ty }
     requires piece { IsEnterable (C.is_value cx.now) (C.context cx.now) a.now (plain_ctor piece.now) }
     requires within { All (λ k. k < length a.now.leaves.items) leaves.now }
     requires leaves { leaves_listed (apart_leaves a.now) leaves.now ≡ filter (λ l. head_has (plain_ctor piece.now) l.head) (apart_leaves a.now) }
-    ensures arms { OnOk result (length marks.new.arms.items ≡ length marks.old.arms.items) }
-    ensures good { IfOk result (λ o. IfSome o (λ f. IsGood (length marks.old.arms.items) f)) }
-    ensures listed { IfOk result (λ o. IsListedAs (C.is_value cx.now) (is_marked marks.old) (is_marked marks.new)
+    ensures scope { OnOk result (scope_of reached.new ≡ scope_of reached.old) }
+    ensures good { IfOk result (λ o. IfSome o (λ f. IsGood (scope_of reached.old) f)) }
+    ensures listed { IfOk result (λ o. IsListedAs (C.is_value cx.now) (is_noted reached.old) (is_noted reached.new)
         (piece_view (C.context cx.now) a.now missing (plain_ctor piece.now)) (child_views o)) }
 {
     let mut columns = part_columns(alloc, cx, a, piece)?;
     let count = columns.len();
-    let listing = opened_listing(alloc, marks, a, leaves, count, missing)?;
+    let listing = opened_listing(alloc, reached, a, leaves, count, missing)?;
     columns.extend_from_slice(&a.others)?;
     Ok(finish(listing, columns, a.next + count))
 }

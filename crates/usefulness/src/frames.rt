@@ -1,5 +1,14 @@
 // What is still to be looked at, and what is made of it.
+use crate::Marks;
+use pattern_arena::CheckedArm;
 use pattern_matrix::{Column, Leaf, Row};
+
+// What was found of a match so far.
+#[derive(Drop)]
+pub(crate) struct Reached<'a, T: Copy> {
+    pub(crate) arms: &'a [CheckedArm<'a, T>],
+    pub(crate) marks: Marks,
+}
 
 // An open column, and the number by which rows name it.
 #[derive(Clone, Copy)]

@@ -3,6 +3,7 @@
 
 mod children;
 mod choice;
+mod compact;
 mod done;
 mod entering;
 mod frames;
@@ -10,8 +11,8 @@ mod listing;
 mod look;
 mod marks;
 mod search;
-#[cfg(test)]
-mod tests;
+mod telling;
+mod told;
 mod wild;
 
 pub use marks::{Alternative, Marks};

@@ -2,14 +2,13 @@
 ghost use Rattle.std.specs.Prelude.{◌≡◌, ◌≤◌, ◌<◌, ◌&&◌, ◌++◌, ◌∷◌, [], List, ℕ, Bool, true, false, not, length, drop, take, IfOk, OnOk, IfSome};
 ghost use Rattle.std.specs.List.{All, list_any};
 ghost use Rattle.pattern_matrix.specs.Counting.{Question};
+ghost use Rattle.usefulness.specs.Scope.{Scope};
 ghost use Rattle.usefulness.specs.Frames.{SparseAsked, IsRowIn, AreOpen, numbers, has_heads, subs_of};
-ghost use Rattle.usefulness.specs.Marking.{is_marked};
 ghost use Rattle.usefulness.specs.Listing.{IsListing, IsWantedAs};
-ghost use Rattle.usefulness.specs.States.{plain_asked, plain_askeds, plain_opens, child_views, IsGood, IsKept, IsListed};
+ghost use Rattle.usefulness.specs.States.{plain_asked, plain_askeds, plain_opens, child_views, IsGood, IsKept, IsListed, is_noted, scope_of};
 
-use crate::Marks;
 use crate::done::is_wanted;
-use crate::frames::{Asked, Frame, Listing, OpenColumn};
+use crate::frames::{Asked, Frame, Listing, OpenColumn, Reached};
 use no_memory::NoMemory;
 use std::alloc::Global;
 
@@ -28,24 +27,26 @@ pub(crate) fn none_listed<'a, T: Copy>(alloc: Global) -> Listing<'a, T>
 
 // Marks what the row answers, before which none was kept. It lists no head.
 fn note<'a, T: Copy>(
-    marks: &mut Marks,
+    reached: &mut Reached<'a, T>,
     listing: &mut Listing<'a, T>,
     asked: &Asked<'a, T>,
 ) -> Result<(), NoMemory>
-    requires arm { asked.now.row.arm < length marks.old.arms.items }
+    requires arm { asked.now.row.arm < (scope_of reached.old).arms }
     requires bare { has_heads (plain_asked asked.now).row.heads ≡ false }
     requires none { plain_askeds listing.old.rows.items ≡ [] }
     requires more { listing.old.closed ≡ false }
-    ensures arms { length marks.new.arms.items ≡ length marks.old.arms.items }
+    ensures scope { scope_of reached.new ≡ scope_of reached.old }
     ensures rows { listing.new.rows ≡ listing.old.rows }
     ensures end { listing.new.end ≡ listing.old.end }
     ensures listed { OnOk result ((old : Question → Bool) (columns : List ℕ) (through : List (SparseAsked T))
-        → IsListing old (is_marked marks.old) columns through (plain_askeds listing.old.rows.items) listing.old.closed
-        → IsListing old (is_marked marks.new) columns (through ++ plain_asked asked.now ∷ []) (plain_askeds listing.new.rows.items) listing.new.closed) }
+        → IsListing old (is_noted reached.old) columns through (plain_askeds listing.old.rows.items) listing.old.closed
+        → IsListing old (is_noted reached.new) columns (through ++ plain_asked asked.now ∷ []) (plain_askeds listing.new.rows.items) listing.new.closed) }
 {
     listing.closed = !asked.row.guarded;
     if asked.wanted {
-        marks.mark(asked.row.arm, asked.row.chosen.as_slice())?;
+        reached
+            .marks
+            .mark(asked.row.arm, asked.row.chosen.as_slice())?;
     }
     Ok(())
 }
@@ -75,23 +76,23 @@ fn keep<'a, T: Copy>(listing: &mut Listing<'a, T>, asked: Asked<'a, T>) -> Resul
 
 // Lists one row more.
 pub(crate) fn list_row<'a, T: Copy>(
-    marks: &mut Marks,
+    reached: &mut Reached<'a, T>,
     listing: &mut Listing<'a, T>,
     asked: Asked<'a, T>,
 ) -> Result<(), NoMemory>
-    requires arm { asked.row.arm < length marks.old.arms.items }
+    requires arm { asked.row.arm < (scope_of reached.old).arms }
     requires kept { IsKept listing.old }
-    ensures { OnOk result ((arms : ℕ) (old : Question → Bool) (columns : List ℕ) (through : List (SparseAsked T))
-        → IsListed arms old marks.old columns through listing.old → IsRowIn arms columns (plain_asked asked.entry)
-        → IsListed arms old marks.new columns (through ++ plain_asked asked.entry ∷ []) listing.new) }
+    ensures { OnOk result ((scope : Scope T) (old : Question → Bool) (columns : List ℕ) (through : List (SparseAsked T))
+        → IsListed scope old reached.old columns through listing.old → IsRowIn scope columns (plain_asked asked.entry)
+        → IsListed scope old reached.new columns (through ++ plain_asked asked.entry ∷ []) listing.new) }
 {
     if listing.closed {
         return Ok(());
     }
     if asked.row.heads.is_empty() && listing.rows.is_empty() {
-        note(marks, listing, &asked)
+        note(reached, listing, &asked)
     } else {
-        let wanted = is_wanted(marks, &asked);
+        let wanted = is_wanted(&reached.marks, &asked);
         if asked.row.guarded && !wanted {
             Ok(())
         } else {
@@ -108,7 +109,7 @@ pub(crate) fn finish<'a, T: Copy>(
     next: usize,
 ) -> Option<Frame<'a, T>>
     requires kept { IsKept listing }
-    ensures good { IfSome result (λ f. (arms : ℕ) → AreOpen next (numbers (plain_opens columns.items)) → All (IsRowIn arms (numbers (plain_opens columns.items))) (plain_askeds listing.entry.rows.items) → IsGood arms f) }
+    ensures good { IfSome result (λ f. (scope : Scope T) → AreOpen next (numbers (plain_opens columns.items)) → All (IsRowIn scope (numbers (plain_opens columns.items))) (plain_askeds listing.entry.rows.items) → IsGood scope f) }
     ensures views { child_views result ≡ subs_of (plain_opens columns.items) (take listing.entry.end (plain_askeds listing.entry.rows.items)) }
 {
     let mut listing = listing;

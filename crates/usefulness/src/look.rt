@@ -7,15 +7,18 @@ ghost use Rattle.pattern_matrix.specs.Spreading.{all_apart};
 ghost use Rattle.pattern_matrix.specs.Views.{plain_leaves};
 ghost use Rattle.pattern_matrix.specs.Searching.{IsFit, IsLookedAt, moved};
 ghost use Rattle.usefulness.specs.Frames.{numbers, places, rows_of, IsRowIn};
+ghost use Rattle.usefulness.specs.Told.{IsPinned, AreLighter, IsStep};
+ghost use Rattle.usefulness.specs.Keys.{told_keys};
 ghost use Rattle.usefulness.specs.Listing.{IsListedAs};
-ghost use Rattle.usefulness.specs.Marking.{is_marked};
-ghost use Rattle.usefulness.specs.States.{plain_open, plain_opens, plain_askeds, frame_view, frame_views, child_views, IsGood, IsListed};
+ghost use Rattle.usefulness.specs.States.{plain_open, plain_opens, plain_askeds, frame_view, frame_views, child_views, IsGood, IsListed, is_noted, scope_of};
 
-use crate::Marks;
 use crate::children::children;
 use crate::choice::choose;
-use crate::frames::{Apart, Asked, Frame, Listing, OpenColumn};
+use crate::compact::compact;
+use crate::frames::{Apart, Asked, Frame, Listing, OpenColumn, Reached};
 use crate::listing::{finish, list_row, none_listed};
+use crate::telling::tell;
+use crate::told::{Told, is_told, is_untold, note_told};
 use no_memory::NoMemory;
 use pat_context::PatCx;
 use pattern_matrix::{Leaf, add_leaves};
@@ -78,34 +81,34 @@ fn take_column<'a, T: Copy>(
 fn split<'a, C: PatCx>(
     alloc: Global,
     cx: &C,
-    marks: &mut Marks,
+    reached: &mut Reached<'a, C::Ty>,
     frame: Frame<'a, C::Ty>,
 ) -> Result<Vec<Frame<'a, C::Ty>>, NoMemory>
-    requires good { IsGood (length marks.old.arms.items) frame }
+    requires good { IsGood (scope_of reached.old) frame }
     requires fit { IsFit (C.is_type cx.now) (C.is_value cx.now) (C.context cx.now) (frame_view frame) }
-    ensures arms { OnOk result (length marks.new.arms.items ≡ length marks.old.arms.items) }
-    ensures good { IfOk result (λ v. All (IsGood (length marks.old.arms.items)) v.items) }
-    ensures looked { IfOk result (λ v. IsLookedAt (C.is_type cx.now) (C.is_value cx.now) (C.context cx.now) (is_marked marks.old) (is_marked marks.new) (frame_view frame.entry) (frame_views v.items)) }
+    ensures scope { OnOk result (scope_of reached.new ≡ scope_of reached.old) }
+    ensures good { IfOk result (λ v. All (IsGood (scope_of reached.old)) v.items) }
+    ensures looked { IfOk result (λ v. IsLookedAt (C.is_type cx.now) (C.is_value cx.now) (C.context cx.now) (is_noted reached.old) (is_noted reached.new) (frame_view frame.entry) (frame_views v.items)) }
 {
     let number = choose(alloc, &frame)?;
     let place = place_of(&frame.columns, number);
     let a = take_column(alloc, frame, place)?;
-    children(alloc, cx, marks, &a)
+    children(alloc, cx, reached, &a)
 }
 
 // The rows over these columns, listed once more.
 fn relisting<'a, T: Copy>(
     alloc: Global,
-    marks: &mut Marks,
+    reached: &mut Reached<'a, T>,
     columns: &[OpenColumn<T>],
     rows: Vec<Asked<'a, T>>,
 ) -> Result<Listing<'a, T>, NoMemory>
-    requires rows { All (IsRowIn (length marks.old.arms.items) (numbers (plain_opens columns.now))) (plain_askeds rows.items) }
-    ensures { IfOk result (λ l. IsListed (length marks.old.arms.items) (is_marked marks.old) marks.new (numbers (plain_opens columns.now)) (plain_askeds rows.entry.items) l) }
+    requires rows { All (IsRowIn (scope_of reached.old) (numbers (plain_opens columns.now))) (plain_askeds rows.items) }
+    ensures { IfOk result (λ l. IsListed (scope_of reached.old) (is_noted reached.old) reached.new (numbers (plain_opens columns.now)) (plain_askeds rows.entry.items) l) }
 {
     let mut listing = none_listed(alloc);
     for asked in rows {
-        list_row(marks, &mut listing, asked)?;
+        list_row(reached, &mut listing, asked)?;
     }
     Ok(listing)
 }
@@ -114,39 +117,94 @@ fn relisting<'a, T: Copy>(
 fn listed_again<'a, C: PatCx>(
     alloc: Global,
     cx: &C,
-    marks: &mut Marks,
+    reached: &mut Reached<'a, C::Ty>,
     frame: Frame<'a, C::Ty>,
 ) -> Result<Option<Frame<'a, C::Ty>>, NoMemory>
-    requires good { IsGood (length marks.old.arms.items) frame }
-    ensures arms { OnOk result (length marks.new.arms.items ≡ length marks.old.arms.items) }
-    ensures good { IfOk result (λ o. IfSome o (λ f. IsGood (length marks.old.arms.items) f)) }
+    requires good { IsGood (scope_of reached.old) frame }
+    ensures scope { OnOk result (scope_of reached.new ≡ scope_of reached.old) }
+    ensures good { IfOk result (λ o. IfSome o (λ f. IsGood (scope_of reached.old) f)) }
     ensures listed { IfOk result (λ o. ((vs : List MValue) × AreValues (C.is_value cx.now) (frame_view frame.entry).places vs)
-        → IsListedAs (C.is_value cx.now) (is_marked marks.old) (is_marked marks.new) (frame_view frame.entry) (child_views o)) }
+        → IsListedAs (C.is_value cx.now) (is_noted reached.old) (is_noted reached.new) (frame_view frame.entry) (child_views o)) }
 {
     let Frame {
         columns,
         next,
         rows,
     } = frame;
-    let listing = relisting(alloc, marks, &columns, rows)?;
+    let listing = relisting(alloc, reached, &columns, rows)?;
     Ok(finish(listing, columns, next))
 }
 
-// Looks at the rows: what is left of them, by what is marked now, where one of their columns is taken apart.
+// Looks at the rows, unless their words were noted: what is left of them where one of their columns is taken apart.
+fn look_once<'a, C: PatCx>(
+    alloc: Global,
+    cx: &C,
+    reached: &mut Reached<'a, C::Ty>,
+    told: &mut Told,
+    frame: Frame<'a, C::Ty>,
+) -> Result<Vec<Frame<'a, C::Ty>>, NoMemory>
+    requires good { IsGood (scope_of reached.old) frame }
+    requires fit { IsFit (C.is_type cx.now) (C.is_value cx.now) (C.context cx.now) (frame_view frame) }
+    requires pinned { IsPinned (scope_of reached.old) }
+    ensures scope { OnOk result (scope_of reached.new ≡ scope_of reached.old) }
+    ensures good { IfOk result (λ v. All (IsGood (scope_of reached.old)) v.items) }
+    ensures lighter { IfOk result (λ v. AreLighter (frame_views v.items) (frame_view frame.entry)) }
+    ensures stepped { IfOk result (λ v. IsStep (C.is_type cx.now) (C.is_value cx.now) (C.context cx.now) (scope_of reached.old) (is_noted reached.old) (is_noted reached.new)
+        (frame_view frame.entry) (frame_views v.items) (told_keys told.old) (told_keys told.new)) }
+{
+    let rest = compact(alloc, frame)?;
+    let words = tell(alloc, &reached.marks, &rest)?;
+    if is_told(told, &words) {
+        return Ok(Vec::new(alloc));
+    }
+    let new = split(alloc, cx, reached, rest)?;
+    note_told(told, words)?;
+    Ok(new)
+}
+
+// Looks at the rows: the first ones of a search without a look into the words that were noted.
+fn look_at<'a, C: PatCx>(
+    alloc: Global,
+    cx: &C,
+    reached: &mut Reached<'a, C::Ty>,
+    told: &mut Told,
+    frame: Frame<'a, C::Ty>,
+) -> Result<Vec<Frame<'a, C::Ty>>, NoMemory>
+    requires good { IsGood (scope_of reached.old) frame }
+    requires fit { IsFit (C.is_type cx.now) (C.is_value cx.now) (C.context cx.now) (frame_view frame) }
+    requires pinned { IsPinned (scope_of reached.old) }
+    ensures scope { OnOk result (scope_of reached.new ≡ scope_of reached.old) }
+    ensures good { IfOk result (λ v. All (IsGood (scope_of reached.old)) v.items) }
+    ensures lighter { IfOk result (λ v. AreLighter (frame_views v.items) (frame_view frame.entry)) }
+    ensures stepped { IfOk result (λ v. IsStep (C.is_type cx.now) (C.is_value cx.now) (C.context cx.now) (scope_of reached.old) (is_noted reached.old) (is_noted reached.new)
+        (frame_view frame.entry) (frame_views v.items) (told_keys told.old) (told_keys told.new)) }
+{
+    if is_untold(told) {
+        split(alloc, cx, reached, frame)
+    } else {
+        look_once(alloc, cx, reached, told, frame)
+    }
+}
+
+// Looks at the rows, by what is marked now.
 pub(crate) fn look<'a, C: PatCx>(
     alloc: Global,
     cx: &C,
-    marks: &mut Marks,
+    reached: &mut Reached<'a, C::Ty>,
+    told: &mut Told,
     frame: Frame<'a, C::Ty>,
 ) -> Result<Vec<Frame<'a, C::Ty>>, NoMemory>
-    requires good { IsGood (length marks.old.arms.items) frame }
+    requires good { IsGood (scope_of reached.old) frame }
     requires fit { IsFit (C.is_type cx.now) (C.is_value cx.now) (C.context cx.now) (frame_view frame) }
-    ensures arms { OnOk result (length marks.new.arms.items ≡ length marks.old.arms.items) }
-    ensures good { IfOk result (λ v. All (IsGood (length marks.old.arms.items)) v.items) }
-    ensures looked { IfOk result (λ v. IsLookedAt (C.is_type cx.now) (C.is_value cx.now) (C.context cx.now) (is_marked marks.old) (is_marked marks.new) (frame_view frame.entry) (frame_views v.items)) }
+    requires pinned { IsPinned (scope_of reached.old) }
+    ensures scope { OnOk result (scope_of reached.new ≡ scope_of reached.old) }
+    ensures good { IfOk result (λ v. All (IsGood (scope_of reached.old)) v.items) }
+    ensures lighter { IfOk result (λ v. AreLighter (frame_views v.items) (frame_view frame.entry)) }
+    ensures stepped { IfOk result (λ v. IsStep (C.is_type cx.now) (C.is_value cx.now) (C.context cx.now) (scope_of reached.old) (is_noted reached.old) (is_noted reached.new)
+        (frame_view frame.entry) (frame_views v.items) (told_keys told.old) (told_keys told.new)) }
 {
-    match listed_again(alloc, cx, marks, frame)? {
+    match listed_again(alloc, cx, reached, frame)? {
         None => Ok(Vec::new(alloc)),
-        Some(rest) => split(alloc, cx, marks, rest),
+        Some(rest) => look_at(alloc, cx, reached, told, rest),
     }
 }

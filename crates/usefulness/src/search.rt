@@ -10,14 +10,16 @@ ghost use Rattle.pattern_matrix.specs.Searching.{IsSearch, first_submatrix};
 ghost use Rattle.pattern_matrix.specs.SearchLaws.{IsReached};
 ghost use Rattle.usefulness.specs.Children.{bare_sub};
 ghost use Rattle.usefulness.specs.Marking.{is_marked};
+ghost use Rattle.usefulness.specs.Scope.{scope_for};
 ghost use Rattle.usefulness.specs.Starting.{asked_from};
-ghost use Rattle.usefulness.specs.States.{frame_views, IsGood, IsListed};
+ghost use Rattle.usefulness.specs.States.{frame_views, is_noted, scope_of, IsGood, IsListed};
 
 use crate::Marks;
 use crate::children::add_child;
-use crate::frames::{Asked, Frame, Listing, OpenColumn};
+use crate::frames::{Asked, Frame, Listing, OpenColumn, Reached};
 use crate::listing::{finish, list_row, none_listed};
 use crate::look::look;
+use crate::told::{keep_count, none_told};
 use no_memory::NoMemory;
 use pat_context::{PatCx, has_value};
 use pattern_arena::CheckedMatch;
@@ -29,17 +31,17 @@ use std::alloc::Global;
 // The rows of the arms and the one behind them, listed.
 fn first_listing<'a, T: Copy>(
     alloc: Global,
-    marks: &mut Marks,
+    reached: &mut Reached<'a, T>,
     m: &CheckedMatch<'a, T>,
 ) -> Result<Listing<'a, T>, NoMemory>
-    requires arms { length marks.old.arms.items ≡ length m.now.arms.now + 1 }
+    requires scope { scope_of reached.old ≡ scope_for (plain_match m.now).arms }
     requires few { length m.now.arms.now < 2 ^ 32 }
-    ensures { IfOk result (λ l. IsListed (length m.now.arms.now + 1) (is_marked marks.old) marks.new (0 ∷ []) (asked_from (plain_match m.now).arms) l) }
+    ensures { IfOk result (λ l. IsListed (scope_for (plain_match m.now).arms) (is_noted reached.old) reached.new (0 ∷ []) (asked_from (plain_match m.now).arms) l) }
 {
     let mut listing = none_listed(alloc);
     let rows = first_rows(alloc, m)?;
     for row in rows {
-        list_row(marks, &mut listing, Asked { row, wanted: true })?;
+        list_row(reached, &mut listing, Asked { row, wanted: true })?;
     }
     let behind = Row {
         heads: Vec::new(alloc),
@@ -48,7 +50,7 @@ fn first_listing<'a, T: Copy>(
         chosen: SmallVec::new(alloc),
     };
     list_row(
-        marks,
+        reached,
         &mut listing,
         Asked {
             row: behind,
@@ -75,20 +77,20 @@ fn add_frames<'a, T: Copy>(
 fn first_frames<'a, C: PatCx>(
     alloc: Global,
     cx: &C,
-    marks: &mut Marks,
+    reached: &mut Reached<'a, C::Ty>,
     m: &CheckedMatch<'a, C::Ty>,
 ) -> Result<Vec<Frame<'a, C::Ty>>, NoMemory>
     requires typed { IsWellTyped (C.is_type cx.now) (C.context cx.now) (plain_match m.now) }
     requires value { (v : MValue) × C.is_value cx.now m.now.ty (is_sure m.now.validity) v }
-    requires arms { length marks.old.arms.items ≡ length m.now.arms.now + 1 }
+    requires scope { scope_of reached.old ≡ scope_for (plain_match m.now).arms }
     requires few { length m.now.arms.now < 2 ^ 32 }
-    requires none { (q : Question) → is_marked marks.old q ≡ false }
-    ensures arms { OnOk result (length marks.new.arms.items ≡ length m.now.arms.now + 1) }
-    ensures good { IfOk result (λ v. All (IsGood (length m.now.arms.now + 1)) v.items) }
-    ensures search { IfOk result (λ v. IsSearch (C.is_type cx.now) (C.is_value cx.now) (C.context cx.now) (bare_sub (first_submatrix (plain_match m.now))) (is_marked marks.new) (frame_views v.items) []) }
+    requires none { (q : Question) → is_noted reached.old q ≡ false }
+    ensures scope { OnOk result (scope_of reached.new ≡ scope_for (plain_match m.now).arms) }
+    ensures good { IfOk result (λ v. All (IsGood (scope_for (plain_match m.now).arms)) v.items) }
+    ensures search { IfOk result (λ v. IsSearch (C.is_type cx.now) (C.is_value cx.now) (C.context cx.now) (bare_sub (first_submatrix (plain_match m.now))) (is_noted reached.new) (frame_views v.items) []) }
 {
     matches_are_made(m);
-    let listing = first_listing(alloc, marks, m)?;
+    let listing = first_listing(alloc, reached, m)?;
     let mut columns = Vec::new(alloc);
     columns.push(OpenColumn {
         number: 0,
@@ -116,13 +118,18 @@ fn search<'a, C: PatCx>(
     requires none { (q : Question) → is_marked marks q ≡ false }
     ensures { IfOk result (λ marks. IsReached (C.is_value cx.now) (plain_match m.now) (is_marked marks)) }
 {
-    let mut marks = marks;
-    let mut todo = first_frames(alloc, cx, &mut marks, m)?;
+    let mut reached = Reached {
+        arms: m.arms,
+        marks,
+    };
+    let mut told = none_told(alloc);
+    let mut todo = first_frames(alloc, cx, &mut reached, m)?;
     while let Some(frame) = todo.pop() {
-        let new = look(alloc, cx, &mut marks, frame)?;
+        let new = look(alloc, cx, &mut reached, &mut told, frame)?;
+        keep_count(&mut told, new.len());
         add_frames(&mut todo, new)?;
     }
-    Ok(marks)
+    Ok(reached.marks)
 }
 
 /// Finds which arms and alternatives of the match some value of the scrutinee comes to, and whether some value is covered

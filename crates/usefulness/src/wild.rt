@@ -6,14 +6,13 @@ ghost use Rattle.match_model.specs.Rows.{is_wild};
 ghost use Rattle.pat_context.specs.Parts.{AreValues};
 ghost use Rattle.pattern_matrix.specs.Views.{plain_leaf};
 ghost use Rattle.pattern_matrix.specs.Counting.{Question};
+ghost use Rattle.usefulness.specs.Scope.{Scope};
 ghost use Rattle.usefulness.specs.Frames.{SparseAsked, IsRowIn};
-ghost use Rattle.usefulness.specs.Marking.{is_marked};
 ghost use Rattle.usefulness.specs.Children.{dropped_at, dropped};
 ghost use Rattle.usefulness.specs.Listing.{IsListedAs};
-ghost use Rattle.usefulness.specs.States.{plain_asked, child_views, IsGood, IsKept, IsListed, IsApart, other_numbers, other_places, apart_rows, apart_leaves, wild_view};
+ghost use Rattle.usefulness.specs.States.{plain_asked, child_views, IsGood, IsKept, IsListed, IsApart, other_numbers, other_places, apart_rows, apart_leaves, wild_view, is_noted, scope_of};
 
-use crate::Marks;
-use crate::frames::{Apart, Asked, Frame, Listing};
+use crate::frames::{Apart, Asked, Frame, Listing, Reached};
 use crate::listing::{finish, list_row, none_listed};
 use no_memory::NoMemory;
 use pat_context::PatCx;
@@ -29,7 +28,7 @@ fn wild_row<'a, T: Copy>(
     requires within { leaf.now.row < length a.now.rows.items }
     requires wild { is_wild (plain_leaf leaf.now).head ≡ true }
     ensures at { IfOk result (λ x. dropped_at a.now.taken.number (apart_rows a.now) (plain_leaf leaf.now) ≡ plain_asked x ∷ []) }
-    ensures row { IfOk result (λ x. (arms : ℕ) (columns : List ℕ) → All (IsRowIn arms (a.now.taken.number ∷ columns)) (apart_rows a.now) → IsRowIn arms columns (plain_asked x)) }
+    ensures row { IfOk result (λ x. (scope : Scope T) (columns : List ℕ) → All (IsRowIn scope (a.now.taken.number ∷ columns)) (apart_rows a.now) → IsRowIn scope columns (plain_asked x)) }
 {
     let asked = &a.rows[leaf.row];
     let row = dropped_row(alloc, &asked.row, leaf, a.taken.number)?;
@@ -42,21 +41,21 @@ fn wild_row<'a, T: Copy>(
 // Lists the row of the leaf, where that is a wildcard.
 fn list_wild<'a, T: Copy>(
     alloc: Global,
-    marks: &mut Marks,
+    reached: &mut Reached<'a, T>,
     listing: &mut Listing<'a, T>,
     a: &Apart<'a, T>,
     leaf: &Leaf<'a, T>,
 ) -> Result<(), NoMemory>
     requires within { leaf.now.row < length a.now.rows.items }
-    requires apart { IsApart (length marks.old.arms.items) a.now }
+    requires apart { IsApart (scope_of reached.old) a.now }
     requires kept { IsKept listing.old }
     ensures { OnOk result ((old : Question → Bool) (through : List (SparseAsked T))
-        → IsListed (length marks.old.arms.items) old marks.old (other_numbers a.now) through listing.old
-        → IsListed (length marks.old.arms.items) old marks.new (other_numbers a.now) (through ++ dropped_at a.now.taken.number (apart_rows a.now) (plain_leaf leaf.now)) listing.new) }
+        → IsListed (scope_of reached.old) old reached.old (other_numbers a.now) through listing.old
+        → IsListed (scope_of reached.old) old reached.new (other_numbers a.now) (through ++ dropped_at a.now.taken.number (apart_rows a.now) (plain_leaf leaf.now)) listing.new) }
 {
     if is_wild_leaf(leaf.head) {
         let row = wild_row(alloc, a, leaf)?;
-        list_row(marks, listing, row)
+        list_row(reached, listing, row)
     } else {
         Ok(())
     }
@@ -65,16 +64,16 @@ fn list_wild<'a, T: Copy>(
 // The rows of the leaves that are wildcards, listed.
 fn wild_listing<'a, T: Copy>(
     alloc: Global,
-    marks: &mut Marks,
+    reached: &mut Reached<'a, T>,
     a: &Apart<'a, T>,
 ) -> Result<Listing<'a, T>, NoMemory>
-    requires apart { IsApart (length marks.old.arms.items) a.now }
-    ensures { IfOk result (λ l. IsListed (length marks.old.arms.items) (is_marked marks.old) marks.new (other_numbers a.now)
+    requires apart { IsApart (scope_of reached.old) a.now }
+    ensures { IfOk result (λ l. IsListed (scope_of reached.old) (is_noted reached.old) reached.new (other_numbers a.now)
         (dropped a.now.taken.number (apart_rows a.now) (apart_leaves a.now)) l) }
 {
     let mut listing = none_listed(alloc);
     for leaf in &a.leaves {
-        list_wild(alloc, marks, &mut listing, a, leaf)?;
+        list_wild(alloc, reached, &mut listing, a, leaf)?;
     }
     Ok(listing)
 }
@@ -83,18 +82,18 @@ fn wild_listing<'a, T: Copy>(
 pub(crate) fn wild_child<'a, C: PatCx>(
     alloc: Global,
     cx: &C,
-    marks: &mut Marks,
+    reached: &mut Reached<'a, C::Ty>,
     a: &Apart<'a, C::Ty>,
 ) -> Result<Option<Frame<'a, C::Ty>>, NoMemory>
-    requires apart { IsApart (length marks.old.arms.items) a.now }
-    ensures arms { OnOk result (length marks.new.arms.items ≡ length marks.old.arms.items) }
-    ensures good { IfOk result (λ o. IfSome o (λ f. IsGood (length marks.old.arms.items) f)) }
+    requires apart { IsApart (scope_of reached.old) a.now }
+    ensures scope { OnOk result (scope_of reached.new ≡ scope_of reached.old) }
+    ensures good { IfOk result (λ o. IfSome o (λ f. IsGood (scope_of reached.old) f)) }
     ensures listed { IfOk result (λ o. ((vs : List MValue) × AreValues (C.is_value cx.now) (other_places a.now) vs)
-        → IsListedAs (C.is_value cx.now) (is_marked marks.old) (is_marked marks.new)
+        → IsListedAs (C.is_value cx.now) (is_noted reached.old) (is_noted reached.new)
         (wild_view a.now)
         (child_views o)) }
 {
-    let listing = wild_listing(alloc, marks, a)?;
+    let listing = wild_listing(alloc, reached, a)?;
     let columns = Vec::from_slice(alloc, &a.others)?;
     Ok(finish(listing, columns, a.next))
 }

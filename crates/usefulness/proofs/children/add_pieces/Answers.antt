@@ -21,7 +21,7 @@ index-piece-requires g c =
     let loop = c.loop-todo in
     let next = c.in-Some.next in
     let comes = MatchOption-at_some ⊤ (λ p. pieces_left loop.todo.items ≡ p.piece ∷ pieces_left c.next_piece.new.todo.items) next c.in-Some.is c.in_ok-next.ensures.piece in
-    let within = next_within (g.C.PatCx.is_value c.args.cx.now) (g.C.PatCx.context c.args.cx.now) c.args.a.now found.missing (plain_ctors found.ctors.items) c.args.spans.now c.args.marks.now loop.marks c.args.new.now.items
+    let within = next_within (g.C.PatCx.is_value c.args.cx.now) (g.C.PatCx.context c.args.cx.now) c.args.a.now found.missing (plain_ctors found.ctors.items) c.args.spans.now c.args.reached.now loop.reached c.args.new.now.items
     loop.new.items loop.todo.items loop.invariant next.piece (pieces_left c.next_piece.new.todo.items) comes in
     let long = length-map found.ctors.items plain_ctor in
     omega (arith, within, long, found.ctors.ok.0)
@@ -31,7 +31,7 @@ add_piece-requires-clause-piece g c =
     let found = c.args.found.now in
     let piece = c.in-Some.next.piece in
     let comes = MatchOption-at_some ⊤ (λ p. pieces_left c.loop-todo.todo.items ≡ p.piece ∷ pieces_left c.next_piece.new.todo.items) c.in-Some.next c.in-Some.is c.in_ok-next.ensures.piece in
-    let below = next_within (g.C.PatCx.is_value c.args.cx.now) (g.C.PatCx.context c.args.cx.now) c.args.a.now found.missing (plain_ctors found.ctors.items) c.args.spans.now c.args.marks.now c.loop-todo.marks c.args.new.now.items
+    let below = next_within (g.C.PatCx.is_value c.args.cx.now) (g.C.PatCx.context c.args.cx.now) c.args.a.now found.missing (plain_ctors found.ctors.items) c.args.spans.now c.args.reached.now c.loop-todo.reached c.args.new.now.items
     c.loop-todo.new.items c.loop-todo.todo.items c.loop-todo.invariant c.in-Some.next.piece (pieces_left c.next_piece.new.todo.items) comes in
     let count = length-map found.ctors.items plain_ctor in
     let within : c.in-Some.next.piece < length found.ctors.items = omega (arith, below, count) in
@@ -44,7 +44,7 @@ add_piece-requires-clause-within g c =
     let piece = c.in-Some.next.piece in
     let leaves = apart_leaves c.args.a.now in
     let comes = MatchOption-at_some ⊤ (λ p. pieces_left c.loop-todo.todo.items ≡ p.piece ∷ pieces_left c.next_piece.new.todo.items) c.in-Some.next c.in-Some.is c.in_ok-next.ensures.piece in
-    let below = next_within (g.C.PatCx.is_value c.args.cx.now) (g.C.PatCx.context c.args.cx.now) c.args.a.now found.missing (plain_ctors found.ctors.items) c.args.spans.now c.args.marks.now c.loop-todo.marks c.args.new.now.items
+    let below = next_within (g.C.PatCx.is_value c.args.cx.now) (g.C.PatCx.context c.args.cx.now) c.args.a.now found.missing (plain_ctors found.ctors.items) c.args.spans.now c.args.reached.now c.loop-todo.reached c.args.new.now.items
     c.loop-todo.new.items c.loop-todo.todo.items c.loop-todo.invariant c.in-Some.next.piece (pieces_left c.next_piece.new.todo.items) comes in
     let count = length-map found.ctors.items plain_ctor in
     let within : c.in-Some.next.piece < length found.ctors.items = omega (arith, below, count) in
@@ -60,7 +60,7 @@ add_piece-requires-clause-leaves g c =
     let ctor = c.index-piece.result.now in
     let leaves = apart_leaves c.args.a.now in
     let comes = MatchOption-at_some ⊤ (λ p. pieces_left c.loop-todo.todo.items ≡ p.piece ∷ pieces_left c.next_piece.new.todo.items) c.in-Some.next c.in-Some.is c.in_ok-next.ensures.piece in
-    let below = next_within (g.C.PatCx.is_value c.args.cx.now) (g.C.PatCx.context c.args.cx.now) c.args.a.now found.missing (plain_ctors found.ctors.items) c.args.spans.now c.args.marks.now c.loop-todo.marks c.args.new.now.items
+    let below = next_within (g.C.PatCx.is_value c.args.cx.now) (g.C.PatCx.context c.args.cx.now) c.args.a.now found.missing (plain_ctors found.ctors.items) c.args.spans.now c.args.reached.now c.loop-todo.reached c.args.new.now.items
     c.loop-todo.new.items c.loop-todo.todo.items c.loop-todo.invariant c.in-Some.next.piece (pieces_left c.next_piece.new.todo.items) comes in
     let count = length-map found.ctors.items plain_ctor in
     let within : c.in-Some.next.piece < length found.ctors.items = omega (arith, below, count) in
@@ -76,19 +76,19 @@ loop-todo-preserved g c =
     let next = c.in-Some.next in
     let ctor = c.index-piece.result.now in
     let comes = MatchOption-at_some ⊤ (λ p. pieces_left c.loop-todo.todo.items ≡ p.piece ∷ pieces_left c.next_piece.new.todo.items) c.in-Some.next c.in-Some.is c.in_ok-next.ensures.piece in
-    let below = next_within (g.C.PatCx.is_value c.args.cx.now) (g.C.PatCx.context c.args.cx.now) c.args.a.now found.missing (plain_ctors found.ctors.items) c.args.spans.now c.args.marks.now c.loop-todo.marks c.args.new.now.items
+    let below = next_within (g.C.PatCx.is_value c.args.cx.now) (g.C.PatCx.context c.args.cx.now) c.args.a.now found.missing (plain_ctors found.ctors.items) c.args.spans.now c.args.reached.now c.loop-todo.reached c.args.new.now.items
     c.loop-todo.new.items c.loop-todo.todo.items c.loop-todo.invariant c.in-Some.next.piece (pieces_left c.next_piece.new.todo.items) comes in
     let count = length-map found.ctors.items plain_ctor in
     let within : c.in-Some.next.piece < length found.ctors.items = omega (arith, below, count) in
-    one_added (g.C.PatCx.is_value c.args.cx.now) (g.C.PatCx.context c.args.cx.now) c.args.a.now found.missing (plain_ctors found.ctors.items) c.args.spans.now c.args.marks.now loop.marks c.args.new.now.items
-    loop.new.items loop.todo.items loop.invariant next.piece (plain_ctor ctor) c.add_piece.new.marks c.add_piece.new.new.items c.next_piece.new.todo.items comes c.in_ok-next.ensures.full
-    (read_at plain_ctor found.ctors.items next.piece ctor within c.index-piece.ensures) c.in_ok-add_piece.ensures.arms
-    (subst (λ n. All (IsGood n) c.add_piece.new.new.items) loop.invariant.arms c.in_ok-add_piece.ensures.good) c.in_ok-add_piece.ensures.listed
+    one_added (g.C.PatCx.is_value c.args.cx.now) (g.C.PatCx.context c.args.cx.now) c.args.a.now found.missing (plain_ctors found.ctors.items) c.args.spans.now c.args.reached.now loop.reached c.args.new.now.items
+    loop.new.items loop.todo.items loop.invariant next.piece (plain_ctor ctor) c.add_piece.new.reached c.add_piece.new.new.items c.next_piece.new.todo.items comes c.in_ok-next.ensures.full
+    (read_at plain_ctor found.ctors.items next.piece ctor within c.index-piece.ensures) c.in_ok-add_piece.ensures.scope
+    (subst (λ n. All (IsGood n) c.add_piece.new.new.items) loop.invariant.scope c.in_ok-add_piece.ensures.good) c.in_ok-add_piece.ensures.listed
 
 pub returns-clause-listed : goal.returns-clause-listed
 returns-clause-listed g c =
     let found = c.args.found.now in
     let loop = c.loop-todo in
-    all_added (g.C.PatCx.is_value c.args.cx.now) (g.C.PatCx.context c.args.cx.now) c.args.a.now found.missing (plain_ctors found.ctors.items) c.args.spans.now c.args.marks.now loop.marks c.args.new.now.items
+    all_added (g.C.PatCx.is_value c.args.cx.now) (g.C.PatCx.context c.args.cx.now) c.args.a.now found.missing (plain_ctors found.ctors.items) c.args.spans.now c.args.reached.now loop.reached c.args.new.now.items
     loop.new.items loop.todo.items loop.invariant
     (MatchOption-at_none (pieces_left loop.todo.items ≡ []) (λ _. ⊤) c.in_default.is c.in_ok-next.ensures.none)

@@ -1,7 +1,6 @@
-use Rattle.std.proofs.Common.{[], length, sym, subst}
+use Rattle.std.proofs.Common.{[], sym, subst}
 use Rattle.usefulness.specs.Listing.{AreAllListed}
-use Rattle.usefulness.specs.Marking.{is_marked}
-use Rattle.usefulness.specs.States.{frame_views}
+use Rattle.usefulness.specs.States.{frame_views, is_noted, scope_of}
 use Rattle.usefulness.proofs.Looking.{none_listed}
 use Rattle.usefulness.proofs.Splits.{wild_fit, looked_wild}
 use Rattle.usefulness.proofs.children.dropped_column.Goals as goal
@@ -14,9 +13,9 @@ returns-clause-looked g c =
     let context = g.C.PatCx.context cx in
     let values = g.met.C.PatCx.values cx in
     let law = g.met.C.PatCx.parts cx in
-    let arms = length c.args.marks.now.arms.items in
+    let scope = scope_of c.args.reached.now in
     let a = c.args.a.now in
-    let old = is_marked c.args.marks.now in
-    looked_wild IsType IsValue context values law arms a c.requires.apart c.requires.fit old (is_marked c.add_wild.new.marks) (frame_views c.add_wild.new.new.items) c.requires.none c.requires.sharp
-    (c.in_ok-add_wild.ensures.listed old [] (wild_fit IsType IsValue context values law arms a c.requires.apart c.requires.fit c.requires.none)
+    let old = is_noted c.args.reached.now in
+    looked_wild IsType IsValue context values law scope a c.requires.apart c.requires.fit old (is_noted c.add_wild.new.reached) (frame_views c.add_wild.new.new.items) c.requires.none c.requires.sharp
+    (c.in_ok-add_wild.ensures.listed old [] (wild_fit IsType IsValue context values law scope a c.requires.apart c.requires.fit c.requires.none)
     (subst (λ fs. AreAllListed IsValue old old [] (frame_views fs)) (sym c.new-new.ensures.items) (none_listed IsValue old)))

@@ -5,8 +5,7 @@ use Rattle.pat_context.specs.Views.{plain_ctor}
 use Rattle.pattern_matrix.specs.Sparse.{columns_from, leaf_parts, head_has, AreParts}
 use Rattle.usefulness.specs.Children.{opened}
 use Rattle.usefulness.specs.Frames.{IsRowIn, AreOpen, numbers}
-use Rattle.usefulness.specs.Marking.{is_marked}
-use Rattle.usefulness.specs.States.{plain_opens, plain_askeds, child_views, IsListed, apart_rows, apart_leaves, other_numbers}
+use Rattle.usefulness.specs.States.{plain_opens, plain_askeds, child_views, IsListed, apart_rows, apart_leaves, other_numbers, is_noted, scope_of}
 use Rattle.usefulness.proofs.Having.{all_filtered, all_numbered}
 use Rattle.usefulness.proofs.Left.{piece_listed, columns_same, columns_open}
 use Rattle.usefulness.proofs.entering.piece_child.Goals as goal
@@ -24,7 +23,7 @@ opened_listing-requires-clause-parts g c =
 
 pub returns-clause-good : goal.returns-clause-good
 returns-clause-good g c =
-    let arms = length c.args.marks.now.arms.items in
+    let scope = scope_of c.args.reached.now in
     let a = c.args.a.now in
     let piece = plain_ctor c.args.piece.now in
     let n = (g.C.PatCx.context c.args.cx.now).arity piece a.taken.column.ty in
@@ -34,30 +33,30 @@ returns-clause-good g c =
     let same : n ≡ c.len-count.result = (let read = c.len-count.ensures in omega (arith, count, read, c.in_ok-columns.columns.ok.0)) in
     let longer = c.in_ok-extend_from_slice.ensures.items ∙ ap (λ ys. parts ++ ys) c.deref.ensures.value in
     IfSome_then c.finish.result c.finish.ensures.good
-    (λ f good. good arms
+    (λ f good. good scope
     (subst (λ m. AreOpen (a.next + m) (numbers (plain_opens columns))) same
-    (columns_open (g.C.PatCx.is_value c.args.cx.now) arms a c.requires.apart (is_marked c.args.marks.now) c.opened_listing.new.marks c.in_ok-listing.listing
+    (columns_open (g.C.PatCx.is_value c.args.cx.now) scope a c.requires.apart (is_noted c.args.reached.now) c.opened_listing.new.reached c.in_ok-listing.listing
     (g.C.PatCx.context c.args.cx.now) piece c.args.missing c.requires.piece parts c.in_ok-columns.ensures.numbers c.in_ok-columns.ensures.places columns longer))
-    (subst (λ ns. All (IsRowIn arms ns) (plain_askeds c.in_ok-listing.listing.rows.items))
-    (ap (λ m. columns_from a.next m ++ other_numbers a) (sym same) ∙ sym (columns_same (g.C.PatCx.is_value c.args.cx.now) arms a c.requires.apart (is_marked c.args.marks.now) c.opened_listing.new.marks c.in_ok-listing.listing
+    (subst (λ ns. All (IsRowIn scope ns) (plain_askeds c.in_ok-listing.listing.rows.items))
+    (ap (λ m. columns_from a.next m ++ other_numbers a) (sym same) ∙ sym (columns_same (g.C.PatCx.is_value c.args.cx.now) scope a c.requires.apart (is_noted c.args.reached.now) c.opened_listing.new.reached c.in_ok-listing.listing
     (g.C.PatCx.context c.args.cx.now) piece c.args.missing c.requires.piece parts c.in_ok-columns.ensures.numbers c.in_ok-columns.ensures.places columns longer))
     c.in_ok-listing.ensures.rows))
 
 pub returns-clause-listed : goal.returns-clause-listed
 returns-clause-listed g c =
-    let arms = length c.args.marks.now.arms.items in
+    let scope = scope_of c.args.reached.now in
     let a = c.args.a.now in
     let piece = plain_ctor c.args.piece.now in
     let n = (g.C.PatCx.context c.args.cx.now).arity piece a.taken.column.ty in
     let parts = c.in_ok-columns.columns.items in
     let columns = c.extend_from_slice.new.self.items in
-    let marks = c.opened_listing.new.marks in
-    let old = is_marked c.args.marks.now in
+    let reached = c.opened_listing.new.reached in
+    let old = is_noted c.args.reached.now in
     let listing = c.in_ok-listing.listing in
     let count = c.in_ok-columns.ensures.count in
     let same : n ≡ c.len-count.result = (let read = c.len-count.ensures in omega (arith, count, read, c.in_ok-columns.columns.ok.0)) in
     let longer = c.in_ok-extend_from_slice.ensures.items ∙ ap (λ ys. parts ++ ys) c.deref.ensures.value in
-    piece_listed (g.C.PatCx.is_value c.args.cx.now) arms a c.requires.apart old marks listing
+    piece_listed (g.C.PatCx.is_value c.args.cx.now) scope a c.requires.apart old reached listing
     (g.C.PatCx.context c.args.cx.now) piece c.args.missing c.requires.piece parts c.in_ok-columns.ensures.numbers c.in_ok-columns.ensures.places columns (child_views c.finish.result) longer c.finish.ensures.views
-    (subst (λ m. IsListed arms old marks (columns_from a.next m ++ other_numbers a) (opened c.args.missing a.taken.number a.next m (apart_rows a) (filter (λ l. head_has piece l.head) (apart_leaves a))) listing) (sym same)
-    (subst (λ ls. IsListed arms old marks (columns_from a.next c.len-count.result ++ other_numbers a) (opened c.args.missing a.taken.number a.next c.len-count.result (apart_rows a) ls) listing) c.requires.leaves c.in_ok-listing.ensures))
+    (subst (λ m. IsListed scope old reached (columns_from a.next m ++ other_numbers a) (opened c.args.missing a.taken.number a.next m (apart_rows a) (filter (λ l. head_has piece l.head) (apart_leaves a))) listing) (sym same)
+    (subst (λ ls. IsListed scope old reached (columns_from a.next c.len-count.result ++ other_numbers a) (opened c.args.missing a.taken.number a.next c.len-count.result (apart_rows a) ls) listing) c.requires.leaves c.in_ok-listing.ensures))

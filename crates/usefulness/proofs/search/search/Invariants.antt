@@ -1,6 +1,8 @@
-use Rattle.std.proofs.Common.{◌+◌, ◌^◌, length}
+use Rattle.std.proofs.Common.{◌^◌}
 use Rattle.pattern_arena.specs.Trees.{plain_match}
 use Rattle.pattern_matrix.specs.Searching.{work, first_submatrix}
+use Rattle.usefulness.specs.Keys.{told_keys}
+use Rattle.usefulness.specs.Scope.{scope_for}
 use Rattle.usefulness.specs.Children.{bare_sub}
 use Rattle.usefulness.specs.States.{frame_views}
 use Rattle.usefulness.proofs.Searching.{IsGoing}
@@ -8,7 +10,7 @@ use Rattle.usefulness.proofs.search.search.Given as goal
 
 abbrev pub invariant-loop-frame : goal.invariant-loop-frame
 invariant-loop-frame g l =
-    IsGoing (g.C.PatCx.is_type l.cx) (g.C.PatCx.is_value l.cx) (g.C.PatCx.context l.cx) (bare_sub (first_submatrix (plain_match l.m))) (length l.m.arms.now + 1) l.marks l.todo.items
+    IsGoing (g.C.PatCx.is_type l.cx) (g.C.PatCx.is_value l.cx) (g.C.PatCx.context l.cx) (bare_sub (first_submatrix (plain_match l.m))) (scope_for (plain_match l.m).arms) l.reached (told_keys l.told) l.todo.items
 
 abbrev pub decreases-loop-frame : goal.decreases-loop-frame
 decreases-loop-frame g l = work (2 ^ 64) (frame_views l.todo.items)

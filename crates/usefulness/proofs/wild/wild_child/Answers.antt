@@ -1,23 +1,22 @@
-use Rattle.std.proofs.Common.{◌∙◌, length, sym, subst}
+use Rattle.std.proofs.Common.{◌∙◌, sym, subst}
 use Rattle.std.specs.List.{All}
 use Rattle.std.proofs.lemmas.Option.{IfSome_then}
 use Rattle.usefulness.specs.Frames.{IsRowIn, AreOpen, numbers}
-use Rattle.usefulness.specs.Marking.{is_marked}
-use Rattle.usefulness.specs.States.{plain_opens, plain_askeds, child_views}
+use Rattle.usefulness.specs.States.{plain_opens, plain_askeds, child_views, is_noted, scope_of}
 use Rattle.usefulness.proofs.Left.{wild_listed}
 use Rattle.usefulness.proofs.wild.wild_child.Goals as goal
 
 pub returns-clause-good : goal.returns-clause-good
 returns-clause-good g c =
-    let arms = length c.args.marks.now.arms.items in
+    let scope = scope_of c.args.reached.now in
     let a = c.args.a.now in
     let same = c.in_ok-columns.ensures.items ∙ c.deref.ensures.value in
     IfSome_then c.finish.result c.finish.ensures.good
-    (λ f good. good arms
+    (λ f good. good scope
     (subst (λ cs. AreOpen a.next (numbers (plain_opens cs))) (sym same) c.requires.apart.columns)
-    (subst (λ cs. All (IsRowIn arms (numbers (plain_opens cs))) (plain_askeds c.in_ok-listing.listing.rows.items)) (sym same) c.in_ok-listing.ensures.rows))
+    (subst (λ cs. All (IsRowIn scope (numbers (plain_opens cs))) (plain_askeds c.in_ok-listing.listing.rows.items)) (sym same) c.in_ok-listing.ensures.rows))
 
 pub returns-clause-listed : goal.returns-clause-listed
 returns-clause-listed g c = λ some.
-    wild_listed (g.C.PatCx.is_value c.args.cx.now) (length c.args.marks.now.arms.items) c.args.a.now c.requires.apart (is_marked c.args.marks.now) c.wild_listing.new.marks c.in_ok-listing.listing
+    wild_listed (g.C.PatCx.is_value c.args.cx.now) (scope_of c.args.reached.now) c.args.a.now c.requires.apart (is_noted c.args.reached.now) c.wild_listing.new.reached c.in_ok-listing.listing
     c.in_ok-columns.columns.items (child_views c.finish.result) (c.in_ok-columns.ensures.items ∙ c.deref.ensures.value) c.finish.ensures.views c.in_ok-listing.ensures some
