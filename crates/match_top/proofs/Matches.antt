@@ -1,6 +1,6 @@
 -- The match of a function as the engine has it, and what is found of it.
-use Rattle.std.proofs.Common.{◌≡◌, ◌∙◌, ℕ, ◌<◌, nat_eq, Bool, List, [], ◌∷◌, map, length, Result, Ok, Err, IfOk, refl, sym, ap, subst}
-use Rattle.std.specs.List.{flat_map, Contains, IsDistinct}
+use Rattle.std.proofs.Common.{◌≡◌, ◌∙◌, ℕ, ◌<◌, List, [], ◌∷◌, map, length, Result, Ok, Err, IfOk, refl, sym, ap, subst}
+use Rattle.std.specs.List.{Contains}
 use Rattle.std.proofs.lemmas.List.{length-map}
 use Rattle.decl_syntax.specs.Functions.{FunctionTree}
 use Rattle.decl_syntax.specs.Items.{ArmTree}
@@ -10,8 +10,6 @@ use Rattle.match_model.specs.Lists.{Every}
 use Rattle.match_model.specs.Made.{AreArmsMade}
 use Rattle.match_model.specs.Types.{MType}
 use Rattle.match_model.specs.Unreachable.{Entry}
-use Rattle.match_model.specs.WellTyped.{uids_in}
-use Rattle.match_model.specs.Witness.{MWitness}
 use Rattle.pattern_arena.specs.declared.matches.CheckedMatch.{CheckedMatch}
 use Rattle.pattern_arena.specs.Trees.{plain_arm, plain_match}
 use Rattle.pattern_elaboration.specs.Arms.{IsMatchMade}
@@ -36,7 +34,7 @@ use Rattle.witnesses.specs.Views.{plain_witness}
 use Rattle.witnesses.specs.declared.judgement.Judgement.{Judgement}
 use Rattle.witnesses.specs.declared.witness.Witness.{Witness}
 use Rattle.match_top.specs.declared.source.Source.{Source}
-use Rattle.match_top.specs.Reports.{numbered, shown_entry, report_of, IsEntry, is_judged}
+use Rattle.match_top.specs.Reports.{numbered, shown_entry, IsEntry, is_judged}
 use Rattle.match_top.specs.Reporting.{items_in, setting_in, IsFineFunction, IsMatchOf, IsVerdictFor}
 use Rattle.match_top.proofs.Entries.{contains_at}
 

@@ -1,5 +1,5 @@
 -- A file has one answer at most.
-use Rattle.std.proofs.Common.{◌≡◌, ◌∙◌, ◌<◌, ℕ, List, [], ◌∷◌, Bool, true, false, Option, Some, None, MatchBool, inl, inr, refl, sym, ap, subst, arith, length, nat_lt}
+use Rattle.std.proofs.Common.{◌≡◌, ◌∙◌, ◌<◌, ℕ, List, [], ◌∷◌, Bool, true, false, Some, None, MatchBool, inl, inr, refl, sym, ap, subst, arith, length, nat_lt}
 use Rattle.std.proofs.lemmas.Bool.Decides.{nat_tests}
 use Rattle.std.specs.List.{AllZip, list_all}
 use Rattle.decl_lexer.specs.Lexing.{Placed}

@@ -7,12 +7,14 @@ use Rattle.decl_parser.specs.FileGrammar.{IsFile}
 use Rattle.decl_syntax.specs.Functions.{FunctionTree}
 use Rattle.decl_syntax.specs.Items.{ArmTree, ItemTree, KindTree, Enum, Struct, Import, Function}
 use Rattle.decl_syntax.specs.Units.{units}
+use Rattle.match_model.specs.declared.Width.TheVariants.{Endless}
 use Rattle.pattern_laws.specs.JudgedLaws.{SomeVerdict}
-use Rattle.pattern_laws.specs.ParsedLaws.{ParsedFunctionsAreSpelled}
+use Rattle.pattern_laws.specs.ParsedLaws.{FilesAreSound, ParsedFunctionsAreSpelled}
 use Rattle.pattern_laws.specs.TableLaws.{IsSoundFile}
 use Rattle.pattern_rules.specs.Faults.{function_of}
 use Rattle.pattern_rules.specs.FirstFault.{PatternFault, first_fault, IsAnswer, WalkTells}
 use Rattle.pattern_rules.specs.ShownMatches.{IsSoundArm}
+use Rattle.type_table.specs.Faults.{BreaksNone}
 use Rattle.verdict_json.specs.Report.{ReportEntry, JudgedFunction, RefusedFunction, report_text}
 use Rattle.match_top.specs.Reports.{NumberedFunction, numbered, function_at, functions_from, functions_of}
 use Rattle.match_top.specs.Reports.{setting_of, refusal_of, report_of, IsEntry, is_refused, is_judged, is_clean, status_of}
@@ -48,8 +50,8 @@ stands_behind n (x ∷ items) k f there = by (λ j later. stands_behind (n + 1) 
         let number : f.number ≡ (n + 1) + later.0 = later.1 in
         (suc later.0, omega arith, record { item = later.2.item; there = later.2.there; is = later.2.is })
 
--- what the laws of rules, of spelled functions and of verdicts tell of entries
-module _ (walk_tells : WalkTells) (spelled_functions : ParsedFunctionsAreSpelled) (some_verdict : SomeVerdict) where
+-- what the laws of rules, of spelled functions, of sound files and of verdicts tell of entries
+module _ (walk_tells : WalkTells) (spelled_functions : ParsedFunctionsAreSpelled) (sound_files : FilesAreSound) (some_verdict : SomeVerdict) where
   -- the entry by what the walk tells
   entry_by : (source : List ℕ) (tokens : List Placed) (items : List ItemTree) (i : ℕ) (f : NumberedFunction) → HasTokens source tokens
       → IsFile (units tokens) items → IsSoundFile (setting_of items) → StandsAt items i f.function
@@ -76,24 +78,25 @@ module _ (walk_tells : WalkTells) (spelled_functions : ParsedFunctionsAreSpelled
       )
 
   pub some_entry_of : SomeEntry
-  some_entry_of source tokens items k f lexed spelled sound there =
+  some_entry_of source tokens items k f lexed spelled unbroken there =
       let at = stands_behind 0 items k f there in
+      let sound : IsSoundFile (setting_of items) = sound_files (units tokens) (setting_of items) spelled unbroken in
       entry_by source tokens items at.0 f lexed spelled sound at.2 (first_fault (setting_of items) f.function) (walk_tells (setting_of items) f.function)
 
   all_entries : (source : List ℕ) (tokens : List Placed) (items : List ItemTree) (fs : List NumberedFunction) → HasTokens source tokens
-      → IsFile (units tokens) items → IsSoundFile (setting_of items)
+      → IsFile (units tokens) items → BreaksNone items Endless
       → ((k : ℕ) (f : NumberedFunction) → slice_get fs k ≡ Some f → (j : ℕ) × (slice_get (functions_of items) j ≡ Some f))
       → (es : List ReportEntry) × AllZip (IsEntry items) fs es
-  all_entries source tokens items [] lexed spelled sound among = ([], tt)
-  all_entries source tokens items (f ∷ fs) lexed spelled sound among =
+  all_entries source tokens items [] lexed spelled unbroken among = ([], tt)
+  all_entries source tokens items (f ∷ fs) lexed spelled unbroken among =
       let here = among 0 f refl in
-      let e = some_entry_of source tokens items here.0 f lexed spelled sound here.1 in
-      let es = all_entries source tokens items fs lexed spelled sound (λ k g there. among (suc k) g there) in
+      let e = some_entry_of source tokens items here.0 f lexed spelled unbroken here.1 in
+      let es = all_entries source tokens items fs lexed spelled unbroken (λ k g there. among (suc k) g there) in
       (e.0 ∷ es.0, (e.1, es.1))
 
   pub some_report_of : SomeReport
-  some_report_of source tokens items lexed spelled unbroken sound =
-      let es = all_entries source tokens items (functions_of items) lexed spelled sound (λ k f there. (k, there)) in
+  some_report_of source tokens items lexed spelled unbroken =
+      let es = all_entries source tokens items (functions_of items) lexed spelled unbroken (λ k f there. (k, there)) in
       (report_text es.0, status_of (list_all is_clean es.0), record { unbroken = unbroken; entries = es.0; each = es.1; text_is = refl; status_is = refl })
 
 -- the functions of the items behind one stand behind its own

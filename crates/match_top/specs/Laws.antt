@@ -6,12 +6,11 @@ use Rattle.decl_syntax.specs.Functions.{FunctionTree}
 use Rattle.decl_syntax.specs.Items.{ItemTree, Function}
 use Rattle.decl_syntax.specs.Units.{units}
 use Rattle.match_model.specs.declared.Width.TheVariants.{Endless}
-use Rattle.pattern_laws.specs.TableLaws.{IsSoundFile}
 use Rattle.type_table.specs.Faults.{BreaksNone, IsFirstFault}
 use Rattle.verdict_json.specs.Report.{ReportEntry}
 use Rattle.match_top.specs.declared.statuses.Status.{Status}
 use Rattle.match_top.specs.Answers.{Answers}
-use Rattle.match_top.specs.Reports.{NumberedFunction, numbered, functions_of, setting_of, IsEntry, IsReported}
+use Rattle.match_top.specs.Reports.{NumberedFunction, numbered, functions_of, IsEntry, IsReported}
 
 -- the bytes of a file have one text and one status at most
 abbrev pub OneAnswer : Type 0
@@ -27,11 +26,11 @@ OneFirstFault =
 abbrev pub OneEntry : Type 0
 OneEntry = (items : List ItemTree) (f : NumberedFunction) (e other : ReportEntry) → IsEntry items f e → IsEntry items f other → e ≡ other
 
--- each function of a file that the tokens of a source spell, and whose types are sound, has an entry
+-- each function of a file that the tokens of a source spell, and of which no item breaks a rule on declarations, has an entry
 abbrev pub SomeEntry : Type 0
 SomeEntry =
     (source : List ℕ) (tokens : List Placed) (items : List ItemTree) (k : ℕ) (f : NumberedFunction)
-    → HasTokens source tokens → IsFile (units tokens) items → IsSoundFile (setting_of items)
+    → HasTokens source tokens → IsFile (units tokens) items → BreaksNone items Endless
     → slice_get (functions_of items) k ≡ Some f → (e : ReportEntry) × IsEntry items f e
 
 -- each item that is a function stands among the functions of its file, with its number
@@ -40,8 +39,8 @@ EachFunctionStands =
     (items : List ItemTree) (i : ℕ) (item : ItemTree) (f : FunctionTree) → slice_get items i ≡ Some item
     → item.kind ≡ Function f.name f.param f.deref f.arms → (k : ℕ) × (slice_get (functions_of items) k ≡ Some (numbered i f))
 
--- a file that the tokens of a source spell, of which no item breaks a rule on declarations and whose types are sound, has a report
+-- a file that the tokens of a source spell, and of which no item breaks a rule on declarations, has a report
 abbrev pub SomeReport : Type 0
 SomeReport =
     (source : List ℕ) (tokens : List Placed) (items : List ItemTree) → HasTokens source tokens → IsFile (units tokens) items
-    → BreaksNone items Endless → IsSoundFile (setting_of items) → (text : List ℕ) × (status : Status) × IsReported items text status
+    → BreaksNone items Endless → (text : List ℕ) × (status : Status) × IsReported items text status

@@ -4,7 +4,9 @@ ghost use Rattle.match_top.specs.Laws.{OneAnswer, OneFirstFault, OneEntry, SomeE
 
 use decl_lexer::{one_fault as one_lexing_fault, one_token_list, tokens_or_fault};
 use decl_parser::{file_or_fault, one_fault, one_file};
-use pattern_laws::laws::{parsed_functions_are_spelled, some_verdict, verdict_is_one};
+use pattern_laws::laws::{
+    files_are_sound, parsed_functions_are_spelled, some_verdict, verdict_is_one,
+};
 use pattern_rules::laws::{answer_is_one, walk_tells};
 
 /// The bytes of a file have at most one text and one status.
@@ -26,7 +28,8 @@ pub fn one_first_fault()
     ensures { OneFirstFault }
 {}
 
-/// Each function of a file stands among its functions, and has exactly one entry.
+/// Each function of a file stands among its functions, and has at most one entry; it has one where no item breaks a rule
+/// on declarations.
 pub fn one_entry()
     ensures each { EachFunctionStands }
     ensures some { SomeEntry }
@@ -36,15 +39,16 @@ pub fn one_entry()
     verdict_is_one();
     walk_tells();
     parsed_functions_are_spelled();
+    files_are_sound();
     some_verdict();
 }
 
-/// A file of which no item breaks a rule on declarations, and whose types are sound, has a report. Every file that has a
-/// table of types is so (`pattern_laws::laws::tabled_functions_are_sound`).
+/// A file of which no item breaks a rule on declarations has a report.
 pub fn some_report()
     ensures { SomeReport }
 {
     walk_tells();
     parsed_functions_are_spelled();
+    files_are_sound();
     some_verdict();
 }

@@ -40,6 +40,8 @@ pub mod ReadingEntries
 pub mod TraceChoices
 pub mod SameArms
 pub mod JudgedShown
+pub mod WrittenTypes
+pub mod SoundFiles
 pub mod TableSeen
 pub mod TokenStanding
 pub mod SpelledPatterns

@@ -1,11 +1,11 @@
 -- The context of a table is seen through the types of its file.
-use Rattle.std.proofs.Common.{nat_lt, ◌≡◌, ℕ, zero, suc, ◌<◌, Bool, true, false, not, ◌&&◌, List, [], ◌∷◌, map, length, Option, Some, None, slice_get, IsTrue, refl, sym, ap, subst, ◌∙◌, arith}
+use Rattle.std.proofs.Common.{nat_lt, ◌≡◌, ℕ, zero, suc, ◌<◌, Bool, true, List, [], ◌∷◌, map, length, Option, Some, None, slice_get, IsTrue, refl, sym, ap, subst, ◌∙◌, arith}
 use Rattle.std.specs.Prelude.{is_some, option_map}
 use Rattle.std.specs.List.{list_all}
 use Rattle.std.proofs.lemmas.Bool.Decides.{nat_tests}
 use Rattle.std.proofs.lemmas.Option.{slice_get-map, slice_get_read}
 use Rattle.match_model.specs.declared.Width.{Width}
-use Rattle.match_model.specs.Types.{MType, PointType}
+use Rattle.match_model.specs.Types.{MType}
 use Rattle.match_model.specs.RustTypes.{rust_context, is_type, IsSoundProgram, RustValue}
 use Rattle.match_model.specs.ContextViews.{View, Passing, Seen}
 use Rattle.match_model.specs.Lists.{Every}
@@ -30,13 +30,14 @@ use Rattle.type_table.proofs.EmptyTypes.{rust_types, sound_table}
 use Rattle.type_table.proofs.ContextLemmas.{table_view}
 use Rattle.type_table.proofs.PathLemmas.{told_at}
 use Rattle.pattern_rules.specs.Settings.{Setting, program}
-use Rattle.pattern_rules.specs.Faults.{function_of, parameter_type, is_reference, scrutinee_by}
+use Rattle.pattern_rules.specs.Faults.{function_of, parameter_type}
 use Rattle.pattern_rules.specs.ArenaForms.{all_within}
 use Rattle.pattern_rules.specs.Verdicts.{IsVerdictOn}
 use Rattle.pattern_rules.proofs.SameTypes.{both_left, both_right}
 use Rattle.pattern_laws.specs.JudgedLaws.{by_offset, IsEngineMatch}
 use Rattle.pattern_laws.specs.TableLaws.{is_number_of, TableIsSeen, TablesAreSeen, IsSoundFile, TabledFilesAreSound, IsTableMatch, TableMatchIsWellTyped, JudgedTableMatch}
 use Rattle.pattern_laws.proofs.JudgedShown.{shown_typed, judged_shown}
+use Rattle.pattern_laws.proofs.SoundFiles.{scrutinee_is_type}
 
 module _ (table : TypeTable) where
   number_is : (ty : TyId) → IsOf table ty → IsTrue (is_number_of table ty)
@@ -146,18 +147,11 @@ module _ (s : Setting) (table : TypeTable) (is : IsTableOf s.items s.width table
       ∙ (ap (λ (ts : List Told). parameter_by (slice_get ts n)) is.told
       ∙ (ap parameter_by (told_at (means s.items) s.items n item at) ∙ parameter_kept item.kind s f h)))
 
-  scrutinee_is_type : (t : MType) (star : Option ℕ) → (is_some star && not (is_reference t)) ≡ false →
-      IsTrue (is_type (program s) t) →
-      IsTrue (is_type (program s) (scrutinee_by t star))
-  scrutinee_is_type t None h k = k
-  scrutinee_is_type (PointType mutable t) (Some at) h k = k
-  scrutinee_is_type t (Some at) h k = absurd cc
-
   pub sound_file : IsSoundFile s
   sound_file = record {
     sound = sound_there table s.items s.width is;
     scrutinee = λ item f c h b.
-        scrutinee_is_type (parameter_type s f) f.deref b.scrutinee
+        scrutinee_is_type (program s) (parameter_type s f) f.deref b.scrutinee
         (parameter_is_type c.0 item f (slice_get_read s.items (length s.items) c.0 item refl c.1 (sym c.2)) h);
   }
 

@@ -1,4 +1,4 @@
--- What the functions have that a source's tokens spell.
+-- What the files and functions have that a source's tokens spell.
 use Rattle.std.specs.Prelude.{◌≡◌, ◌≤◌, ℕ, Bool, true, List, length, chars, nat_le, Some, IsTrue}
 use Rattle.std.specs.List.{list_all, Contains}
 use Rattle.match_model.specs.Texts.{is_scalar}
@@ -10,11 +10,13 @@ use Rattle.decl_syntax.specs.Items.{ItemTree, ArmTree}
 use Rattle.decl_syntax.specs.Functions.{FunctionTree}
 use Rattle.decl_parser.specs.FileGrammar.{IsFile}
 use Rattle.type_table.specs.declared.table.TypeTable.{TypeTable}
+use Rattle.type_table.specs.Faults as declarations
 use Rattle.type_table.specs.Tables.{IsTableOf}
 use Rattle.pattern_rules.specs.Settings.{Setting}
 use Rattle.pattern_rules.specs.Faults.{function_of, BreaksNone}
 use Rattle.pattern_rules.specs.Spelled.{is_spelled, choice_offsets}
 use Rattle.pattern_rules.specs.ShownMatches.{IsSoundArm}
+use Rattle.pattern_laws.specs.TableLaws.{IsSoundFile}
 
 -- a character is a scalar value, a byte is at most 255, and a text is one of scalar values
 abbrev pub lexeme_is_spelled : Lexeme → Bool
@@ -48,3 +50,8 @@ ParsedArmsAreSound =
     (bytes : List ℕ) (tokens : List Placed) (s : Setting) (table : TypeTable) (item : ItemTree) (f : FunctionTree)
     (a : ArmTree) → HasTokens bytes tokens → IsFile (units tokens) s.items → IsTableOf s.items s.width table →
     Contains s.items item → function_of item.kind ≡ Some f → BreaksNone s f → Contains f.arms a → IsSoundArm s f a
+
+-- law: the types of the items that tokens spell are sound, where none of the items breaks a rule on declarations
+abbrev pub FilesAreSound : Type 0
+FilesAreSound = (tokens : List Placed) (s : Setting) → IsFile tokens s.items →
+    declarations.BreaksNone s.items s.width → IsSoundFile s

@@ -43,13 +43,13 @@ abbrev pub TablesAreSeen : Type 0
 TablesAreSeen = (items : List ItemTree) (width : Width) (table : TypeTable) → IsTableOf items width table →
     TableIsSeen items width table
 
--- the types of a file that has a table are sound, and so is that of the scrutinee of a function that breaks no rule
+-- the types of a file are sound, and so is that of the scrutinee of a function that breaks no rule
 pub record IsSoundFile (s : Setting) : Type 0 where
   pub sound : IsSoundProgram (program s)
   pub scrutinee : (item : ItemTree) (f : FunctionTree) → Contains s.items item → function_of item.kind ≡ Some f →
       BreaksNone s f → IsTrue (is_type (program s) (scrutinee_type s f))
 
--- law: so is every such file
+-- law: so is every file that has a table
 abbrev pub TabledFilesAreSound : Type 0
 TabledFilesAreSound = (s : Setting) (table : TypeTable) → IsTableOf s.items s.width table → IsSoundFile s
 

@@ -1,7 +1,7 @@
 //! Each function has an empty body, and its contract is a law.
 ghost use Rattle.pattern_laws.specs.Laws.{ArmsAreInForm, ArmsAreTyped, NamesAreApart, WaysAreKept};
 ghost use Rattle.pattern_laws.specs.JudgedLaws.{JudgedShownMatch, ShownMatchIsWellTyped, SomeVerdict, VerdictIsOne};
-ghost use Rattle.pattern_laws.specs.ParsedLaws.{ParsedArmsAreSound, ParsedFunctionsAreSpelled, TokensAreSpelled};
+ghost use Rattle.pattern_laws.specs.ParsedLaws.{FilesAreSound, ParsedArmsAreSound, ParsedFunctionsAreSpelled, TokensAreSpelled};
 ghost use Rattle.pattern_laws.specs.ShownLaws.{ShownArmIsTyped, ShownMatchIsKept, ShownNamesDiffer};
 ghost use Rattle.pattern_laws.specs.TableLaws.{JudgedTableMatch, TablesAreSeen, TabledFilesAreSound, TableMatchIsWellTyped};
 
@@ -92,6 +92,12 @@ pub fn tokens_are_spelled()
 /// no more arms than the source has bytes.
 pub fn parsed_functions_are_spelled()
     ensures { ParsedFunctionsAreSpelled }
+{}
+
+/// Where no item of a file that tokens spell breaks a rule on declarations, the types of the file are sound, and those of
+/// the scrutinees of functions that break no rule are among them.
+pub fn files_are_sound()
+    ensures { FilesAreSound }
 {}
 
 /// Where the file has a table, each arm is sound of each function that breaks no rule.

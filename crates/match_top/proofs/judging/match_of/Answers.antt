@@ -1,4 +1,3 @@
-use Rattle.std.proofs.Common.{Some, None, Option, IsSomeAnd, IfSome}
 use Rattle.decl_syntax.specs.Functions.{function_view}
 use Rattle.match_model.specs.declared.Width.TheVariants.{Endless}
 use Rattle.pattern_arena.specs.Trees.{plain_match}

@@ -1,7 +1,7 @@
-use Rattle.std.proofs.Common.{◌≡◌, refl, sym, ap, subst, Some}
+use Rattle.std.proofs.Common.{refl, sym, ap, subst}
 use Rattle.decl_syntax.specs.Functions.{function_view}
 use Rattle.match_model.specs.declared.Width.TheVariants.{Endless}
-use Rattle.pattern_rules.specs.Faults.{IsFirstPatternFault, BreaksNone}
+use Rattle.pattern_rules.specs.Faults.{IsFirstPatternFault}
 use Rattle.verdict_json.specs.Rules.{IsRule}
 use Rattle.verdict_json.specs.declared.refusal.Refusal.{Refusal}
 use Rattle.match_top.specs.Reports.{numbered, is_refused}
