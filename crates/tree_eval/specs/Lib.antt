@@ -1,0 +1,4 @@
+pub mod Views
+pub mod Nodes
+pub mod Tables
+pub mod Trees
