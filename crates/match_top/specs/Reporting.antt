@@ -1,5 +1,5 @@
 -- No meaning: what the private functions of `judging` and `reporting` give, for their proofs.
-use Rattle.std.specs.Prelude.{◌≡◌, ℕ, nat_eq, List, map, slice_get, Some}
+use Rattle.std.specs.Prelude.{◌≡◌, ℕ, List, map, slice_get, Some}
 use Rattle.std.specs.List.{AllZip, list_all}
 use Rattle.decl_lexer.specs.Lexing.{Placed, HasTokens}
 use Rattle.decl_parser.specs.FileGrammar.{IsFile}
