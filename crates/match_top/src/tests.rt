@@ -147,15 +147,25 @@ const FORMS_JUDGED: &str = "{\"functions\":[\
     {\"text\":\"(&[true, ..], &_)\",\"tree\":[\"node\",\"\",[[\"point\",\"&\",[\"row\",[[\"flag\",true]],true,[]]],\
     [\"point\",\"&\",[\"else\",[\"a\"]]]]]}]}]}\n";
 
+// The other forms of pattern: ends of ranges, rests of arrays and references.
+const OTHER_FORMS: &str =
+    "struct P{a:u8,b:(bool,char)}fn f(x:(&P,[i8;3],Option<&str>,&u8)){match x{\
+    (P{a:1..=9|20,b:(true,'x')},[m@-1,..,n]|[n,m,_],Some(\"é\"),&3)=>1,\
+    (P{b:(c,_),..},[_,r@..],None,&(5..8))=>2,_=>3}}";
+
+const ALL_FORMS: &str =
+    "{\"functions\":[{\"exhaustive\":true,\"name\":\"f\",\"overlaps\":[],\"unreachable\":[],\"witnesses\":[]}]}\n";
+
 // A source, the room of the sink, the numbers of the writes that fail, the number of the status, what is written.
 type SourceRow = (&'static str, usize, &'static [u64], u8, &'static str);
 
-const SOURCES: [SourceRow; 9] = [
+const SOURCES: [SourceRow; 10] = [
     (TWO_OF_THREE, 4096, &[], 1, MISSING_C),
     (TWO_OF_THREE, 4096, &[2], 5, "{\"functions\":[{\""),
     (TWO_OF_THREE, 5, &[], 5, "{\"fun"),
     (PAIRS, 4096, &[], 1, MISSING_PAIRS),
     (FORMS, 4096, &[], 1, FORMS_JUDGED),
+    (OTHER_FORMS, 4096, &[], 0, ALL_FORMS),
     ("", 4096, &[], 0, "{\"functions\":[]}\n"),
     ("struct S;", 4096, &[], 0, "{\"functions\":[]}\n"),
     (

@@ -27,10 +27,8 @@ use type_table::{TyId, TypeTable};
 
 /// The type of what a name holds: a type of a table, or, where there is a length, the array of so many items of that
 /// type. An array is always given in the second way, so that two of one table are equal exactly where their types are.
-#[derive(Clone, Copy, Debug)]
-#[derive_where(PartialEq, Eq, Hash)]
+#[derive(Clone, Copy, Debug, PartialEq, Eq, Hash)]
 pub(crate) struct Held {
-    #[derive_where(skip(Hash))]
     pub(crate) ty: TyId,
     pub(crate) length: Option<u64>,
 }
