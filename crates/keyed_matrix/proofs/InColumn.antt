@@ -1,0 +1,42 @@
+-- What stands in a column.
+use denote.Bor.{Bor}
+use Rattle.std.proofs.Common.{◌≡◌, ◌<◌, ℕ, zero, suc, ◌+◌, Bool, true, false, ◌&&◌, List, [], ◌∷◌, ◌++◌, map, drop, length, get_or, refl, ap, sym, ◌∙◌, arith, Option, Some, None, subst, slice_get, append_assoc, append-nil, drop-cons, add-one}
+use Rattle.std.specs.List.{filter_map, list_all}
+use Rattle.std.specs.Option.{option_to_list}
+use Rattle.match_model.specs.Constructors.{MCtor, WildCtor}
+use Rattle.match_model.specs.Lowering.{ctors_at, all_wild_at}
+use Rattle.match_model.specs.Matrices.{MRow}
+use Rattle.match_model.specs.Rows.{Head, is_wild, is_wild_ctor, starts_wild, first_ctor, ctor_unless_wild}
+use Rattle.pattern_arena.specs.declared.pattern.DePat.{DePat}
+use Rattle.pattern_arena.specs.Trees.{tree, placed_ctor}
+use Rattle.pattern_arena.proofs.TreeFacts.{tree_out}
+use Rattle.keyed_matrix.specs.declared.rows.KeyedRow.{KeyedRow}
+use Rattle.keyed_matrix.specs.Views.{plain_head, plain_heads, plain_row, plain_rows}
+
+-- the rest of the heads from the column on
+heads-from : {T : Type 0} (items : List (Option (Bor (DePat T)))) (i : ℕ) (h : Option (Bor (DePat T))) →
+    slice_get items i ≡ Some h → drop i (plain_heads items) ≡ plain_head h ∷ drop (suc i) (plain_heads items)
+heads-from [] i h e = cc
+heads-from (x ∷ items) zero h e = let s : x ≡ h = cc in ap (λ y. plain_head y ∷ plain_heads items) s
+heads-from (x ∷ items) (suc i) h e = heads-from items i h e
+
+pub wild-none : {T : Type 0} (row : KeyedRow T) (i : ℕ) → slice_get row.heads.items i ≡ Some None →
+    true ≡ starts_wild (drop i (plain_row row).heads)
+wild-none row i e = sym (ap starts_wild (heads-from row.heads.items i None e))
+
+pub wild-some : {T : Type 0} (row : KeyedRow T) (i : ℕ) (p : Bor (DePat T)) → slice_get row.heads.items i ≡ Some (Some p) →
+    is_wild_ctor (placed_ctor p.now) ≡ starts_wild (drop i (plain_row row).heads)
+wild-some row i p e =
+    sym (ap starts_wild (heads-from row.heads.items i (Some p) e) ∙ ap (λ q. is_wild (Some q)) (tree_out p.now))
+
+pub ctor-none : {T : Type 0} (row : KeyedRow T) (i : ℕ) (ctors : List MCtor) → slice_get row.heads.items i ≡ Some None →
+    ctors ≡ ctors ++ option_to_list (first_ctor (drop i (plain_row row).heads))
+ctor-none row i ctors e =
+    sym (append-nil ctors)
+    ∙ ap (λ hs. ctors ++ option_to_list (first_ctor hs)) (sym (heads-from row.heads.items i None e))
+
+pub ctor-some : {T : Type 0} (row : KeyedRow T) (i : ℕ) (p : Bor (DePat T)) → slice_get row.heads.items i ≡ Some (Some p) →
+    first_ctor (drop i (plain_row row).heads) ≡ ctor_unless_wild (placed_ctor p.now)
+ctor-some row i p e =
+    ap first_ctor (heads-from row.heads.items i (Some p) e)
+    ∙ ap (λ q. first_ctor (Some q ∷ drop (suc i) (plain_heads row.heads.items))) (tree_out p.now)

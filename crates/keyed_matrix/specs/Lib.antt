@@ -1,0 +1,5 @@
+pub mod Views
+pub mod Choosing
+pub mod Steps
+pub mod Columns
+pub mod First

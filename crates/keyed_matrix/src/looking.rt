@@ -1,0 +1,95 @@
+// What stands in rows at a column.
+ghost use Rattle.std.specs.Prelude.{◌≡◌, ◌<◌, ◌++◌, map, drop, length, IfOk, OnOk};
+ghost use Rattle.std.specs.Option.{option_to_list};
+ghost use Rattle.match_model.specs.Lowering.{ctors_at, all_wild_at};
+ghost use Rattle.match_model.specs.Rows.{is_wild_ctor, starts_wild, first_ctor, ctor_unless_wild};
+ghost use Rattle.pat_context.specs.Views.{plain_ctor};
+ghost use Rattle.pattern_arena.specs.Trees.{placed_ctor};
+ghost use Rattle.keyed_matrix.specs.Steps.{AreLonger};
+ghost use Rattle.keyed_matrix.specs.Views.{plain_row, plain_rows};
+
+use crate::KeyedRow;
+use no_memory::NoMemory;
+use pat_context::Ctor;
+use pattern_arena::DePat;
+use std::alloc::Global;
+
+/// Tells whether every row has a wildcard or a name in the column with this number, from 0. It takes no memory.
+pub fn are_wild<'a, T: Copy>(rows: &[KeyedRow<'a, T>], i: usize) -> bool
+    requires { AreLonger i (plain_rows rows.now) }
+    ensures { result ≡ all_wild_at i (plain_rows rows.now) }
+{
+    for row in rows {
+        if !is_wild_at(row, i) {
+            return false;
+        }
+    }
+    true
+}
+
+/// The constructors of the rows in the column, which are none of wildcards. The only error is want of memory.
+pub fn ctors_at<'a, T: Copy>(
+    alloc: Global,
+    rows: &[KeyedRow<'a, T>],
+    i: usize,
+) -> Result<Vec<Ctor<'a>>, NoMemory>
+    requires { AreLonger i (plain_rows rows.now) }
+    ensures { IfOk result (λ v. map plain_ctor v.items ≡ ctors_at i (plain_rows rows.now)) }
+{
+    let mut ctors = Vec::new(alloc);
+    for row in rows {
+        add_ctor(&mut ctors, row, i)?;
+    }
+    Ok(ctors)
+}
+
+// Tells whether the row has a wildcard or a name in the column.
+fn is_wild_at<'a, T: Copy>(row: &KeyedRow<'a, T>, i: usize) -> bool
+    requires { i < length row.now.heads.items }
+    ensures { result ≡ starts_wild (drop i (plain_row row.now).heads) }
+{
+    match row.heads[i] {
+        None => true,
+        Some(p) => is_wild(&p.ctor),
+    }
+}
+
+// Adds the constructor of the row in the column, where that is no wildcard.
+fn add_ctor<'a, T: Copy>(
+    ctors: &mut Vec<Ctor<'a>>,
+    row: &KeyedRow<'a, T>,
+    i: usize,
+) -> Result<(), NoMemory>
+    requires { i < length row.now.heads.items }
+    ensures { OnOk result (map plain_ctor ctors.new.items ≡ map plain_ctor ctors.old.items
+        ++ option_to_list (first_ctor (drop i (plain_row row.now).heads))) }
+{
+    match row.heads[i] {
+        None => Ok(()),
+        Some(p) => add_unless_wild(ctors, p),
+    }
+}
+
+// Adds the constructor of the pattern, where that is no wildcard.
+fn add_unless_wild<'a, T: Copy>(
+    ctors: &mut Vec<Ctor<'a>>,
+    p: &'a DePat<'a, T>,
+) -> Result<(), NoMemory>
+    ensures { OnOk result (map plain_ctor ctors.new.items ≡ map plain_ctor ctors.old.items
+        ++ option_to_list (ctor_unless_wild (placed_ctor p.entry.now))) }
+{
+    if !is_wild(&p.ctor) {
+        ctors.push(p.ctor)?;
+    }
+    Ok(())
+}
+
+// Tells whether the constructor is a wildcard.
+pub(crate) fn is_wild(ctor: &Ctor) -> bool
+    ensures { result ≡ is_wild_ctor (plain_ctor ctor.now) }
+{
+    match ctor {
+        Ctor::Wild => true,
+        _ => false,
+    }
+}

@@ -1,0 +1,105 @@
+// A row with something else in place of one of its heads.
+ghost use Rattle.std.specs.Prelude.{◌≡◌, ◌<◌, ◌++◌, map, take, drop, length, IfOk, OnOk};
+ghost use Rattle.match_model.specs.Matrices.{bind_at};
+ghost use Rattle.match_model.specs.Steps.{row_replaced, replaced_at};
+ghost use Rattle.pat_context.specs.Views.{plain_place};
+ghost use Rattle.pattern_arena.specs.Trees.{plain_bound};
+ghost use Rattle.keyed_matrix.specs.Views.{plain_heads, plain_caught, plain_row};
+
+use crate::{Caught, KeyedRow};
+use no_memory::NoMemory;
+use pat_context::Step;
+use pattern_arena::{Bound, DePat};
+use smallvec::SmallVec;
+use std::alloc::Global;
+
+// Adds the heads.
+fn add_heads<'a, T: Copy>(
+    all: &mut Vec<Option<&'a DePat<'a, T>>>,
+    more: &[Option<&'a DePat<'a, T>>],
+) -> Result<(), NoMemory>
+    ensures { OnOk result (all.new.items ≡ all.old.items ++ more.now) }
+{
+    for head in more {
+        all.push(*head)?;
+    }
+    Ok(())
+}
+
+// The heads with these in place of the head with the number.
+fn replaced_heads<'a, T: Copy>(
+    alloc: Global,
+    heads: &[Option<&'a DePat<'a, T>>],
+    i: usize,
+    new: &[Option<&'a DePat<'a, T>>],
+) -> Result<Vec<Option<&'a DePat<'a, T>>>, NoMemory>
+    requires { i < length heads.now }
+    ensures { IfOk result (λ v. plain_heads v.items ≡ replaced_at i (plain_heads heads.now) (plain_heads new.now)) }
+{
+    let mut all = Vec::new(alloc);
+    add_heads(&mut all, &heads[..i])?;
+    add_heads(&mut all, new)?;
+    add_heads(&mut all, &heads[i + 1..])?;
+    Ok(all)
+}
+
+// The alternatives that were chosen before, and these.
+fn both_chosen(alloc: Global, chosen: &[u64], more: &[u64]) -> Result<SmallVec<u64, 8>, NoMemory>
+    ensures { IfOk result (λ c. c.items ≡ chosen.now ++ more.now) }
+{
+    let mut all = SmallVec::from_slice(alloc, chosen)?;
+    for uid in more {
+        all.push(*uid)?;
+    }
+    Ok(all)
+}
+
+// The names that were caught before, and these at the place.
+fn both_caught<'a>(
+    alloc: Global,
+    caught: &[Caught<'a>],
+    place: &'a [Step],
+    binds: &[Bound<'a>],
+) -> Result<Vec<Caught<'a>>, NoMemory>
+    ensures { IfOk result (λ c. map plain_caught c.items ≡ map plain_caught caught.now
+        ++ map (bind_at (plain_place place.now)) (map plain_bound binds.now)) }
+{
+    let mut all = Vec::from_slice(alloc, caught)?;
+    for bound in binds {
+        all.push(Caught {
+            bound: *bound,
+            place,
+        })?;
+    }
+    Ok(all)
+}
+
+// The row with these heads in place of the head with the number, these alternatives chosen besides, and these names
+// caught at the place.
+pub(crate) fn replaced_row<'a, T: Copy>(
+    alloc: Global,
+    row: &KeyedRow<'a, T>,
+    i: usize,
+    place: &'a [Step],
+    heads: &[Option<&'a DePat<'a, T>>],
+    chosen: &[u64],
+    binds: &[Bound<'a>],
+) -> Result<KeyedRow<'a, T>, NoMemory>
+    requires { i < length row.now.heads.items }
+    ensures { IfOk result (λ r. plain_row r ≡ row_replaced (plain_place place.now) (plain_row row.now) (record {
+      heads = replaced_at i (plain_heads row.now.heads.items) (plain_heads heads.now);
+      chosen = chosen.now;
+      binds = map plain_bound binds.now;
+    })) }
+{
+    let new = replaced_heads(alloc, &row.heads, i, heads)?;
+    let all = both_chosen(alloc, row.chosen.as_slice(), chosen)?;
+    let caught = both_caught(alloc, &row.caught, place, binds)?;
+    Ok(KeyedRow {
+        heads: new,
+        arm: row.arm,
+        guarded: row.guarded,
+        chosen: all,
+        caught,
+    })
+}

@@ -1,0 +1,281 @@
+// The steps that take rows apart at a column.
+ghost use Rattle.std.specs.Prelude.{◌≡◌, ◌<◌, ◌++◌, ◌∷◌, [], map, length, IfOk, OnOk, Some};
+ghost use Rattle.match_model.specs.Constructors.{LongerShape, RowCtor};
+ghost use Rattle.match_model.specs.Rows.{wildcards, heads_of, choices_of};
+ghost use Rattle.match_model.specs.Steps.{expand_head, specialise_head, default_head};
+ghost use Rattle.match_model.specs.Steps.{rows_at, row_replaced, replaced_at};
+ghost use Rattle.pat_context.specs.Views.{plain_ctor, plain_place};
+ghost use Rattle.pattern_arena.specs.Trees.{tree, placed_ctor, placed_subs, plain_bound};
+ghost use Rattle.keyed_matrix.specs.Views.{plain_heads, plain_row, plain_rows};
+ghost use Rattle.keyed_matrix.specs.Steps.{row_at, chosen_rows, AreLonger};
+
+use crate::KeyedRow;
+use crate::choices::choices_of;
+use crate::looking::is_wild;
+use crate::replacing::replaced_row;
+use constructor_sets::has_piece;
+use no_memory::NoMemory;
+use pat_context::{Ctor, Step};
+use pattern_arena::{Bound, DePat};
+use slice_split::Shape;
+use std::alloc::Global;
+
+/// The rows with their or-patterns in the column with this number, from 0, taken apart: each row once for each choice
+/// among the alternatives of its head there. The rows are those of the definitions, in this order; each has a head at
+/// the column, which looks at the place. The only error is want of memory.
+pub fn expanded_rows<'a, T: Copy>(
+    alloc: Global,
+    rows: &[KeyedRow<'a, T>],
+    i: usize,
+    place: &'a [Step],
+) -> Result<Vec<KeyedRow<'a, T>>, NoMemory>
+    requires { AreLonger i (plain_rows rows.now) }
+    ensures { IfOk result (λ v. plain_rows v.items
+        ≡ rows_at expand_head (plain_place place.now) i (plain_rows rows.now)) }
+{
+    let mut all = Vec::new(alloc);
+    for row in rows {
+        add_expanded(alloc, &mut all, row, i, place)?;
+    }
+    Ok(all)
+}
+
+/// The rows of a piece of so many parts: those whose head at the column has all of the piece, with the heads of the
+/// parts in its place. The rows are those of the definitions, in this order; each has a head at the column, which looks
+/// at the place. The only error is want of memory.
+pub fn piece_rows<'a, T: Copy>(
+    alloc: Global,
+    rows: &[KeyedRow<'a, T>],
+    i: usize,
+    place: &'a [Step],
+    piece: &Ctor,
+    count: usize,
+) -> Result<Vec<KeyedRow<'a, T>>, NoMemory>
+    requires { AreLonger i (plain_rows rows.now) }
+    ensures { IfOk result (λ v. plain_rows v.items
+        ≡ rows_at (specialise_head (plain_ctor piece.now) count) (plain_place place.now) i (plain_rows rows.now)) }
+{
+    let mut all = Vec::new(alloc);
+    for row in rows {
+        add_entered(alloc, &mut all, row, i, place, piece, count)?;
+    }
+    Ok(all)
+}
+
+/// The rows whose head at the column is a wildcard or a name, without it. The rows are those of the definitions, in
+/// this order; each has a head at the column, which looks at the place. The only error is want of memory.
+pub fn dropped_rows<'a, T: Copy>(
+    alloc: Global,
+    rows: &[KeyedRow<'a, T>],
+    i: usize,
+    place: &'a [Step],
+) -> Result<Vec<KeyedRow<'a, T>>, NoMemory>
+    requires { AreLonger i (plain_rows rows.now) }
+    ensures { IfOk result (λ v. plain_rows v.items
+        ≡ rows_at default_head (plain_place place.now) i (plain_rows rows.now)) }
+{
+    let mut all = Vec::new(alloc);
+    for row in rows {
+        add_dropped(alloc, &mut all, row, i, place)?;
+    }
+    Ok(all)
+}
+
+// Adds the row once for each choice at the column.
+fn add_expanded<'a, T: Copy>(
+    alloc: Global,
+    all: &mut Vec<KeyedRow<'a, T>>,
+    row: &KeyedRow<'a, T>,
+    i: usize,
+    place: &'a [Step],
+) -> Result<(), NoMemory>
+    requires { i < length row.now.heads.items }
+    ensures { OnOk result (plain_rows all.new.items ≡ plain_rows all.old.items
+        ++ row_at expand_head (plain_place place.now) i (plain_row row.now)) }
+{
+    match row.heads[i] {
+        None => add_replaced(alloc, all, row, i, place, &[None], &[], &[]),
+        Some(p) => add_chosen(alloc, all, row, i, place, p),
+    }
+}
+
+// Adds the row once for each choice of the pattern, which stands at the column.
+fn add_chosen<'a, T: Copy>(
+    alloc: Global,
+    all: &mut Vec<KeyedRow<'a, T>>,
+    row: &KeyedRow<'a, T>,
+    i: usize,
+    place: &'a [Step],
+    p: &'a DePat<'a, T>,
+) -> Result<(), NoMemory>
+    requires { i < length row.now.heads.items }
+    ensures { OnOk result (plain_rows all.new.items ≡ plain_rows all.old.items
+        ++ chosen_rows (plain_place place.now) i (plain_row row.now) (choices_of (tree p.entry.now))) }
+{
+    let choices = choices_of(alloc, p)?;
+    for c in &choices {
+        add_replaced(
+            alloc,
+            all,
+            row,
+            i,
+            place,
+            &[Some(c.pat)],
+            c.chosen.as_slice(),
+            &c.binds,
+        )?;
+    }
+    Ok(())
+}
+
+// Adds the row with the heads of the parts in place of its head at the column, where that has all of the piece.
+fn add_entered<'a, T: Copy>(
+    alloc: Global,
+    all: &mut Vec<KeyedRow<'a, T>>,
+    row: &KeyedRow<'a, T>,
+    i: usize,
+    place: &'a [Step],
+    piece: &Ctor,
+    count: usize,
+) -> Result<(), NoMemory>
+    requires { i < length row.now.heads.items }
+    ensures { OnOk result (plain_rows all.new.items ≡ plain_rows all.old.items
+        ++ row_at (specialise_head (plain_ctor piece.now) count) (plain_place place.now) i (plain_row row.now)) }
+{
+    match row.heads[i] {
+        None => {
+            let heads = wilds(alloc, count)?;
+            add_replaced(alloc, all, row, i, place, &heads, &[], &[])
+        }
+        Some(p) => {
+            if has_piece(&p.ctor, piece) {
+                let heads = part_heads(alloc, p, count)?;
+                add_replaced(alloc, all, row, i, place, &heads, &[], p.binds)
+            } else {
+                Ok(())
+            }
+        }
+    }
+}
+
+// Adds the row without its head at the column, where that is a wildcard or a name.
+fn add_dropped<'a, T: Copy>(
+    alloc: Global,
+    all: &mut Vec<KeyedRow<'a, T>>,
+    row: &KeyedRow<'a, T>,
+    i: usize,
+    place: &'a [Step],
+) -> Result<(), NoMemory>
+    requires { i < length row.now.heads.items }
+    ensures { OnOk result (plain_rows all.new.items ≡ plain_rows all.old.items
+        ++ row_at default_head (plain_place place.now) i (plain_row row.now)) }
+{
+    match row.heads[i] {
+        None => add_replaced(alloc, all, row, i, place, &[], &[], &[]),
+        Some(p) => {
+            if is_wild(&p.ctor) {
+                add_replaced(alloc, all, row, i, place, &[], &[], p.binds)
+            } else {
+                Ok(())
+            }
+        }
+    }
+}
+
+// Adds the row with these heads in place of that at the column.
+fn add_replaced<'a, T: Copy>(
+    alloc: Global,
+    all: &mut Vec<KeyedRow<'a, T>>,
+    row: &KeyedRow<'a, T>,
+    i: usize,
+    place: &'a [Step],
+    heads: &[Option<&'a DePat<'a, T>>],
+    chosen: &[u64],
+    binds: &[Bound<'a>],
+) -> Result<(), NoMemory>
+    requires { i < length row.now.heads.items }
+    ensures { OnOk result (plain_rows all.new.items ≡ plain_rows all.old.items
+        ++ row_replaced (plain_place place.now) (plain_row row.now) (record {
+          heads = replaced_at i (plain_heads row.now.heads.items) (plain_heads heads.now);
+          chosen = chosen.now;
+          binds = map plain_bound binds.now;
+        }) ∷ []) }
+{
+    let new = replaced_row(alloc, row, i, place, heads, chosen, binds)?;
+    all.push(new)?;
+    Ok(())
+}
+
+// So many heads that no pattern wrote.
+#[tactic(auto, using(crate::proofs::Replaced::more_wilds))]
+fn wilds<'a, T: Copy>(
+    alloc: Global,
+    count: usize,
+) -> Result<Vec<Option<&'a DePat<'a, T>>>, NoMemory>
+    ensures { IfOk result (λ v. plain_heads v.items ≡ wildcards count) }
+{
+    let mut all = Vec::new(alloc);
+    for _part in 0..count {
+        all.push(None)?;
+    }
+    Ok(all)
+}
+
+// Adds the patterns as heads.
+fn add_subs<'a, T: Copy>(
+    heads: &mut Vec<Option<&'a DePat<'a, T>>>,
+    subs: &'a [DePat<'a, T>],
+) -> Result<(), NoMemory>
+    ensures { OnOk result (plain_heads heads.new.items
+        ≡ plain_heads heads.old.items ++ map (λ p. Some (tree p)) subs.entry.now) }
+{
+    for p in subs {
+        heads.push(Some(p))?;
+    }
+    Ok(())
+}
+
+// The heads of the parts that the pattern writes, of so many.
+fn part_heads<'a, T: Copy>(
+    alloc: Global,
+    p: &'a DePat<'a, T>,
+    count: usize,
+) -> Result<Vec<Option<&'a DePat<'a, T>>>, NoMemory>
+    ensures { IfOk result (λ v. plain_heads v.items
+        ≡ heads_of (placed_ctor p.entry.now) (map (λ q. Some (tree q)) (placed_subs p.entry.now)) count) }
+{
+    match p.ctor {
+        Ctor::Wild => wilds(alloc, count),
+        Ctor::Row(Shape::Longer { front, back }) => end_heads(alloc, p.subs, front, back, count),
+        _ => {
+            let mut heads = Vec::new(alloc);
+            add_subs(&mut heads, p.subs)?;
+            Ok(heads)
+        }
+    }
+}
+
+// The heads of the items at both ends of a row of so many, and those between them that no pattern wrote.
+fn end_heads<'a, T: Copy>(
+    alloc: Global,
+    subs: &'a [DePat<'a, T>],
+    front: u64,
+    back: u64,
+    count: usize,
+) -> Result<Vec<Option<&'a DePat<'a, T>>>, NoMemory>
+    ensures { IfOk result (λ v. plain_heads v.items
+        ≡ heads_of (RowCtor (LongerShape front back)) (map (λ q. Some (tree q)) subs.entry.now) count) }
+{
+    let cut = subs.len().min(front as usize);
+    let (start, end) = subs.split_at(cut);
+    let mut heads = Vec::new(alloc);
+    add_subs(&mut heads, start)?;
+    let gap = count
+        .saturating_sub(front as usize)
+        .saturating_sub(back as usize);
+    for _part in 0..gap {
+        heads.push(None)?;
+    }
+    add_subs(&mut heads, end)?;
+    Ok(heads)
+}
