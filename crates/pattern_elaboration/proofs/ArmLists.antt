@@ -23,32 +23,25 @@ use Rattle.pattern_rules.specs.Nodes.{offset_of}
 use Rattle.pattern_rules.specs.Faults.{scrutinee_type}
 use Rattle.pattern_rules.specs.ArenaForms.{all_within, all_below}
 use Rattle.pattern_rules.specs.Elaborated.{standing_at}
-use Rattle.pattern_rules.specs.Shown.{settled, shown}
+use Rattle.pattern_rules.specs.Shown.{shown}
 use Rattle.pattern_rules.specs.ShownMatches.{IsSoundArm, IsShownMatch}
 use Rattle.pattern_elaboration.specs.Arms.{IsArmShown, arm_trees, IsMatchMade}
 use Rattle.pattern_elaboration.specs.Checking.{IsSettingOf}
 use Rattle.pattern_elaboration.specs.Fitting.{Fits}
 use Rattle.pattern_elaboration.specs.Numbered.{times, AreNumbered, AreMade}
-use Rattle.pattern_elaboration.specs.Placed.{standing_tree}
-use Rattle.pattern_elaboration.specs.Walking.{PatternShown}
+use Rattle.pattern_elaboration.specs.Walking.{plain, PatternShown}
 use Rattle.pattern_elaboration.specs.Written.{built}
 use Rattle.pattern_elaboration.proofs.FieldLists.{every_left, every_right}
 use Rattle.pattern_elaboration.proofs.Fittings.{arm_fits}
 use Rattle.pattern_elaboration.proofs.Numbering.{times_both, numbered_distinct, arms_uids}
-use Rattle.pattern_elaboration.proofs.Settling.{standing_settled, standing_at_offset}
 
 -- a pattern at the offset of the written one
-pub arm_pattern : (table : TypeTable) (t : MType) (written : PatternTree) (from n : ℕ) (below made : DePat TyId) →
-    offset_of written ≡ from →
-    tree made ≡ standing_tree n from (tree below) → PatternShown table t Move written below →
+pub arm_pattern : (table : TypeTable) (t : MType) (written : PatternTree) (below made : DePat TyId) →
+    shown (table_type table) (tree made) ≡ standing_at (offset_of written) (plain table below) →
+    PatternShown table t Move written below →
     (s : Setting) → IsSettingOf table s → Fits s t written →
     shown (table_type table) (tree made) ≡ standing_at (offset_of written) (built s t Move written)
-arm_pattern table t written from n below made at is h s of fits =
-    ap (shown (table_type table)) is
-    ∙ (ap (λ (u : ℕ). settled (table_type table) u (standing_tree n from (tree below)))
-    (standing_at_offset n from (tree below))
-    ∙ (standing_settled (table_type table) n from (tree below)
-    ∙ (ap (standing_at from) (h s of fits) ∙ ap (λ (u : ℕ). standing_at u (built s t Move written)) (sym at))))
+arm_pattern table t written below made stands h s of fits = stands ∙ ap (standing_at (offset_of written)) (h s of fits)
 
 -- one thing more on each side
 pub each_more : {A B : Type 0} (R : A → B → Type 0) (xs : List A) (ys : List B) (x : A) (y : B) → Each R xs ys →

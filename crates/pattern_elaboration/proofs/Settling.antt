@@ -1,11 +1,15 @@
 -- What is built, without its uids, is what the elaborated patterns are built of.
-use Rattle.std.proofs.Common.{◌≡◌, ℕ, Bool, true, false, not, ◌&&◌, List, [], ◌∷◌, map, nat_eq, refl, ap, if◌then◌else◌}
+use Rattle.std.proofs.Common.{◌≡◌, ℕ, Bool, true, false, not, ◌&&◌, List, [], ◌∷◌, map, nat_eq, refl, sym, ap, ◌∙◌, if◌then◌else◌}
 use Rattle.match_model.specs.Types.{MType}
 use Rattle.match_model.specs.Constructors.{MCtor, OrCtor}
 use Rattle.match_model.specs.ArenaPatterns.{MBound, MDePat, de_pat, no_de_pats, more_de_pats, de_pats_of, at_of}
+use Rattle.decl_syntax.specs.declared.tree.Pat.{Pat}
+use Rattle.decl_syntax.specs.Patterns.{pattern_view}
+use Rattle.pattern_rules.specs.Nodes.{offset_of}
 use Rattle.pattern_rules.specs.Elaborated.{with_bound, is_wide_ctor, standing_at}
 use Rattle.pattern_rules.specs.Shown.{uid_under, settled, settled_all, shown}
 use Rattle.pattern_elaboration.specs.Placed.{bound_on, standing_tree}
+use Rattle.pattern_elaboration.proofs.Walks.{view_at}
 
 -- one more name
 pub bound_settled : {T : Type 0} (type : T → MType) (u : ℕ) (b : MBound) (p : MDePat T) → settled type u
@@ -13,7 +17,7 @@ pub bound_settled : {T : Type 0} (type : T → MType) (u : ℕ) (b : MBound) (p 
 bound_settled type u b (de_pat c t uid at subs binds) = refl
 
 -- an alternative, or an arm's pattern
-pub standing_settled : {T : Type 0} (type : T → MType) (n here : ℕ) (p : MDePat T) → settled type here
+standing_settled : {T : Type 0} (type : T → MType) (n here : ℕ) (p : MDePat T) → settled type here
     (standing_tree n here p) ≡ standing_at here (settled type 0 p)
 standing_settled type n here (de_pat c t uid at subs binds) = go (is_wide_ctor c && not (nat_eq here at))
   where
@@ -26,13 +30,23 @@ standing_settled type n here (de_pat c t uid at subs binds) = go (is_wide_ctor c
     go true = refl
     go false = refl
 
-pub standing_at_offset : {T : Type 0} (n here : ℕ) (p : MDePat T) → at_of (standing_tree n here p) ≡ here
+standing_at_offset : {T : Type 0} (n here : ℕ) (p : MDePat T) → at_of (standing_tree n here p) ≡ here
 standing_at_offset n here (de_pat c t uid at subs binds) = go (is_wide_ctor c && not (nat_eq here at))
   where
     go : (b : Bool) → at_of (if b then de_pat OrCtor t n here (more_de_pats (de_pat c t uid at subs binds) no_de_pats)
         [] else de_pat c t uid here subs binds) ≡ here
     go true = refl
     go false = refl
+
+-- an alternative, or an arm's pattern, where the written one begins, with its offset for its uid
+pub standing_shown : {T : Type 0} (type : T → MType) (n : ℕ) (written : Pat) (p q : MDePat T) →
+    q ≡ standing_tree n written.from p →
+    shown type q ≡ standing_at (offset_of (pattern_view written)) (settled type 0 p)
+standing_shown type n written p q e =
+    ap (shown type) e
+    ∙ (ap (λ u. settled type u (standing_tree n written.from p)) (standing_at_offset n written.from p)
+    ∙ (standing_settled type n written.from p
+    ∙ ap (λ at. standing_at at (settled type 0 p)) (sym (ap offset_of (view_at written)))))
 
 -- the constructor is no or-pattern
 abbrev pub IsNoOr : MCtor → Type 0

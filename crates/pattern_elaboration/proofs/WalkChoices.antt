@@ -21,22 +21,11 @@ use Rattle.pattern_rules.specs.Resolved.{alternatives}
 use Rattle.pattern_rules.specs.Shown.{settled, shown}
 use Rattle.pattern_elaboration.specs.Checking.{IsSettingOf}
 use Rattle.pattern_elaboration.specs.Fitting.{Fits, AllFit}
-use Rattle.pattern_elaboration.specs.Placed.{standing_tree}
-use Rattle.pattern_elaboration.specs.Walking.{PatternShown}
+use Rattle.pattern_elaboration.specs.Walking.{plain, PatternShown}
 use Rattle.pattern_elaboration.specs.Written.{built, built_choices}
-use Rattle.pattern_elaboration.proofs.Settling.{standing_settled, standing_at_offset, choices_settled}
+use Rattle.pattern_elaboration.proofs.Settling.{choices_settled}
 use Rattle.pattern_elaboration.proofs.WalkLists.{one_more}
-use Rattle.pattern_elaboration.proofs.Walks.{list_of, from_here, view_at}
-
--- an alternative, or an arm's pattern, with its offset for its uid
-pub standing_shown : {T : Type 0} (type : T → MType) (n here : ℕ) (p q : MDePat T) → q ≡ standing_tree n here p →
-    shown type q ≡ standing_at here (settled type 0 p)
-standing_shown type n here p q e =
-    ap (shown type) e ∙ (ap (λ u. settled type u (standing_tree n here p)) (standing_at_offset n here p)
-    ∙ standing_settled type n here p)
-
-pub offset_there : (p : Pat) → offset_of (pattern_view p) ≡ p.from
-offset_there p = ap offset_of (view_at p)
+use Rattle.pattern_elaboration.proofs.Walks.{list_of, from_here}
 
 -- what the alternatives become, one by one
 pub choices_are : (s : Setting) (t : MType) (m : Mode) (ps : PatternTrees) → elaborated_alternatives (program s)
@@ -53,22 +42,21 @@ ChoicesLeft table t m all left made =
     (s : Setting) → IsSettingOf table s → AllFit s t all → AllFit s t left × (shown_list table made ++ built_choices s
     t m left ≡ built_choices s t m all)
 
-pub choice_pushed : (table : TypeTable) (t : MType) (m : Mode) (all : List Pat) (i n : ℕ) (p : Pat)
+pub choice_pushed : (table : TypeTable) (t : MType) (m : Mode) (all : List Pat) (i : ℕ) (p : Pat)
     (done pushed : List (DePat TyId)) (below new : DePat TyId) →
-    i < length all → p ≡ get_or all i p → pushed ≡ done ++ new ∷ [] → tree new ≡ standing_tree n p.from (tree below) →
+    i < length all → p ≡ get_or all i p → pushed ≡ done ++ new ∷ [] →
+    shown (table_type table) (tree new) ≡ standing_at (offset_of (pattern_view p)) (plain table below) →
     PatternShown table t m (pattern_view p) below →
     ChoicesLeft table t m (list_of all) (list_of (drop i all)) done → ChoicesLeft table t m (list_of all)
     (list_of (drop (i + 1) all)) pushed
-choice_pushed table t m all i n p done pushed below new lt at push stands made h s is fit =
+choice_pushed table t m all i p done pushed below new lt at push stands made h s is fit =
     let before : AllFit s t (list_of (drop i all)) × (shown_list table done ++ built_choices s t m
     (list_of (drop i all)) ≡ built_choices s t m (list_of all)) = h s is fit in
     let here : Fits s t (pattern_view p) × AllFit s t (list_of (drop (i + 1) all)) = subst (λ xs. AllFit s t xs)
     (from_here all i p lt at) before.0 in
     let value : shown (table_type table) (tree new) ≡ standing_at (offset_of (pattern_view p))
     (built s t m (pattern_view p))
-    = standing_shown (table_type table) n p.from (tree below) (tree new) stands
-    ∙ (ap (standing_at p.from) (made s is here.0) ∙ ap (λ at. standing_at at (built s t m (pattern_view p)))
-    (sym (offset_there p))) in
+    = stands ∙ ap (standing_at (offset_of (pattern_view p))) (made s is here.0) in
     let step : built_choices s t m (list_of (drop i all)) ≡ shown (table_type table) (tree new) ∷ built_choices s t m
     (list_of (drop (i + 1) all))
     = ap (λ xs. built_choices s t m xs) (from_here all i p lt at) ∙ ap (λ (b : Built). b ∷ built_choices s t m

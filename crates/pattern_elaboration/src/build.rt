@@ -1,14 +1,20 @@
 //! Nodes of patterns, each with a number of its own.
 ghost use Rattle.std.specs.Prelude.{◌≡◌, ◌+◌, ◌≤◌, ℕ, [], map, IfOk};
 ghost use Rattle.match_model.specs.ArenaPatterns.{de_pat, no_de_pats, de_pats_of};
+ghost use Rattle.match_model.specs.Types.{MType};
+ghost use Rattle.decl_syntax.specs.Patterns.{pattern_view};
 ghost use Rattle.pat_context.specs.Views.{plain_ctor};
 ghost use Rattle.pattern_arena.specs.Trees.{plain_bound, tree};
-ghost use Rattle.pattern_rules.specs.Elaborated.{is_wide_ctor};
+ghost use Rattle.pattern_rules.specs.Elaborated.{is_wide_ctor, standing_at};
+ghost use Rattle.pattern_rules.specs.Nodes.{offset_of};
+ghost use Rattle.pattern_rules.specs.Shown.{settled, shown as shown_of};
+ghost use Rattle.type_table.specs.declared.table.TyId.{TyId as AnyType};
 ghost use Rattle.type_table.specs.declared.table.TypeTable.{TypeTable as AnyTable};
 ghost use Rattle.type_table.specs.Tables.{IsOf};
 ghost use Rattle.pattern_elaboration.specs.Numbered.{IsMade, AreMade};
 ghost use Rattle.pattern_elaboration.specs.Placed.{bound_on, standing_tree};
 
+use decl_syntax::Pat;
 use no_memory::NoMemory;
 use pat_context::Ctor;
 use pattern_arena::{Bound, DePat, Placer};
@@ -124,8 +130,24 @@ pub fn is_wide(ctor: &Ctor<'_>) -> bool
     }
 }
 
-/// The pattern as an alternative, or as an arm's, at the offset; a range that stands elsewhere keeps its own below.
-pub fn standing<'a>(
+/// The pattern that a written one becomes, as an alternative or as an arm's: it stands where the written one begins,
+/// parentheses around it included. The only error is want of memory.
+pub fn standing_as<'a>(
+    placer: &Placer<'a>,
+    next: &mut u64,
+    written: &Pat,
+    pattern: DePat<'a, TyId>,
+) -> Result<DePat<'a, TyId>, NoMemory>
+    ensures stands { (type : AnyType → MType) → IfOk result (λ p. shown_of type (tree p)
+        ≡ standing_at (offset_of (pattern_view written.now)) (settled type 0 (tree pattern.entry))) }
+    ensures made { (any : AnyTable) (from : ℕ) → IsMade (IsOf any) from next.old (tree pattern.entry)
+        → IfOk result (λ p. IsMade (IsOf any) from next.new (tree p)) }
+{
+    standing(placer, next, written.from, pattern)
+}
+
+// The pattern at the offset; a range that stands elsewhere keeps its own below.
+fn standing<'a>(
     placer: &Placer<'a>,
     next: &mut u64,
     at: u64,

@@ -10,8 +10,6 @@ pub mod names;
 pub mod parts;
 pub mod references;
 pub mod rows;
-#[cfg(test)]
-mod tests;
 pub mod top;
 pub mod types;
 pub mod walk;

@@ -16,7 +16,7 @@ ghost use Rattle.pattern_elaboration.specs.Checking.{IsOfFile, IsSettingOf};
 ghost use Rattle.pattern_elaboration.specs.Numbered.{AreMade};
 ghost use Rattle.pattern_elaboration.specs.Arms.{IsArmShown, IsArmMade, arm_trees, IsMatchMade, validity_by};
 
-use crate::build::standing;
+use crate::build::standing_as;
 use crate::types::Place;
 use crate::walk::elaborate_pattern;
 use decl_syntax::{Arm, FnItem};
@@ -107,7 +107,7 @@ fn checked_arm<'a>(
         mode: Mode::Move,
     };
     let pattern = elaborate_pattern(alloc, table, placer, next, &arm.pat, here)?;
-    let pat = standing(placer, next, arm.pat.from, pattern)?;
+    let pat = standing_as(placer, next, &arm.pat, pattern)?;
     Ok(CheckedArm {
         pat,
         guarded: arm.guarded,

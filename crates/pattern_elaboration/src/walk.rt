@@ -10,7 +10,7 @@ ghost use Rattle.pattern_elaboration.specs.Numbered.{AreMade};
 ghost use Rattle.pattern_elaboration.specs.Walking.{PatternShown, ShapeShown, BoundShown, MadeHere};
 ghost use Rattle.pattern_elaboration.specs.Walking.{PartsShown, FieldsShown, ItemsShown, ChoicesShown};
 
-use crate::build::{over, standing};
+use crate::build::{over, standing_as};
 use crate::forms::{Listed, form_behind, put, put_field, row_behind, tuple_behind};
 use crate::leaves::{bare_name, binding, named, path_form, wildcard};
 use crate::literals::{literal, range_pattern};
@@ -418,7 +418,7 @@ fn elaborate_alternatives<'a>(
     let mut choices = Vec::new(alloc);
     for alternative in all {
         let pattern = elaborate_pattern(alloc, table, placer, next, alternative, here)?;
-        let made = standing(placer, next, alternative.from, pattern)?;
+        let made = standing_as(placer, next, alternative, pattern)?;
         choices.push(made)?;
     }
     Ok(choices)

@@ -540,13 +540,13 @@ elaborate_alternatives-loop-alternative-preserved t c =
     let lt : i < length items = omega arith in
     let u = table_type c.args.table.now c.args.here.ty in
     record {
-      made = trees_made c.args.table.now c.args.next.now c.loop-alternative.next c.standing.new.next
+      made = trees_made c.args.table.now c.args.next.now c.loop-alternative.next c.standing_as.new.next
           c.loop-alternative.choices.items c.push.new.self.items c.in_ok-made.made c.in_ok-push.ensures.items
           c.loop-alternative.invariant.made (c.in_ok-made.ensures.made c.args.table.now c.loop-alternative.next
           c.in_ok-pattern.ensures.made);
-      shown = choice_pushed c.args.table.now u c.args.here.mode items i c.elaborate_pattern.new.next p
-          c.loop-alternative.choices.items c.push.new.self.items c.in_ok-pattern.pattern c.in_ok-made.made
-          lt at c.in_ok-push.ensures.items c.in_ok-made.ensures.tree c.in_ok-pattern.ensures.shown
+      shown = choice_pushed c.args.table.now u c.args.here.mode items i p c.loop-alternative.choices.items
+          c.push.new.self.items c.in_ok-pattern.pattern c.in_ok-made.made lt at c.in_ok-push.ensures.items
+          (c.in_ok-made.ensures.stands (table_type c.args.table.now)) c.in_ok-pattern.ensures.shown
           c.loop-alternative.invariant.shown;
     }
 

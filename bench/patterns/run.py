@@ -1,26 +1,28 @@
 #!/usr/bin/env python3
 """Measures how the time of the program grows with patterns that are large in one way each, fine ones and ones that break a rule.
 
-    bench/patterns [--only TEXT] [--times N] [PROGRAM]
+    bench/patterns/run.py [--only TEXT] [--times N] [PROGRAM]
 
 PROGRAM is the built program, by default crates/matchcheck/out/matchcheck. The sources, of N, 2N and 4N parts each, are made in
 bench/out. The least processor time of some runs counts, less that of an empty file. `growth` is the time on a source by that on the
 one of half the size, by 2: it is to be at most 1.2 at the last step. A source whose name ends in `refused` breaks a rule at its very
-end and is read up to there, but not judged. The last line says how many goals were met; the exit status is 1 where one was missed.
+end and is read up to there, but not judged; so is the one with other types. The last line says how many goals were met; the exit
+status is 1 where one was missed.
 """
 import argparse
+import itertools
 import os
 import resource
 import sys
 
-TOP = os.path.dirname(os.path.dirname(os.path.abspath(__file__)))
+TOP = os.path.dirname(os.path.dirname(os.path.dirname(os.path.abspath(__file__))))
 OUT = os.path.join(TOP, "bench", "out")
 STACK = 8 * 1024 * 1024
 SHORTEST = 0.01
 GROWTH = 1.2
 LONGEST = 16_777_216
 WIDE = "struct S { " + ", ".join(f"a{j}: u8" for j in range(256)) + " }\n"
-DEEP = "enum L { A(Box<L>), B }\n"
+TYPES = "u8 u16 u32 u64 u128 usize i8 i16 i32 i64 i128 isize bool char".split()
 
 
 def function(parameter, arms, before=""):
@@ -42,7 +44,15 @@ def alternatives(n):
 
 
 def binding_alternatives(n):
-    return function("(u32, u32)", ["|".join(f"(a,{i})" if i % 2 else f"({i},a)" for i in range(n))])
+    """Alternatives with few literals, so that judging them takes no longer than checking them."""
+    return function("(u32, u32)", ["|".join("(a,0)" if i % 2 else "(0,a)" for i in range(n))])
+
+
+def other_types(n):
+    """Alternatives that bind a name, each at a type of its own."""
+    types = itertools.islice(itertools.product(TYPES, repeat=5), n)
+    variants = ",".join(f"A{i}(({','.join(parts)}))" for i, parts in enumerate(types))
+    return function("E", ["|".join(f"E::A{i}(x)" for i in range(n))], f"enum E {{{variants}}}\n")
 
 
 def many_names(n):
@@ -132,7 +142,8 @@ def main():
     os.makedirs(OUT, exist_ok=True)
     start, _ = least([program, "check", write("patterns_empty.rs", "")], words.times, (0,))
     kinds = KINDS + [(f"{name}, refused", refused(make), n) for name, make, n in KINDS]
-    print(f"{'kind':<42} {'N':>8} {'seconds':>8} {'MB':>6} {'growth':>7}")
+    kinds.append(("alternatives that bind a name with other types", other_types, 75_000))
+    print(f"{'kind':<46} {'N':>8} {'seconds':>8} {'MB':>6} {'growth':>7}")
     met = tried = 0
     for name, make, first in kinds:
         if words.only not in name:
@@ -146,7 +157,7 @@ def main():
             growth = spent / before / 2 if before else None
             before = spent
             shown = f"{growth:7.2f}" if growth else f"{'':>7}"
-            print(f"{name:<42} {n:>8} {spent:8.2f} {memory:6.0f} {shown}", flush=True)
+            print(f"{name:<46} {n:>8} {spent:8.2f} {memory:6.0f} {shown}", flush=True)
         met += growth <= GROWTH
     print(f"{met} of {tried} goals met")
     sys.exit(0 if met == tried else 1)
