@@ -1,7 +1,7 @@
 #!/usr/bin/env python3
 """Measures the judging of hard matches beside an engine in plain Rust, at N, 2N and 4N.
 
-    bench/families [--only TEXT] [--times N] ENGINE [PROGRAM]
+    bench/families/run.py [--only TEXT] [--times N] ENGINE [PROGRAM]
 
 ENGINE is a program that knows the families by name: `ENGINE family NAME N` prints a match by its constructors, in the form of
 tests/engine/README.md, and `ENGINE time NAME:N "" j` the processor time of judging it (`judge SECONDS`). PROGRAM is the built
@@ -18,7 +18,7 @@ import resource
 import subprocess
 import sys
 
-TOP = os.path.dirname(os.path.dirname(os.path.abspath(__file__)))
+TOP = os.path.dirname(os.path.dirname(os.path.dirname(os.path.abspath(__file__))))
 OUT = os.path.join(TOP, "bench", "out")
 STACK = 8 * 1024 * 1024
 LONGEST_RATIO = 2.0

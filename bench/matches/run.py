@@ -1,7 +1,7 @@
 #!/usr/bin/env python3
 """Measures the program beside rustc on matches of one kind each, of N, 2N and 4N.
 
-    bench/matches [--only TEXT] [--times N] [PROGRAM]
+    bench/matches/run.py [--only TEXT] [--times N] [PROGRAM]
 
 PROGRAM is the built program, by default crates/matchcheck/out/matchcheck. The sources are made in bench/out. Each is checked by the
 program and by rustc (`--emit=metadata`, warnings off: parsing, types, its check of matches and of borrows, no code), and the least
@@ -16,7 +16,7 @@ import resource
 import shutil
 import sys
 
-TOP = os.path.dirname(os.path.dirname(os.path.abspath(__file__)))
+TOP = os.path.dirname(os.path.dirname(os.path.dirname(os.path.abspath(__file__))))
 OUT = os.path.join(TOP, "bench", "out")
 STACK = 8 * 1024 * 1024
 SHORTEST = 0.001
