@@ -28,8 +28,8 @@ pub fn one_first_fault()
     ensures { OneFirstFault }
 {}
 
-/// Each function of a file stands among its functions, and has at most one entry; it has one where no item breaks a rule
-/// on declarations.
+/// Each function of a file stands among its functions, and has at most one entry; it has one where the tokens of a source
+/// spell the file and no item breaks a rule on declarations.
 pub fn one_entry()
     ensures each { EachFunctionStands }
     ensures some { SomeEntry }
@@ -43,7 +43,7 @@ pub fn one_entry()
     some_verdict();
 }
 
-/// A file of which no item breaks a rule on declarations has a report.
+/// A file that the tokens of a source spell, and of which no item breaks a rule on declarations, has a report.
 pub fn some_report()
     ensures { SomeReport }
 {

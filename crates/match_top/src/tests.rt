@@ -131,7 +131,8 @@ const NO_LENGTH: &str =
 
 const TWO_OF_THREE: &str = "enum E{A,B,C} fn f(x:E){match x{E::A=>1,E::B=>2}}";
 
-// Each form of type and of pattern, so that each call below that takes memory is come to.
+// Many forms of type and of pattern, so that each call below that takes memory is come to. All forms stand in tests/sources and
+// tests/patterns.
 const FORMS: &str = "use E::{A};enum E<'a>{A,B(&'a str,[u8;2]),C{x:Option<char>}}struct S(i8,bool);\
     fn f(x:&E)->u8{match x{A=>1,E::B(\"a\",[0..=9,_])|E::B(_,[_,7..=255])=>2,E::C{x:Some('a'..='z')}=>3,\
     E::C{x:None} if g()=>4,_=>5,A=>6}}\
@@ -156,16 +157,22 @@ const OTHER_FORMS: &str =
 const ALL_FORMS: &str =
     "{\"functions\":[{\"exhaustive\":true,\"name\":\"f\",\"overlaps\":[],\"unreachable\":[],\"witnesses\":[]}]}\n";
 
+// Alternatives in ten columns, of which more than 256 submatrices are looked at, so that those looked at before are noted.
+const MANY_COLUMNS: &str =
+    "fn f(x:(bool,bool,bool,bool,bool,bool,bool,bool,bool,bool)){match x{(true|false,true|false,\
+    true|false,true|false,true|false,true|false,true|false,true|false,true|false,true|false)=>1}}";
+
 // A source, the room of the sink, the numbers of the writes that fail, the number of the status, what is written.
 type SourceRow = (&'static str, usize, &'static [u64], u8, &'static str);
 
-const SOURCES: [SourceRow; 10] = [
+const SOURCES: [SourceRow; 11] = [
     (TWO_OF_THREE, 4096, &[], 1, MISSING_C),
     (TWO_OF_THREE, 4096, &[2], 5, "{\"functions\":[{\""),
     (TWO_OF_THREE, 5, &[], 5, "{\"fun"),
     (PAIRS, 4096, &[], 1, MISSING_PAIRS),
     (FORMS, 4096, &[], 1, FORMS_JUDGED),
     (OTHER_FORMS, 4096, &[], 0, ALL_FORMS),
+    (MANY_COLUMNS, 4096, &[], 0, ALL_FORMS),
     ("", 4096, &[], 0, "{\"functions\":[]}\n"),
     ("struct S;", 4096, &[], 0, "{\"functions\":[]}\n"),
     (

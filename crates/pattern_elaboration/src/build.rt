@@ -130,9 +130,9 @@ pub fn is_wide(ctor: &Ctor<'_>) -> bool
     }
 }
 
-/// The pattern that a written one becomes, as an alternative or as an arm's: it stands where the written one begins,
-/// parentheses around it included. The only error is want of memory.
-pub fn standing_as<'a>(
+// The pattern that a written one becomes, as an alternative or as an arm's: it stands where the written one begins,
+// parentheses around it included.
+pub(crate) fn standing_as<'a>(
     placer: &Placer<'a>,
     next: &mut u64,
     written: &Pat,

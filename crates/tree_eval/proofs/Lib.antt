@@ -1,3 +1,4 @@
+pub mod Keeping
 pub mod Pointwise
 pub mod SameNodes
 pub mod EqualNodes

@@ -4,8 +4,8 @@
 //! What a tree means for a value (`Value`) is said by `match_model`; here is only what holds it.
 //!
 //! Whoever makes a tree makes it from the last node to the first, and puts each node into a table (`NodeTable`) when
-//! the nodes where it goes on are there. An equal node is there once. At the end the table becomes a tree: the node
-//! that was put last is the root.
+//! the nodes where it goes on are there. An equal node is there once. At the end the table becomes a tree: the last
+//! node that was new is the root.
 #![tactic(auto)]
 
 pub mod laws;

@@ -108,7 +108,7 @@ impl NodeTable {
         Ok(at as u64)
     }
 
-    /// The nodes as a tree, whose root is the node that was put last. The only error is want of memory.
+    /// The nodes as a tree, whose root is the last node that was new. The only error is want of memory.
     pub fn into_tree(self) -> Result<Tree, NoMemory>
         ensures { IfOk result (λ t. (root : MTree) → Walks [] root (table_trees self)
             → IsShared root (tree_nodes t)) }
