@@ -9,7 +9,7 @@ use Rattle.match_model.specs.Constructors.{MCtor}
 use Rattle.match_model.specs.Contexts.{Context}
 use Rattle.constructor_sets.specs.declared.piece.Span.{Span}
 use Rattle.pattern_matrix.specs.Sparse.{columns_from}
-use Rattle.pattern_matrix.specs.Parts.{IsFull, pieces_left}
+use Rattle.pattern_matrix.specs.Parts.{pieces_left}
 use Rattle.pattern_matrix.specs.declared.halving.Part.{Part}
 use Rattle.pattern_matrix.specs.Counting.{Question}
 use Rattle.pattern_matrix.specs.Searching.{Submatrix}
@@ -17,6 +17,7 @@ use Rattle.usefulness.specs.declared.frames.Frame.{Frame}
 use Rattle.usefulness.specs.declared.frames.Apart.{Apart}
 use Rattle.usefulness.specs.declared.frames.Reached.{Reached}
 use Rattle.usefulness.specs.Scope.{Scope}
+use Rattle.usefulness.specs.Cutting.{IsCutPart}
 use Rattle.usefulness.specs.Listing.{IsListedAs, AreAllListed}
 use Rattle.usefulness.specs.States.{frame_view, frame_views, child_views, IsGood, piece_view, is_noted, scope_of}
 use Rattle.usefulness.proofs.Looking.{one_listed}
@@ -58,7 +59,7 @@ module _ {T : Type 0} (IsValue : T → Bool → MValue → Type 0) (cx : Context
       let (some, same, more) = next_is added.done (length ctors - added.done) piece rest (sym added.left ∙ e) in
       omega (arith, some, same)
 
-  pub one_added : (piece : ℕ) (ctor : MCtor) (then : Reached T) (after : List (Frame T)) (others : List Part) → pieces_left todo ≡ piece ∷ pieces_left others → All (IsFull spans) others →
+  pub one_added : (piece : ℕ) (ctor : MCtor) (then : Reached T) (after : List (Frame T)) (others : List Part) → pieces_left todo ≡ piece ∷ pieces_left others → All (IsCutPart (is_noted then) missing a spans) others →
       ctor ≡ get_or ctors piece ctor → scope_of then ≡ scope_of now → All (IsGood (scope_of first)) after →
       ((old : Question → Bool) (left : List (Submatrix T)) → AreAllListed IsValue old (is_noted now) left (frame_views new) →
       AreAllListed IsValue old (is_noted then) (left ++ piece_view cx a missing ctor ∷ []) (frame_views after)) →
@@ -72,7 +73,7 @@ module _ {T : Type 0} (IsValue : T → Bool → MValue → Type 0) (cx : Context
         within = omega (arith, within);
         scope = k ∙ added.scope;
         good = h;
-        full = f;
+        cut = f;
         left = more ∙ ap (columns_from (done + 1)) (let less : length ctors - done - 1 ≡ length ctors - (done + 1) = omega arith in less);
         listed = λ old left i.
             let view : MCtor → Submatrix T = piece_view cx a missing in
@@ -91,14 +92,14 @@ module _ {T : Type 0} (IsValue : T → Bool → MValue → Type 0) (cx : Context
 
 -- none is added at first
 pub added_first : {T : Type 0} (IsValue : T → Bool → MValue → Type 0) (cx : Context T) (a : Apart T) (missing : Bool) (ctors : List MCtor) (spans : List Span)
-    (first : Reached T) (start : List (Frame T)) (todo : List Part) → All (IsGood (scope_of first)) start → All (IsFull spans) todo → pieces_left todo ≡ columns_from 0 (length ctors) →
+    (first : Reached T) (start : List (Frame T)) (todo : List Part) → All (IsGood (scope_of first)) start → All (IsCutPart (is_noted first) missing a spans) todo → pieces_left todo ≡ columns_from 0 (length ctors) →
     AreAdded IsValue cx a missing ctors spans first first start start todo
 added_first IsValue cx a missing ctors spans first start todo g f e = record {
   done = 0;
   within = omega arith;
   scope = refl;
   good = g;
-  full = f;
+  cut = f;
   left = e ∙ ap (columns_from 0) (let whole : length ctors ≡ length ctors - 0 = omega arith in whole);
   listed = λ old left i. subst (λ ys. AreAllListed IsValue old (is_noted first) ys (frame_views start)) (sym (append-nil left)) i;
 }

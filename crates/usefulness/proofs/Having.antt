@@ -14,6 +14,7 @@ use Rattle.pattern_matrix.proofs.Places.{length-below}
 use Rattle.usefulness.specs.declared.frames.OpenColumn.{OpenColumn}
 use Rattle.usefulness.specs.Frames.{numbers}
 use Rattle.usefulness.specs.States.{plain_open, plain_opens}
+use Rattle.usefulness.proofs.RowFacts.{at_get}
 
 pub all_take : {X : Type 0} (P : X → Type 0) (n : ℕ) (xs : List X) → All P xs → All P (take n xs)
 all_take P zero xs a = All-nil P
@@ -28,6 +29,15 @@ all_filtered {X} P p (x ∷ xs) a = go (p x) refl (all_filtered P p xs (All-tail
     go : (b : Bool) → p x ≡ b → All P (filter p xs) → All P (cond b (x ∷ filter p xs) (filter p xs))
     go true e rest = All-cons P x (filter p xs) (All-head (λ x. p x ≡ true → P x) x xs a e) rest
     go false e rest = rest
+
+-- what holds of all leaves holds of those with these numbers
+pub all_listed : {T : Type 0} (P : SparseLeaf T → Type 0) (leaves : List (SparseLeaf T)) (ks : List ℕ) → All P leaves → All P (leaves_listed leaves ks)
+all_listed P leaves [] a = All-nil P
+all_listed {T} P leaves (k ∷ ks) a = go (slice_get leaves k) refl (all_listed P leaves ks a)
+  where
+    go : (o : Option (SparseLeaf T)) → slice_get leaves k ≡ o → All P (leaves_listed leaves ks) → All P (option_to_list o ++ leaves_listed leaves ks)
+    go None e rest = rest
+    go (Some l) e rest = All-cons P l (leaves_listed leaves ks) (at_get P leaves k l a e) rest
 
 -- what holds of the leaves with these numbers
 pub all_numbered : {T : Type 0} (P : SparseLeaf T → Type 0) (leaves : List (SparseLeaf T)) (ks : List ℕ) → All P (leaves_listed leaves ks) → All (λ k. (l : SparseLeaf T) → slice_get leaves k ≡ Some l → P l) ks

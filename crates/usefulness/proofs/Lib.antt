@@ -37,6 +37,8 @@ pub mod Relisting
 pub mod Reading
 pub mod Having
 pub mod Pieces
+pub mod Enough
+pub mod Cuts
 pub mod FirstRows
 pub mod FirstFrames
 mod TwoArms

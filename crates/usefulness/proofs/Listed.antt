@@ -19,13 +19,25 @@ use Rattle.usefulness.specs.Marking.{is_answer}
 use Rattle.usefulness.specs.Listing.{as_wanted, IsWantedAs, IsListing, IsListedAs}
 
 -- a row that lists no head has wildcards alone
-bare_heads : {T : Type 0} (heads : List (ℕ × MDePat T)) (columns : List ℕ) → has_heads heads ≡ false → list_all is_wild (heads_at heads columns) ≡ true
+pub bare_heads : {T : Type 0} (heads : List (ℕ × MDePat T)) (columns : List ℕ) → has_heads heads ≡ false → list_all is_wild (heads_at heads columns) ≡ true
 bare_heads heads [] e = refl
 bare_heads [] (c ∷ columns) e = bare_heads [] columns e
 bare_heads (h ∷ heads) (c ∷ columns) e = untrue (sym e)
 
-long_heads : {T : Type 0} (columns : List ℕ) (x : SparseAsked T) → length (asked_view columns x).row.heads ≡ length columns
+pub long_heads : {T : Type 0} (columns : List ℕ) (x : SparseAsked T) → length (asked_view columns x).row.heads ≡ length columns
 long_heads columns x = length-map columns (head_at x.row.heads)
+
+-- behind a row that stops all values nothing changes, whatever stands there
+pub after_closed : {T : Type 0} (old now : Question → Bool) (columns : List ℕ) (through kept ys : List (SparseAsked T)) → IsListing old now columns through kept true → IsListing old now columns (through ++ ys) kept true
+after_closed old now columns through kept ys l = record {
+  grow = l.grow;
+  right = λ q m. elim (l.right q m) [
+    | inl o ↦ inl o
+    | inr f ↦ inr (λ rest vs k. ap (λ zs. counts q (asked_views columns zs) vs) (append_assoc through ys rest) ∙ f (ys ++ rest) vs k)
+  ];
+  does = λ e. untrue (sym e);
+  stands = λ e rest. subst (λ zs. StandFor now (length columns) (asked_views columns zs) (asked_views columns kept)) (sym (append_assoc through ys rest)) (l.stands refl (ys ++ rest));
+}
 
 module _ {T : Type 0} (old now : Question → Bool) (columns : List ℕ) (through kept : List (SparseAsked T)) (x : SparseAsked T) where
   abbrev more : List (SparseAsked T)
@@ -46,15 +58,6 @@ module _ {T : Type 0} (old now : Question → Bool) (columns : List ℕ) (throug
     | inl o ↦ inl o
     | inr f ↦ inr (λ rest vs l. ap (λ ys. counts q (asked_views columns ys) vs) (append_assoc through (x ∷ []) rest) ∙ f (x ∷ rest) vs l)
   ]
-
-  -- behind a row that stops all values
-  pub after_closed : IsListing old now columns through kept true → IsListing old now columns more kept true
-  after_closed l = record {
-    grow = l.grow;
-    right = more_right l.right;
-    does = λ e. untrue (sym e);
-    stands = λ e rest. subst (λ ys. StandFor now (length columns) (asked_views columns ys) (asked_views columns kept)) (sym (append_assoc through (x ∷ []) rest)) (l.stands refl (x ∷ rest));
-  }
 
   -- from what the kept rows do where a row was gone through
   does_more : (kept : List (SparseAsked T)) → DoFor now (length columns) (asked_views columns through ++ asked_view columns x ∷ []) (asked_views columns kept) →

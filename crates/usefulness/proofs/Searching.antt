@@ -6,7 +6,7 @@ use Rattle.match_model.specs.Constructors.{MCtor}
 use Rattle.match_model.specs.Contexts.{Context}
 use Rattle.constructor_sets.specs.declared.piece.Span.{Span}
 use Rattle.pattern_matrix.specs.Sparse.{columns_from}
-use Rattle.pattern_matrix.specs.Parts.{IsFull, pieces_left}
+use Rattle.pattern_matrix.specs.Parts.{pieces_left}
 use Rattle.pattern_matrix.specs.declared.halving.Part.{Part}
 use Rattle.pattern_matrix.specs.Counting.{Question}
 use Rattle.pattern_matrix.specs.Searching.{Submatrix, IsSearch}
@@ -15,6 +15,7 @@ use Rattle.usefulness.specs.declared.frames.Apart.{Apart}
 use Rattle.usefulness.specs.declared.frames.Reached.{Reached}
 use Rattle.usefulness.specs.Scope.{Scope}
 use Rattle.usefulness.specs.Told.{AreTold}
+use Rattle.usefulness.specs.Cutting.{IsCutPart}
 use Rattle.usefulness.specs.Listing.{AreAllListed}
 use Rattle.usefulness.specs.States.{frame_views, IsGood, piece_view, is_noted, scope_of}
 
@@ -25,7 +26,7 @@ pub record AreAdded {T : Type 0} (IsValue : T → Bool → MValue → Type 0) (c
   pub within : done ≤ length ctors
   pub scope : scope_of now ≡ scope_of first
   pub good : All (IsGood (scope_of first)) new
-  pub full : All (IsFull spans) todo
+  pub cut : All (IsCutPart (is_noted now) missing a spans) todo
   pub left : pieces_left todo ≡ columns_from done (length ctors - done)
   pub listed : (old : Question → Bool) (left : List (Submatrix T)) → AreAllListed IsValue old (is_noted first) left (frame_views start) →
       AreAllListed IsValue old (is_noted now) (left ++ map (piece_view cx a missing) (take done ctors)) (frame_views new)

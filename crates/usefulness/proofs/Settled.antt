@@ -24,7 +24,7 @@ among_listed choice (p ∷ ps) =
 pub within_listed : {T : Type 0} (p : DePat T) → choices_within (tree p) ≡ choices_listed (is_choice (placed_ctor p) (de_pats_of (map tree (placed_subs p)))) (map tree (placed_subs p))
 within_listed p = ap choices_within (tree_out p) ∙ among_listed (is_choice (placed_ctor p) (de_pats_of (map tree (placed_subs p)))) (map tree (placed_subs p))
 
-all_both : {A : Type 0} (f : A → Bool) (xs ys : List A) → list_all f (xs ++ ys) ≡ (list_all f xs && list_all f ys)
+pub all_both : {A : Type 0} (f : A → Bool) (xs ys : List A) → list_all f (xs ++ ys) ≡ (list_all f xs && list_all f ys)
 all_both f [] ys = refl
 all_both f (x ∷ xs) ys = ap (λ b. f x && b) (all_both f xs ys) ∙ assoc (f x) (list_all f xs) (list_all f ys)
   where

@@ -9,18 +9,19 @@ use Rattle.match_model.proofs.Basics.{both, untrue}
 use Rattle.pattern_matrix.specs.declared.rows.Head.{Head}
 use Rattle.pattern_matrix.specs.Views.{plain_head}
 use Rattle.pattern_matrix.specs.Counting.{Question}
-use Rattle.pattern_matrix.specs.Searching.{IsDone}
+use Rattle.pattern_matrix.specs.Searching.{IsDone, DoFor}
 use Rattle.usefulness.specs.declared.frames.Listing.{Listing}
 use Rattle.usefulness.specs.declared.marks.Marks.{Marks}
 use Rattle.usefulness.specs.declared.frames.Reached.{Reached}
 use Rattle.usefulness.specs.Scope.{Scope}
-use Rattle.usefulness.specs.Frames.{SparseAsked, asked_view, has_heads, starts_listed, IsRowIn}
+use Rattle.usefulness.specs.Frames.{SparseAsked, asked_view, asked_views, has_heads, starts_listed, IsRowIn}
 use Rattle.usefulness.specs.Marking.{is_marked}
 use Rattle.usefulness.specs.Listing.{IsWantedAs, IsListing}
 use Rattle.usefulness.specs.Done.{is_done}
 use Rattle.usefulness.specs.States.{plain_asked, plain_askeds, IsKept, IsListed, is_noted, scope_of}
 use Rattle.usefulness.proofs.Listed.{after_closed, left_guarded, listing_begins}
 use Rattle.usefulness.proofs.DoneRows.{done_row}
+use Rattle.usefulness.proofs.Enough.{enough_listed}
 use Rattle.usefulness.proofs.Finishing.{start_more, end_unwanted, end_all}
 
 -- a list without elements has no heads
@@ -78,18 +79,29 @@ listed_first {T} scope m columns l k e f g = record {
       (subst (λ c. IsListing {T = T} (is_noted m) (is_noted m) columns [] [] c) (sym f) (listing_begins (is_noted m) columns));
 }
 
-module _ {T : Type 0} (scope : Scope T) (old : Question → Bool) (columns : List ℕ) (through : List (SparseAsked T)) (x : SparseAsked T) (m : Reached T) (l : Listing T) (listed : IsListed scope old m columns through l) where
-  -- no row counts any more
-  pub listed_closed : l.closed ≡ true → IsListed scope old m columns (through ++ x ∷ []) l
-  listed_closed e = record {
-    known = listed.known;
-    kept = listed.kept;
-    rows = listed.rows;
-    listed = subst (λ c. IsListing old (is_noted m) columns (through ++ x ∷ []) (plain_askeds l.rows.items) c) (sym e)
-        (after_closed old (is_noted m) columns through (plain_askeds l.rows.items) x
-        (subst (λ c. IsListing old (is_noted m) columns through (plain_askeds l.rows.items) c) e listed.listed));
-  }
+-- the rows that are enough were listed, and so were all
+pub listed_enough : {T : Type 0} (scope : Scope T) (old : Question → Bool) (columns : List ℕ) (all some : List (SparseAsked T)) (m : Reached T) (l : Listing T) →
+    DoFor old (length columns) (asked_views columns all) (asked_views columns some) → IsListed scope old m columns some l → IsListed scope old m columns all l
+listed_enough scope old columns all some m l d listed = record {
+  known = listed.known;
+  kept = listed.kept;
+  rows = listed.rows;
+  listed = enough_listed old (is_noted m) columns all some (plain_askeds l.rows.items) l.closed d listed.listed;
+}
 
+-- no row counts any more
+pub listed_closed : {T : Type 0} (scope : Scope T) (old : Question → Bool) (columns : List ℕ) (through ys : List (SparseAsked T)) (m : Reached T) (l : Listing T) → IsListed scope old m columns through l → l.closed ≡ true →
+    IsListed scope old m columns (through ++ ys) l
+listed_closed scope old columns through ys m l listed e = record {
+  known = listed.known;
+  kept = listed.kept;
+  rows = listed.rows;
+  listed = subst (λ c. IsListing old (is_noted m) columns (through ++ ys) (plain_askeds l.rows.items) c) (sym e)
+      (after_closed old (is_noted m) columns through (plain_askeds l.rows.items) ys
+      (subst (λ c. IsListing old (is_noted m) columns through (plain_askeds l.rows.items) c) e listed.listed));
+}
+
+module _ {T : Type 0} (scope : Scope T) (old : Question → Bool) (columns : List ℕ) (through : List (SparseAsked T)) (x : SparseAsked T) (m : Reached T) (l : Listing T) (listed : IsListed scope old m columns through l) where
   -- the row is left out
   pub listed_left : l.closed ≡ false → x.row.guarded ≡ true → IsDone (is_noted m) (asked_view columns x) → IsListed scope old m columns (through ++ x ∷ []) l
   listed_left e g d = record {

@@ -10,3 +10,4 @@ pub mod Compact
 pub mod Told
 pub mod Keys
 pub mod Starting
+pub mod Cutting

@@ -1,5 +1,5 @@
 // What is left of rows when a column is taken apart.
-ghost use Rattle.std.specs.Prelude.{◌≡◌, ◌<◌, ◌++◌, ◌∷◌, [], List, Bool, false, filter, length, map, IfOk, OnOk};
+ghost use Rattle.std.specs.Prelude.{◌≡◌, ◌<◌, ◌++◌, ◌∷◌, [], List, Bool, true, false, filter, length, map, IfOk, OnOk};
 ghost use Rattle.std.specs.List.{All, list_all};
 ghost use Rattle.std.specs.Option.{option_to_list};
 ghost use Rattle.match_model.specs.Rows.{starts_wild};
@@ -11,16 +11,18 @@ ghost use Rattle.pattern_matrix.specs.Sparse.{leaves_listed, head_has};
 ghost use Rattle.pattern_matrix.specs.Parts.{plain_spans};
 ghost use Rattle.pattern_matrix.specs.Counting.{Question};
 ghost use Rattle.pattern_matrix.specs.Searching.{Submatrix, IsFit, IsLookedAt, heads_in};
+ghost use Rattle.usefulness.specs.Cutting.{AreEnough};
 ghost use Rattle.usefulness.specs.Listing.{AreAllListed};
 ghost use Rattle.usefulness.specs.States.{child_views, frame_views, IsGood, IsApart, IsEnterable, apart_leaves, apart_place, apart_view, piece_view, wild_view, is_noted, scope_of};
 
+use crate::cutting::next_cut;
 use crate::entering::piece_child;
 use crate::frames::{Apart, Frame, Reached};
 use crate::wild::wild_child;
 use constructor_sets::{PresentPieces, Span, present};
 use no_memory::NoMemory;
 use pat_context::{Ctor, PatCx};
-use pattern_matrix::{all_parts, leaf_ctors, leaf_spans, next_piece};
+use pattern_matrix::{all_parts, leaf_ctors, leaf_spans};
 use std::alloc::Global;
 
 // Adds the child, where there is one.
@@ -74,9 +76,11 @@ fn add_piece<'a, C: PatCx>(
     requires ty { C.is_type cx.now a.now.taken.column.ty }
     requires piece { IsEnterable (C.is_value cx.now) (C.context cx.now) a.now (plain_ctor piece.now) }
     requires within { All (λ k. k < length a.now.leaves.items) leaves.now }
-    requires leaves { leaves_listed (apart_leaves a.now) leaves.now ≡ filter (λ l. head_has (plain_ctor piece.now) l.head) (apart_leaves a.now) }
+    requires have { All (λ l. head_has (plain_ctor piece.now) l.head ≡ true) (leaves_listed (apart_leaves a.now) leaves.now) }
+    requires enough { AreEnough (is_noted reached.old) missing a.now (filter (λ l. head_has (plain_ctor piece.now) l.head) (apart_leaves a.now)) (leaves_listed (apart_leaves a.now) leaves.now) }
     requires good { All (IsGood (scope_of reached.old)) new.old.items }
     ensures scope { OnOk result (scope_of reached.new ≡ scope_of reached.old) }
+    ensures grow { OnOk result ((q : Question) → is_noted reached.old q ≡ true → is_noted reached.new q ≡ true) }
     ensures good { OnOk result (All (IsGood (scope_of reached.old)) new.new.items) }
     ensures listed { OnOk result ((old : Question → Bool) (left : List (Submatrix C.Ty))
         → AreAllListed (C.is_value cx.now) old (is_noted reached.old) left (frame_views new.old.items)
@@ -86,7 +90,8 @@ fn add_piece<'a, C: PatCx>(
     add_child(new, child)
 }
 
-// Adds what is left of each of the pieces, of which the leaves have those that the spans tell.
+// Adds what is left of each of the pieces, of which the leaves have those that the spans tell. A piece gets leaves that
+// are enough by what is marked so far.
 fn add_pieces<'a, C: PatCx>(
     alloc: Global,
     cx: &C,
@@ -108,7 +113,7 @@ fn add_pieces<'a, C: PatCx>(
         → AreAllListed (C.is_value cx.now) old (is_noted reached.new) (left ++ map (piece_view (C.context cx.now) a.now found.now.missing) (plain_ctors found.now.ctors.items)) (frame_views new.new.items)) }
 {
     let mut todo = all_parts(alloc, spans, found.ctors.len())?;
-    while let Some(next) = next_piece(alloc, &mut todo, spans)? {
+    while let Some(next) = next_cut(alloc, &mut todo, reached, a, spans, found.missing)? {
         let piece = &found.ctors[next.piece];
         add_piece(
             alloc,

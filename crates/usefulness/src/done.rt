@@ -17,7 +17,7 @@ use pattern_arena::DePat;
 use pattern_matrix::{Head, Marked, Row};
 
 // Tells whether these alternatives of the arm are all marked.
-fn are_marked(marks: &Marks, arm: u32, ids: &[u64]) -> bool
+pub(crate) fn are_marked(marks: &Marks, arm: u32, ids: &[u64]) -> bool
     ensures { result ≡ are_marked (is_marked marks.now) arm ids.now }
 {
     for id in ids {

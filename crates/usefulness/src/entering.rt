@@ -12,6 +12,7 @@ ghost use Rattle.pattern_matrix.specs.Counting.{Question};
 ghost use Rattle.usefulness.specs.Scope.{Scope, IsKnown};
 ghost use Rattle.usefulness.specs.Frames.{SparseAsked, IsRowIn, numbers, places};
 ghost use Rattle.usefulness.specs.Children.{opened_at, opened};
+ghost use Rattle.usefulness.specs.Cutting.{AreEnough};
 ghost use Rattle.usefulness.specs.Listing.{IsListedAs};
 ghost use Rattle.usefulness.specs.States.{plain_opens, plain_asked, child_views, IsGood, IsKept, IsListed, IsApart, IsEnterable, other_numbers, apart_rows, apart_leaves, apart_place, piece_view, is_noted, scope_of};
 
@@ -90,7 +91,7 @@ fn piece_row<'a, T: Copy>(
     })
 }
 
-// Lists the row of the leaf, opened so.
+// Lists the row of the leaf, opened so. Behind a row that stops all values none is opened.
 fn list_opened<'a, T: Copy>(
     alloc: Global,
     reached: &mut Reached<'a, T>,
@@ -111,6 +112,9 @@ fn list_opened<'a, T: Copy>(
         → IsListed (scope_of reached.old) old reached.new (columns_from a.now.next count ++ other_numbers a.now)
         (through ++ opened_at missing a.now.taken.number a.now.next count (apart_rows a.now) (plain_leaf leaf.now)) listing.new) }
 {
+    if listing.closed {
+        return Ok(());
+    }
     let row = piece_row(alloc, a, leaf, count, missing)?;
     list_row(reached, listing, row)
 }
@@ -146,7 +150,7 @@ fn opened_listing<'a, T: Copy>(
     Ok(listing)
 }
 
-// What is left where the value at the column is of the piece: the rows of the leaves that have it, which have these numbers.
+// What is left where the value at the column is of the piece: the rows of leaves that are enough, which have these numbers.
 pub(crate) fn piece_child<'a, C: PatCx>(
     alloc: Global,
     cx: &C,
@@ -160,7 +164,8 @@ pub(crate) fn piece_child<'a, C: PatCx>(
     requires ty { C.is_type cx.now a.now.taken.column.ty }
     requires piece { IsEnterable (C.is_value cx.now) (C.context cx.now) a.now (plain_ctor piece.now) }
     requires within { All (λ k. k < length a.now.leaves.items) leaves.now }
-    requires leaves { leaves_listed (apart_leaves a.now) leaves.now ≡ filter (λ l. head_has (plain_ctor piece.now) l.head) (apart_leaves a.now) }
+    requires have { All (λ l. head_has (plain_ctor piece.now) l.head ≡ true) (leaves_listed (apart_leaves a.now) leaves.now) }
+    requires enough { AreEnough (is_noted reached.old) missing a.now (filter (λ l. head_has (plain_ctor piece.now) l.head) (apart_leaves a.now)) (leaves_listed (apart_leaves a.now) leaves.now) }
     ensures scope { OnOk result (scope_of reached.new ≡ scope_of reached.old) }
     ensures good { IfOk result (λ o. IfSome o (λ f. IsGood (scope_of reached.old) f)) }
     ensures listed { IfOk result (λ o. IsListedAs (C.is_value cx.now) (is_noted reached.old) (is_noted reached.new)

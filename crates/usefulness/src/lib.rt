@@ -4,6 +4,7 @@
 mod children;
 mod choice;
 mod compact;
+mod cutting;
 mod done;
 mod entering;
 mod frames;

@@ -15,3 +15,6 @@ returns-clause-listed g c =
     (λ e old left all. child_added (g.C.PatCx.is_value c.args.cx.now) old (is_noted c.args.reached.now) (is_noted c.piece_child.new.reached) left
     (piece_view (g.C.PatCx.context c.args.cx.now) c.args.a.now c.args.missing (plain_ctor c.args.piece.now)) c.args.new.now.items c.add_child.new.new.items
     c.in_ok-child.child e all c.in_ok-child.ensures.listed) c.add_child.ensures
+
+pub returns-clause-grow : goal.returns-clause-grow
+returns-clause-grow g c = on_ok_weaker c.add_child.result (λ e q h. c.in_ok-child.ensures.listed.grow q h) c.add_child.ensures

@@ -1,8 +1,17 @@
 use Rattle.std.proofs.Common.{◌++◌, sym, subst}
 use Rattle.std.proofs.lemmas.Result.{on_ok_weaker}
 use Rattle.pattern_matrix.specs.Sparse.{columns_from}
-use Rattle.usefulness.specs.States.{IsListed, other_numbers, scope_of}
+use Rattle.pattern_matrix.specs.Views.{plain_leaf}
+use Rattle.usefulness.specs.Children.{opened_at}
+use Rattle.usefulness.specs.States.{IsListed, apart_rows, other_numbers, scope_of}
+use Rattle.usefulness.proofs.Steps.{listed_closed}
 use Rattle.usefulness.proofs.entering.list_opened.Goals as goal
+
+pub returns-then-listing : goal.returns-then-listing
+returns-then-listing g c = λ old through l.
+    let a = c.args.a.now in
+    listed_closed (scope_of c.args.reached.now) old (columns_from a.next c.args.count ++ other_numbers a) through
+    (opened_at c.args.missing a.taken.number a.next c.args.count (apart_rows a) (plain_leaf c.args.leaf.now)) c.args.reached.now c.args.listing.now l c.if-listing.true
 
 pub returns : goal.returns
 returns g c =

@@ -1,12 +1,13 @@
-use Rattle.std.proofs.Common.{◌≡◌, ◌++◌, ◌+◌, ◌∙◌, filter, length, ap, sym, subst, arith}
+use Rattle.std.proofs.Common.{◌≡◌, ◌++◌, ◌+◌, ◌∙◌, true, filter, length, ap, sym, subst, arith}
 use Rattle.std.specs.List.{All}
 use Rattle.std.proofs.lemmas.Option.{IfSome_then}
 use Rattle.pat_context.specs.Views.{plain_ctor}
-use Rattle.pattern_matrix.specs.Sparse.{columns_from, leaf_parts, head_has, AreParts}
+use Rattle.pattern_matrix.specs.Sparse.{columns_from, leaf_parts, leaves_listed, head_has, AreParts}
 use Rattle.usefulness.specs.Children.{opened}
 use Rattle.usefulness.specs.Frames.{IsRowIn, AreOpen, numbers}
 use Rattle.usefulness.specs.States.{plain_opens, plain_askeds, child_views, IsListed, apart_rows, apart_leaves, other_numbers, is_noted, scope_of}
-use Rattle.usefulness.proofs.Having.{all_filtered, all_numbered}
+use Rattle.usefulness.proofs.Having.{all_listed, all_numbered}
+use Rattle.usefulness.proofs.Steps.{listed_enough}
 use Rattle.usefulness.proofs.Left.{piece_listed, columns_same, columns_open}
 use Rattle.usefulness.proofs.entering.piece_child.Goals as goal
 
@@ -17,9 +18,9 @@ opened_listing-requires-clause-parts g c =
     let n = (g.C.PatCx.context c.args.cx.now).arity piece c.args.a.now.taken.column.ty in
     let count = c.in_ok-columns.ensures.count in
     let same : n ≡ c.len-count.result = (let read = c.len-count.ensures in omega (arith, count, read, c.in_ok-columns.columns.ok.0)) in
+    let written = all_listed (λ l. head_has piece l.head ≡ true → length (leaf_parts n l.head) ≡ n) leaves c.args.leaves.now c.requires.piece.long in
     subst (λ m. All (AreParts m leaves) c.args.leaves.now) same
-    (all_numbered (λ l. length (leaf_parts n l.head) ≡ n) leaves c.args.leaves.now
-    (subst (All (λ l. length (leaf_parts n l.head) ≡ n)) (sym c.requires.leaves) (all_filtered (λ l. length (leaf_parts n l.head) ≡ n) (λ l. head_has piece l.head) leaves c.requires.piece.long)))
+    (all_numbered (λ l. length (leaf_parts n l.head) ≡ n) leaves c.args.leaves.now (λ k d l. written k d l (c.requires.have k d l)))
 
 pub returns-clause-good : goal.returns-clause-good
 returns-clause-good g c =
@@ -59,4 +60,5 @@ returns-clause-listed g c =
     piece_listed (g.C.PatCx.is_value c.args.cx.now) scope a c.requires.apart old reached listing
     (g.C.PatCx.context c.args.cx.now) piece c.args.missing c.requires.piece parts c.in_ok-columns.ensures.numbers c.in_ok-columns.ensures.places columns (child_views c.finish.result) longer c.finish.ensures.views
     (subst (λ m. IsListed scope old reached (columns_from a.next m ++ other_numbers a) (opened c.args.missing a.taken.number a.next m (apart_rows a) (filter (λ l. head_has piece l.head) (apart_leaves a))) listing) (sym same)
-    (subst (λ ls. IsListed scope old reached (columns_from a.next c.len-count.result ++ other_numbers a) (opened c.args.missing a.taken.number a.next c.len-count.result (apart_rows a) ls) listing) c.requires.leaves c.in_ok-listing.ensures))
+    (listed_enough scope old (columns_from a.next c.len-count.result ++ other_numbers a) (opened c.args.missing a.taken.number a.next c.len-count.result (apart_rows a) (filter (λ l. head_has piece l.head) (apart_leaves a)))
+    (opened c.args.missing a.taken.number a.next c.len-count.result (apart_rows a) (leaves_listed (apart_leaves a) c.args.leaves.now)) reached listing (c.requires.enough c.len-count.result) c.in_ok-listing.ensures))

@@ -1,4 +1,4 @@
-use Rattle.std.proofs.Common.{refl}
+use Rattle.std.proofs.Common.{[], ◌∷◌, refl}
 use Rattle.std.proofs.lemmas.Result.{on_ok_weaker}
 use Rattle.usefulness.specs.Listing.{as_wanted}
 use Rattle.usefulness.specs.States.{plain_asked, is_noted}
@@ -7,7 +7,7 @@ use Rattle.usefulness.proofs.listing.list_row.Goals as goal
 
 pub returns-then-listing : goal.returns-then-listing
 returns-then-listing g c = λ scope old columns through l i.
-    listed_closed scope old columns through (plain_asked c.args.asked) c.args.reached.now c.args.listing.now l c.if-listing.true
+    listed_closed scope old columns through (plain_asked c.args.asked ∷ []) c.args.reached.now c.args.listing.now l c.if-listing.true
 
 pub returns-then-is_empty-2 : goal.returns-then-is_empty-2
 returns-then-is_empty-2 g c =

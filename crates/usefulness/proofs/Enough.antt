@@ -1,0 +1,128 @@
+-- Rows that do for others may be listed in their place.
+use Rattle.std.proofs.Common.{◌≡◌, inl, inr, ℕ, Bool, true, false, not, ◌&&◌, ◌||◌, List, [], ◌∷◌, ◌++◌, length, nat_eq, refl, sym, ap, subst, ◌∙◌}
+use Rattle.std.proofs.lemmas.List.{map-append}
+use Rattle.match_model.specs.Values.{MValue}
+use Rattle.match_model.proofs.Basics.{untrue, nat_itself}
+use Rattle.pattern_matrix.specs.Counting.{Question, WantedRow, row_answers, row_stops, counts}
+use Rattle.pattern_matrix.specs.Searching.{heads_in, counts_before, is_bare, IsPart, kept, DoFor, StandFor}
+use Rattle.pattern_matrix.proofs.ListedRows as listing
+use Rattle.usefulness.specs.Frames.{SparseAsked, asked_view, asked_views}
+use Rattle.usefulness.specs.Listing.{IsListing}
+
+heads_behind : {T : Type 0} (xs ys : List (WantedRow T)) → heads_in (xs ++ ys) ≡ heads_in xs ++ heads_in ys
+heads_behind xs ys = map-append (λ x. x.row.heads) xs ys
+
+module _ {T : Type 0} (m : Question → Bool) (n : ℕ) where
+  -- rows do for themselves
+  pub same_do : (xs : List (WantedRow T)) → DoFor m n xs xs
+  same_do xs = record { on = λ q vs k l c. inr c; back = λ q vs k l c. c; part = listing.part_self (heads_in xs) }
+
+  -- what does for rows that do for others
+  pub both_do : (xs ys zs : List (WantedRow T)) → DoFor m n xs ys → DoFor m n ys zs → DoFor m n xs zs
+  both_do xs ys zs d e = record {
+    on = λ q vs k l c. elim (d.on q vs k l c) [ inl h ↦ inl h | inr h ↦ e.on q vs k l h ];
+    back = λ q vs k l c. d.back q vs k l (e.back q vs k l c);
+    part = listing.part_both (heads_in zs) (heads_in ys) (heads_in xs) e.part d.part;
+  }
+
+  -- what stands for them and what is behind stands for the others and that
+  pub both_stand : (xs ys rest zs : List (WantedRow T)) → DoFor m n xs ys → StandFor m n (ys ++ rest) zs → StandFor m n (xs ++ rest) zs
+  both_stand xs ys rest zs d s = record {
+    on = λ q vs l c. elim (d.on q vs (counts q rest vs) l (sym (listing.counts_append q xs rest vs) ∙ c)) [
+      | inl h ↦ inl h
+      | inr h ↦ s.on q vs l (listing.counts_append q ys rest vs ∙ h)
+    ];
+    back = λ q vs l c. listing.counts_append q xs rest vs ∙ d.back q vs (counts q rest vs) l (sym (listing.counts_append q ys rest vs) ∙ s.back q vs l c);
+    part = listing.part_both (heads_in zs) (heads_in (ys ++ rest)) (heads_in (xs ++ rest)) s.part
+        (subst (λ hs. IsPart hs (heads_in (xs ++ rest))) (sym (heads_behind ys rest))
+        (subst (IsPart (heads_in ys ++ heads_in rest)) (sym (heads_behind xs rest))
+        (listing.part_append (heads_in ys) (heads_in xs) (heads_in rest) (heads_in rest) d.part (listing.part_self (heads_in rest)))));
+  }
+
+  -- a row more on both sides
+  pub kept_do : (xs ys : List (WantedRow T)) (x : WantedRow T) → DoFor m n xs ys → DoFor m n (xs ++ x ∷ []) (ys ++ x ∷ [])
+  kept_do xs ys x d = listing.list_row m n xs ys x x.wanted d (λ e. e) (λ f w. untrue (sym f ∙ w))
+
+  -- a bare row without a guard stops all values: else a row behind it, which takes all values, would count though nothing is
+  -- looked for in the first one
+  pub stops_all : (x : WantedRow T) (vs : List MValue) → length x.row.heads ≡ n → length vs ≡ n → is_bare x ≡ true → x.row.guarded ≡ false → row_stops x.row vs ≡ true
+  stops_all x vs k l b g = go (row_stops x.row vs) refl
+    where
+      none : Question → Bool
+      none q = false
+
+      front : WantedRow T
+      front = record { row = x.row; wanted = false }
+
+      behind : WantedRow T
+      behind = record { row = x.row; wanted = true }
+
+      asked : Question
+      asked = record { arm = x.row.arm; whole = true; id = 0 }
+
+      arm_asked : (nat_eq x.row.arm x.row.arm && (true || false)) ≡ true
+      arm_asked = ap (λ c. c && (true || false)) (nat_itself x.row.arm)
+
+      counted : counts asked (behind ∷ []) vs ≡ true
+      counted = listing.noted_counts none n [] behind [] (listing.none_listed none n) k b refl asked arm_asked vs l
+
+      closed : StandFor none n (front ∷ behind ∷ []) (front ∷ [])
+      closed = listing.close none n [] (front ∷ []) front (behind ∷ [])
+          (listing.list_row none n [] [] front false (listing.none_listed none n) (λ e. e) (λ f w. untrue w)) k b g
+
+      go : (s : Bool) → row_stops x.row vs ≡ s → row_stops x.row vs ≡ true
+      go true e = e
+      go false e = elim (closed.on asked vs l (ap (λ s. not s && counts asked (behind ∷ []) vs) e ∙ counted)) [
+        | inl h ↦ untrue h
+        | inr h ↦ untrue (sym (ap (λ s. not s && false) e) ∙ h)
+      ]
+
+  -- behind a row that stops all values nothing counts
+  pub closed_do : (xs ys rest : List (WantedRow T)) (x : WantedRow T) → DoFor m n (xs ++ x ∷ []) (ys ++ x ∷ []) → ((vs : List MValue) → length vs ≡ n → row_stops x.row vs ≡ true) →
+      DoFor m n (xs ++ x ∷ rest) (ys ++ x ∷ [])
+  closed_do xs ys rest x d s = record {
+    on = λ q vs k l c. d.on q vs k l (same q vs k l ∙ c);
+    back = λ q vs k l c. sym (same q vs k l) ∙ d.back q vs k l c;
+    part = listing.part_both (heads_in (ys ++ x ∷ [])) (heads_in (xs ++ x ∷ [])) (heads_in (xs ++ x ∷ rest)) d.part
+        (subst (λ hs. IsPart hs (heads_in (xs ++ x ∷ rest))) (sym (heads_behind xs (x ∷ [])))
+        (subst (IsPart (heads_in xs ++ x.row.heads ∷ [])) (sym (heads_behind xs (x ∷ rest)))
+        (listing.part_append (heads_in xs) (heads_in xs) (x.row.heads ∷ []) (x.row.heads ∷ heads_in rest) (listing.part_self (heads_in xs))
+        (kept x.row.heads [] (heads_in rest) (listing.part_none (heads_in rest))))));
+  }
+    where
+      stopped : (q : Question) (vs : List MValue) (a b : Bool) → length vs ≡ n →
+          ((x.wanted && row_answers q x.row vs) || (not (row_stops x.row vs) && a)) ≡ ((x.wanted && row_answers q x.row vs) || (not (row_stops x.row vs) && b))
+      stopped q vs a b l =
+          ap (λ c. (x.wanted && row_answers q x.row vs) || (not c && a)) (s vs l) ∙ sym (ap (λ c. (x.wanted && row_answers q x.row vs) || (not c && b)) (s vs l))
+
+      same : (q : Question) (vs : List MValue) (k : Bool) → length vs ≡ n → counts_before q (xs ++ x ∷ []) vs k ≡ counts_before q (xs ++ x ∷ rest) vs k
+      same q vs k l =
+          listing.before_append q xs (x ∷ []) vs k
+          ∙ ap (counts_before q xs vs) (stopped q vs k (counts_before q rest vs k) l)
+          ∙ sym (listing.before_append q xs (x ∷ rest) vs k)
+
+-- the rows that are enough are listed, and so all are
+pub enough_listed : {T : Type 0} (old now : Question → Bool) (columns : List ℕ) (all some rows : List (SparseAsked T)) (closed : Bool) →
+    DoFor old (length columns) (asked_views columns all) (asked_views columns some) → IsListing old now columns some rows closed → IsListing old now columns all rows closed
+enough_listed {T} old now columns all some rows closed d l = record {
+  grow = l.grow;
+  right = λ q h. elim (l.right q h) [
+    | inl o ↦ inl o
+    | inr f ↦ inr (λ rest vs k.
+        ap (λ ys. counts q ys vs) (over all rest)
+        ∙ listing.counts_append q (asked_views columns all) (asked_views columns rest) vs
+        ∙ d.back q vs (counts q (asked_views columns rest) vs) k
+        (sym (listing.counts_append q (asked_views columns some) (asked_views columns rest) vs) ∙ ap (λ ys. counts q ys vs) (sym (over some rest)) ∙ f rest vs k))
+  ];
+  does = λ e. both_do now (length columns) (asked_views columns all) (asked_views columns some) (asked_views columns rows) later (l.does e);
+  stands = λ e rest.
+      subst (λ ys. StandFor now (length columns) ys (asked_views columns rows)) (sym (over all rest))
+      (both_stand now (length columns) (asked_views columns all) (asked_views columns some) (asked_views columns rest) (asked_views columns rows) later
+      (subst (λ ys. StandFor now (length columns) ys (asked_views columns rows)) (over some rest) (l.stands e rest)));
+}
+  where
+    over : (xs rest : List (SparseAsked T)) → asked_views columns (xs ++ rest) ≡ asked_views columns xs ++ asked_views columns rest
+    over xs rest = map-append (asked_view columns) xs rest
+
+    later : DoFor now (length columns) (asked_views columns all) (asked_views columns some)
+    later = listing.listed_later old now (length columns) (asked_views columns all) (asked_views columns some) l.grow d

@@ -1,0 +1,74 @@
+-- Leaves of a column that matter where a piece of it is entered, and rows that are bare whatever piece that is.
+use Rattle.std.specs.Prelude.{◌≡◌, ◌≤◌, ◌<◌, ℕ, Bool, true, false, not, ◌&&◌, ◌||◌, nat_eq, List, ◌++◌, length, None, Some, slice_get}
+use Rattle.std.specs.List.{All, list_all}
+use Rattle.match_model.specs.ArenaPatterns.{de_pat, MDePats, no_de_pats, more_de_pats}
+use Rattle.match_model.specs.Rows.{Head, is_wild}
+use Rattle.constructor_sets.specs.declared.piece.Span.{Span}
+use Rattle.pattern_matrix.specs.Sparse.{SparseRow, SparseLeaf, columns_from, leaves_listed}
+use Rattle.pattern_matrix.specs.Halving.{span_meets, having, leaves_with}
+use Rattle.pattern_matrix.specs.Parts.{plain_spans}
+use Rattle.pattern_matrix.specs.declared.halving.Part.{Part}
+use Rattle.pattern_matrix.specs.Counting.{Question, WantedRow, to_arm}
+use Rattle.pattern_matrix.specs.Searching.{DoFor}
+use Rattle.usefulness.specs.declared.frames.Apart.{Apart}
+use Rattle.usefulness.specs.Frames.{SparseAsked, asked_views}
+use Rattle.usefulness.specs.Done.{are_marked}
+use Rattle.usefulness.specs.Children.{opened}
+use Rattle.usefulness.specs.States.{apart_rows, apart_leaves, other_numbers}
+
+-- there is some pattern
+abbrev pub some_pattern : {T : Type 0} → MDePats T → Bool
+some_pattern no_de_pats = false
+some_pattern (more_de_pats p ps) = true
+
+-- the head writes some part
+abbrev pub writes_parts : {T : Type 0} → Head T → Bool
+writes_parts None = false
+writes_parts (Some (de_pat c t uid at subs binds)) = some_pattern subs
+
+-- the row lists no head, whatever piece is entered: its leaf writes no part, and all its heads stand at the leaf's column
+abbrev pub is_bare_at : {T : Type 0} → (column : ℕ) → SparseRow T → SparseLeaf T → Bool
+is_bare_at column r l = not (writes_parts l.head) && list_all (λ h. nat_eq h.0 column) r.heads
+
+-- something new is looked for in the leaf's row, when a piece is entered: where one is missing, not in a wildcard
+abbrev pub is_wanted_at : {T : Type 0} → (missing : Bool) → SparseAsked T → SparseLeaf T → Bool
+is_wanted_at missing x l = x.wanted && not (missing && is_wild l.head)
+
+-- the row's arm is marked, and so are the alternatives that were chosen for it and for the leaf
+abbrev pub is_marked_at : {T : Type 0} → (is_marked : Question → Bool) → SparseRow T → SparseLeaf T → Bool
+is_marked_at is_marked r l = is_marked (to_arm r.arm) && (are_marked is_marked r.arm r.chosen && are_marked is_marked r.arm l.chosen)
+
+-- the leaf brings nothing new in any piece, and stops nothing: its row is bare and guarded, and nothing is looked for in it or
+-- all that it answers is marked
+abbrev pub is_idle_at : {T : Type 0} → (is_marked : Question → Bool) → (missing : Bool) → (column : ℕ) → SparseAsked T → SparseLeaf T → Bool
+is_idle_at is_marked missing column x l =
+    x.row.guarded && (is_bare_at column x.row l && (not (is_wanted_at missing x l) || is_marked_at is_marked x.row l))
+
+-- the leaf stops all values in each piece that it has: its row is bare and has no guard
+abbrev pub is_last_at : {T : Type 0} → (column : ℕ) → SparseAsked T → SparseLeaf T → Bool
+is_last_at column x l = not x.row.guarded && is_bare_at column x.row l
+
+-- the rows of leaves when a piece of so many parts is entered
+abbrev pub entered_rows : {T : Type 0} → (missing : Bool) → Apart T → (count : ℕ) → List (SparseLeaf T) → List (WantedRow T)
+entered_rows missing a count ls =
+    asked_views (columns_from a.next count ++ other_numbers a) (opened missing a.taken.number a.next count (apart_rows a) ls)
+
+-- some of the leaves are enough: whatever piece is entered, their rows do for those of all, so that what is left out brings
+-- nothing new there and stops nothing that is not stopped without it
+abbrev pub AreEnough : {T : Type 0} → (is_marked : Question → Bool) → (missing : Bool) → Apart T → (all some : List (SparseLeaf T)) → Type 0
+AreEnough is_marked missing a all some =
+    (count : ℕ) → DoFor is_marked (length (columns_from a.next count ++ other_numbers a)) (entered_rows missing a count all) (entered_rows missing a count some)
+
+-- a range of pieces, and numbers of leaves among which, for each of these pieces, those that have it are enough
+pub record IsCutPart {T : Type 0} (is_marked : Question → Bool) (missing : Bool) (a : Apart T) (spans : List Span) (p : Part) : Type 0 where
+  pub some : p.first < p.end
+  pub within : All (λ k. k < length spans) p.leaves.items
+  pub enough : (i : ℕ) → p.first ≤ i → i < p.end →
+      AreEnough is_marked missing a (leaves_listed (apart_leaves a) (leaves_with (plain_spans spans) i)) (leaves_listed (apart_leaves a) (having (plain_spans spans) i p.leaves.items))
+
+-- what was gone through of a part: what is kept of it meets it, and is enough for each piece
+pub record IsCutSoFar {T : Type 0} (m : Question → Bool) (missing : Bool) (a : Apart T) (spans : List Span) (first end : ℕ) (seen kept : List ℕ) : Type 0 where
+  pub within : All (λ k. k < length spans) kept
+  pub met : All (λ k. span_meets first end (slice_get (plain_spans spans) k) ≡ true) kept
+  pub enough : (i : ℕ) → first ≤ i → i < end →
+      AreEnough m missing a (leaves_listed (apart_leaves a) (having (plain_spans spans) i seen)) (leaves_listed (apart_leaves a) (having (plain_spans spans) i kept))

@@ -1,0 +1,266 @@
+// The leaves that matter of each piece of a column, found by halving the range of pieces. On the way there each half is
+// rid of leaves that bring nothing new in any of its pieces, and of those behind one that stops all values in all of
+// them.
+ghost use Rattle.std.specs.Prelude.{◌≡◌, ◌≤◌, ◌<◌, ◌+◌, ◌-◌, ◌++◌, ◌∷◌, ◌&&◌, ◌||◌, not, nat_eq, nat_le, nat_lt, [], List, ℕ, true, false, length, Some, slice_get, IfOk, OnOk, IfSome, IfNone};
+ghost use Rattle.std.specs.List.{All, list_all};
+ghost use Rattle.constructor_sets.specs.Spans.{plain_span};
+ghost use Rattle.pattern_arena.specs.Trees.{placed_subs};
+ghost use Rattle.pattern_matrix.specs.Sparse.{leaves_listed};
+ghost use Rattle.pattern_matrix.specs.Halving.{span_has, span_meets, having, leaves_with};
+ghost use Rattle.pattern_matrix.specs.Parts.{plain_spans, pieces_in, pieces_left};
+ghost use Rattle.pattern_matrix.specs.Views.{plain_row, plain_leaf, plain_pattern};
+ghost use Rattle.usefulness.specs.Marking.{is_marked};
+ghost use Rattle.usefulness.specs.States.{plain_asked, IsApart, apart_leaves, is_noted, scope_of};
+ghost use Rattle.usefulness.specs.Cutting.{writes_parts, is_bare_at, is_wanted_at, is_marked_at, is_idle_at, is_last_at, AreEnough, IsCutPart, IsCutSoFar};
+
+use crate::Marks;
+use crate::done::are_marked;
+use crate::frames::{Apart, Asked, Reached};
+use constructor_sets::Span;
+use no_memory::NoMemory;
+use pattern_arena::DePat;
+use pattern_matrix::{Leaf, Marked, Part, PieceLeaves, Row, is_wild_leaf};
+use std::alloc::Global;
+
+// Tells whether the pattern has patterns below it.
+fn has_parts<'a, T: Copy>(p: &'a DePat<'a, T>) -> bool
+    ensures { result ≡ nat_lt 0 (length (placed_subs p.now)) }
+{
+    p.subs.len() > 0
+}
+
+// Tells whether the head writes some part.
+fn writes_parts<'a, T: Copy>(head: Option<&'a DePat<'a, T>>) -> bool
+    ensures { result ≡ writes_parts (plain_pattern head.entry) }
+{
+    match head {
+        None => false,
+        Some(p) => has_parts(p),
+    }
+}
+
+// Tells whether all heads of the row stand at the column.
+fn stands_alone<'a, T: Copy>(row: &Row<'a, T>, column: usize) -> bool
+    ensures { result ≡ list_all (λ h. nat_eq h.0 column) (plain_row row.now).heads }
+{
+    for head in &row.heads {
+        if head.column != column {
+            return false;
+        }
+    }
+    true
+}
+
+// Tells whether the row lists no head, whatever piece is entered.
+fn is_bare<'a, T: Copy>(row: &Row<'a, T>, leaf: &Leaf<'a, T>, column: usize) -> bool
+    ensures { result ≡ is_bare_at column (plain_row row.now) (plain_leaf leaf.now) }
+{
+    !writes_parts(leaf.head) && stands_alone(row, column)
+}
+
+// Tells whether something new is looked for in the leaf's row.
+fn is_wanted<'a, T: Copy>(asked: &Asked<'a, T>, leaf: &Leaf<'a, T>, missing: bool) -> bool
+    ensures { result ≡ is_wanted_at missing (plain_asked asked.now) (plain_leaf leaf.now) }
+{
+    let wild = is_wild_leaf(leaf.head);
+    asked.wanted && !(missing && wild)
+}
+
+// Tells whether the row's arm is marked, and what was chosen for it and for the leaf.
+fn is_marked<'a, T: Copy>(marks: &Marks, row: &Row<'a, T>, leaf: &Leaf<'a, T>) -> bool
+    ensures { result ≡ is_marked_at (is_marked marks.now) (plain_row row.now) (plain_leaf leaf.now) }
+{
+    marks.has_arm(row.arm)
+        && are_marked(marks, row.arm, row.chosen.as_slice())
+        && are_marked(marks, row.arm, leaf.chosen.as_slice())
+}
+
+// Tells whether the leaf brings nothing new in any piece, and stops nothing.
+fn is_idle<'a, T: Copy>(
+    marks: &Marks,
+    asked: &Asked<'a, T>,
+    leaf: &Leaf<'a, T>,
+    column: usize,
+    missing: bool,
+) -> bool
+    ensures { result ≡ is_idle_at (is_marked marks.now) missing column (plain_asked asked.now) (plain_leaf leaf.now) }
+{
+    asked.row.guarded
+        && is_bare(&asked.row, leaf, column)
+        && (!is_wanted(asked, leaf, missing) || is_marked(marks, &asked.row, leaf))
+}
+
+// Tells whether the leaf stops all values in each piece that it has.
+fn is_last<'a, T: Copy>(asked: &Asked<'a, T>, leaf: &Leaf<'a, T>, column: usize) -> bool
+    ensures { result ≡ is_last_at column (plain_asked asked.now) (plain_leaf leaf.now) }
+{
+    !asked.row.guarded && is_bare(&asked.row, leaf, column)
+}
+
+// Tells whether the span has a piece from the first to before the end.
+fn meets(span: &Span, first: usize, end: usize) -> bool
+    ensures { result ≡ span_meets first end (Some (plain_span span.now)) }
+{
+    span.first < end && first < span.end
+}
+
+// Tells whether the span has all pieces from the first to before the end.
+fn covers(span: &Span, first: usize, end: usize) -> bool
+    ensures { result ≡ (nat_le span.now.first first && nat_le end span.now.end) }
+{
+    span.first <= first && end <= span.end
+}
+
+// Keeps the leaf with the number, where it has a piece of the part and is not idle. Tells whether it stops all values in
+// each piece of the part.
+fn cut_one<'a, T: Copy>(
+    reached: &Reached<'a, T>,
+    a: &Apart<'a, T>,
+    spans: &[Span],
+    part: &Part,
+    number: usize,
+    missing: bool,
+    kept: &mut Vec<usize>,
+) -> Result<bool, NoMemory>
+    requires apart { IsApart (scope_of reached.now) a.now }
+    requires spans { length spans.now ≡ length a.now.leaves.items }
+    requires within { number < length spans.now }
+    ensures more { IfOk result (λ last. last ≡ false → (seen : List ℕ) → IsCutSoFar (is_noted reached.now) missing a.now spans.now part.now.first part.now.end seen kept.old.items
+        → IsCutSoFar (is_noted reached.now) missing a.now spans.now part.now.first part.now.end (seen ++ number ∷ []) kept.new.items) }
+    ensures last { IfOk result (λ last. last ≡ true → (seen rest : List ℕ) → IsCutSoFar (is_noted reached.now) missing a.now spans.now part.now.first part.now.end seen kept.old.items
+        → IsCutSoFar (is_noted reached.now) missing a.now spans.now part.now.first part.now.end (seen ++ number ∷ rest) kept.new.items) }
+{
+    let leaf = &a.leaves[number];
+    let asked = &a.rows[leaf.row];
+    let span = &spans[number];
+    if !meets(span, part.first, part.end) {
+        return Ok(false);
+    }
+    if is_idle(&reached.marks, asked, leaf, a.taken.number, missing) {
+        return Ok(false);
+    }
+    kept.push(number)?;
+    let whole = covers(span, part.first, part.end);
+    let last = is_last(asked, leaf, a.taken.number);
+    Ok(whole && last)
+}
+
+// Of the part's leaves those that are enough for each of its pieces.
+fn cut<'a, T: Copy>(
+    alloc: Global,
+    reached: &Reached<'a, T>,
+    a: &Apart<'a, T>,
+    spans: &[Span],
+    part: &Part,
+    missing: bool,
+) -> Result<Vec<usize>, NoMemory>
+    requires apart { IsApart (scope_of reached.now) a.now }
+    requires spans { length spans.now ≡ length a.now.leaves.items }
+    requires within { All (λ k. k < length spans.now) part.now.leaves.items }
+    ensures { IfOk result (λ v. IsCutSoFar (is_noted reached.now) missing a.now spans.now part.now.first part.now.end part.now.leaves.items v.items) }
+{
+    let mut kept = Vec::new(alloc);
+    for k in &part.leaves {
+        let last = cut_one(reached, a, spans, part, *k, missing, &mut kept)?;
+        if last {
+            return Ok(kept);
+        }
+    }
+    Ok(kept)
+}
+
+// The first half of the part; the other half is added to what is left to do. Both have only leaves that matter in the
+// part.
+fn halved<'a, T: Copy>(
+    alloc: Global,
+    todo: &mut Vec<Part>,
+    reached: &Reached<'a, T>,
+    a: &Apart<'a, T>,
+    spans: &[Span],
+    part: Part,
+    missing: bool,
+) -> Result<Part, NoMemory>
+    requires apart { IsApart (scope_of reached.now) a.now }
+    requires spans { length spans.now ≡ length a.now.leaves.items }
+    requires part { IsCutPart (is_noted reached.now) missing a.now spans.now part }
+    requires several { part.first + 1 < part.end }
+    ensures part { IfOk result (λ p. IsCutPart (is_noted reached.now) missing a.now spans.now p) }
+    ensures pieces { IfOk result (λ p. pieces_in p ++ pieces_left todo.new.items ≡ pieces_in part ++ pieces_left todo.old.items) }
+    ensures others { OnOk result (All (IsCutPart (is_noted reached.now) missing a.now spans.now) todo.old.items → All (IsCutPart (is_noted reached.now) missing a.now spans.now) todo.new.items) }
+    ensures less { IfOk result (λ p. p.end - p.first < part.end - part.first) }
+{
+    let first = part.first;
+    let end = part.end;
+    let leaves = cut(alloc, reached, a, spans, &part, missing)?;
+    let middle = first + (end - first) / 2;
+    let others = Vec::from_slice(alloc, &leaves)?;
+    todo.push(Part {
+        first: middle,
+        end,
+        leaves: others,
+    })?;
+    Ok(Part {
+        first,
+        end: middle,
+        leaves,
+    })
+}
+
+// The first piece of the part with leaves that are enough; what else the part has is added to what is left to do.
+fn narrowed<'a, T: Copy>(
+    alloc: Global,
+    todo: &mut Vec<Part>,
+    reached: &Reached<'a, T>,
+    a: &Apart<'a, T>,
+    spans: &[Span],
+    part: Part,
+    missing: bool,
+) -> Result<PieceLeaves, NoMemory>
+    requires apart { IsApart (scope_of reached.now) a.now }
+    requires spans { length spans.now ≡ length a.now.leaves.items }
+    requires part { IsCutPart (is_noted reached.now) missing a.now spans.now part }
+    ensures pieces { IfOk result (λ p. pieces_in part ++ pieces_left todo.old.items ≡ p.piece ∷ pieces_left todo.new.items) }
+    ensures have { IfOk result (λ p. All (λ k. span_has p.piece (slice_get (plain_spans spans.now) k) ≡ true) p.leaves.items) }
+    ensures enough { IfOk result (λ p. AreEnough (is_noted reached.now) missing a.now (leaves_listed (apart_leaves a.now) (leaves_with (plain_spans spans.now) p.piece)) (leaves_listed (apart_leaves a.now) p.leaves.items)) }
+    ensures others { OnOk result (All (IsCutPart (is_noted reached.now) missing a.now spans.now) todo.old.items → All (IsCutPart (is_noted reached.now) missing a.now spans.now) todo.new.items) }
+{
+    if part.first + 1 < part.end {
+        let left = halved(alloc, todo, reached, a, spans, part, missing)?;
+        let found = narrowed(alloc, todo, reached, a, spans, left, missing)?;
+        Ok(found)
+    } else {
+        let leaves = cut(alloc, reached, a, spans, &part, missing)?;
+        Ok(PieceLeaves {
+            piece: part.first,
+            leaves,
+        })
+    }
+}
+
+// The next piece of what is left to do, with numbers of leaves that are enough for it; nothing where nothing is left. The
+// pieces come in ascending order.
+pub(crate) fn next_cut<'a, T: Copy>(
+    alloc: Global,
+    todo: &mut Vec<Part>,
+    reached: &Reached<'a, T>,
+    a: &Apart<'a, T>,
+    spans: &[Span],
+    missing: bool,
+) -> Result<Option<PieceLeaves>, NoMemory>
+    requires apart { IsApart (scope_of reached.now) a.now }
+    requires spans { length spans.now ≡ length a.now.leaves.items }
+    requires parts { All (IsCutPart (is_noted reached.now) missing a.now spans.now) todo.old.items }
+    ensures none { IfOk result (λ o. IfNone o (pieces_left todo.old.items ≡ [])) }
+    ensures piece { IfOk result (λ o. IfSome o (λ p. pieces_left todo.old.items ≡ p.piece ∷ pieces_left todo.new.items)) }
+    ensures have { IfOk result (λ o. IfSome o (λ p. All (λ k. span_has p.piece (slice_get (plain_spans spans.now) k) ≡ true) p.leaves.items)) }
+    ensures enough { IfOk result (λ o. IfSome o (λ p. AreEnough (is_noted reached.now) missing a.now (leaves_listed (apart_leaves a.now) (leaves_with (plain_spans spans.now) p.piece)) (leaves_listed (apart_leaves a.now) p.leaves.items))) }
+    ensures parts { OnOk result (All (IsCutPart (is_noted reached.now) missing a.now spans.now) todo.new.items) }
+{
+    match todo.pop() {
+        None => Ok(None),
+        Some(part) => {
+            let found = narrowed(alloc, todo, reached, a, spans, part, missing)?;
+            Ok(Some(found))
+        }
+    }
+}
