@@ -5,7 +5,7 @@
 
 PROGRAM is the built program, by default crates/matchcheck/out/matchcheck. The sources are made in bench/out. Each is checked by the
 program and by rustc (`--emit=metadata`, warnings off: parsing, types, its check of matches and of borrows, no code), and the least
-processor time of some runs counts, less that of an empty file. `ratio` is rustc's time by the program's, `growth` the program's time
+processor time of some runs counts, of the program twelve times as many since they are short, less that of an empty file. `ratio` is rustc's time by the program's, `growth` the program's time
 on a source by that on the one of half the size, by 2. A kind meets its goals where every ratio is at least 2 and, where its work
 need not grow faster than the list of arms, the last growth is at most 1.2. Times below a millisecond are too short to be judged,
 and count as a millisecond. The last line says how many kinds met their goals; the exit status is 1 where one did not.
@@ -167,7 +167,7 @@ def main():
     os.makedirs(OUT, exist_ok=True)
 
     def ours(path):
-        return least([program, "check", path], words.times)
+        return least([program, "check", path], 12 * words.times)
 
     def theirs(path):
         out = os.path.join(OUT, "matches.rmeta")
