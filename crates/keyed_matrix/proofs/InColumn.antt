@@ -1,17 +1,14 @@
 -- What stands in a column.
 use denote.Bor.{Bor}
-use Rattle.std.proofs.Common.{◌≡◌, ◌<◌, ℕ, zero, suc, ◌+◌, Bool, true, false, ◌&&◌, List, [], ◌∷◌, ◌++◌, map, drop, length, get_or, refl, ap, sym, ◌∙◌, arith, Option, Some, None, subst, slice_get, append_assoc, append-nil, drop-cons, add-one}
-use Rattle.std.specs.List.{filter_map, list_all}
+use Rattle.std.proofs.Common.{◌≡◌, ℕ, zero, suc, true, List, [], ◌∷◌, ◌++◌, drop, ap, sym, ◌∙◌, Option, Some, None, slice_get, append-nil}
 use Rattle.std.specs.Option.{option_to_list}
-use Rattle.match_model.specs.Constructors.{MCtor, WildCtor}
-use Rattle.match_model.specs.Lowering.{ctors_at, all_wild_at}
-use Rattle.match_model.specs.Matrices.{MRow}
-use Rattle.match_model.specs.Rows.{Head, is_wild, is_wild_ctor, starts_wild, first_ctor, ctor_unless_wild}
+use Rattle.match_model.specs.Constructors.{MCtor}
+use Rattle.match_model.specs.Rows.{is_wild, is_wild_ctor, starts_wild, first_ctor, ctor_unless_wild}
 use Rattle.pattern_arena.specs.declared.pattern.DePat.{DePat}
-use Rattle.pattern_arena.specs.Trees.{tree, placed_ctor}
+use Rattle.pattern_arena.specs.Trees.{placed_ctor}
 use Rattle.pattern_arena.proofs.TreeFacts.{tree_out}
 use Rattle.keyed_matrix.specs.declared.rows.KeyedRow.{KeyedRow}
-use Rattle.keyed_matrix.specs.Views.{plain_head, plain_heads, plain_row, plain_rows}
+use Rattle.keyed_matrix.specs.Views.{plain_head, plain_heads, plain_row}
 
 -- the rest of the heads from the column on
 heads-from : {T : Type 0} (items : List (Option (Bor (DePat T)))) (i : ℕ) (h : Option (Bor (DePat T))) →

@@ -4,3 +4,8 @@ pub mod RowSteps
 pub mod Parts
 pub mod InColumn
 pub mod Beginning
+pub mod KeysInOrder
+pub mod Putting
+pub mod Numbered
+pub mod Comparing
+pub mod Sorting

@@ -1,10 +1,10 @@
 -- The parts of a piece, and the steps to them.
-use Rattle.std.proofs.Common.{◌≡◌, ◌<◌, ◌^◌, ℕ, ◌+◌, Bool, true, false, List, ◌∷◌, [], ◌++◌, refl, sym, add-one, IsTrue, inl, inr, arith, subst}
+use Rattle.std.proofs.Common.{◌≡◌, ◌<◌, ◌^◌, ℕ, ◌+◌, Bool, ◌∷◌, [], ◌++◌, refl, add-one, IsTrue, inl, inr, arith, subst}
 use Rattle.match_model.specs.Values.{MValue}
 use Rattle.match_model.specs.Pieces.{each_below}
-use Rattle.match_model.specs.Constructors.{MShape, FixedShape, LongerShape, MCtor, SingleCtor, PointCtor, LaterCtor, OtherTextCtor, VariantCtor, FlagCtor, NumbersCtor, TextCtor, RowCtor, WildCtor, OrCtor, MSet, SingleSet, PointSet, FlagSet, TextSet, OpaqueSet, NothingSet, VariantSet, NumberSet, RowSet, OneSingle, OneVariant, belongs, is_of_set, least_length}
+use Rattle.match_model.specs.Constructors.{MCtor, SingleCtor, PointCtor, LaterCtor, OtherTextCtor, VariantCtor, FlagCtor, NumbersCtor, TextCtor, RowCtor, WildCtor, OrCtor, MSet, SingleSet, PointSet, FlagSet, TextSet, OpaqueSet, NothingSet, VariantSet, NumberSet, RowSet, OneSingle, OneVariant, belongs, is_of_set, least_length}
 use Rattle.match_model.specs.Contexts.{Context}
-use Rattle.match_model.specs.ContextLaws.{PartsLaw, parts_count}
+use Rattle.match_model.specs.ContextLaws.{PartsLaw}
 use Rattle.keyed_matrix.specs.Columns.{IsStep}
 
 pub each_below-more : {A : Type 0} (f : ℕ → A) (n : ℕ) → each_below f (n + 1) ≡ each_below f n ++ f n ∷ []

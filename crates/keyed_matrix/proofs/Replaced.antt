@@ -1,14 +1,8 @@
 -- What stands in place of a head.
-use Rattle.std.proofs.Common.{◌≡◌, ◌<◌, ℕ, zero, suc, ◌+◌, List, [], ◌∷◌, ◌++◌, map, take, drop, length, get_or, replicate, refl, ap, sym, ◌∙◌, arith, Some, None, cond, add-one, append_assoc, subst}
-use denote.Bor.{Bor}
-use Rattle.std.specs.List.{All, flat_map}
-use Rattle.std.proofs.lemmas.List.{map-append, length-map}
-use Rattle.match_model.specs.ArenaPatterns.{MBound, MDePat}
-use Rattle.match_model.specs.Places.{MStep}
-use Rattle.match_model.specs.Matrices.{MRow}
-use Rattle.match_model.specs.Rows.{Head, Choice, wildcards}
-use Rattle.match_model.specs.Steps.{Replacement, with_others, with_head, replacements_at, replaced_at, row_replaced}
-use Rattle.pattern_arena.specs.declared.pattern.DePat.{DePat}
+use Rattle.std.proofs.Common.{◌≡◌, ◌<◌, ℕ, zero, suc, ◌+◌, List, [], ◌∷◌, ◌++◌, map, take, drop, length, get_or, replicate, refl, ap, sym, ◌∙◌, arith, None, add-one}
+use Rattle.std.proofs.lemmas.List.{map-append}
+use Rattle.match_model.specs.Rows.{Head, wildcards}
+use Rattle.match_model.specs.Steps.{Replacement, with_head, replacements_at, replaced_at}
 use Rattle.keyed_matrix.specs.Steps.{put_at}
 
 pub map-map : {A B C : Type 0} (f : B → C) (g : A → B) (h : A → C) (xs : List A) → ((x : A) → f (g x) ≡ h x) →

@@ -1,16 +1,16 @@
 -- A step of a row, by what stands in place of its head.
 use denote.Bor.{Bor}
-use Rattle.std.proofs.Common.{◌≡◌, ◌<◌, ℕ, ◌+◌, ◌-◌, ◌≤◌, Bool, true, false, List, [], ◌∷◌, ◌++◌, map, take, drop, length, get_or, min, refl, ap, sym, ◌∙◌, arith, Option, Some, None, cond, subst, append_assoc, append-nil, slice_get, Result, Ok, Err, OnOk}
+use Rattle.std.proofs.Common.{◌≡◌, ◌<◌, ℕ, ◌+◌, ◌-◌, true, false, List, [], ◌∷◌, ◌++◌, map, take, drop, length, get_or, min, refl, ap, sym, ◌∙◌, arith, Option, Some, cond, subst, append_assoc, append-nil, slice_get, Result, Ok, Err, OnOk}
 use Rattle.std.specs.List.{All}
-use Rattle.std.proofs.lemmas.List.{map-append, length-map, take_all, length-drop, take_min, drop_min, take-map}
+use Rattle.std.proofs.lemmas.List.{length-map, take_all, length-drop, take_min, drop_min, take-map}
 use Rattle.std.specs.List.{drop-map}
 use Rattle.std.proofs.lemmas.Option.{get_or_from_slice_get, slice_get_within, slice_get_read}
-use Rattle.match_model.specs.Constructors.{MCtor, WildCtor, RowCtor, LongerShape, has_piece}
-use Rattle.match_model.specs.ArenaPatterns.{MBound, MDePat, de_pats_list, de_pats_of}
+use Rattle.match_model.specs.Constructors.{MCtor, RowCtor, LongerShape, has_piece}
+use Rattle.match_model.specs.ArenaPatterns.{MBound, de_pats_list, de_pats_of}
 use Rattle.match_model.specs.Places.{MStep}
 use Rattle.match_model.specs.Matrices.{MRow}
-use Rattle.match_model.specs.Rows.{Head, Choice, wildcards, heads_of, choices_of, is_wild_ctor}
-use Rattle.match_model.specs.Steps.{Replacement, replaced_at, row_replaced, expand_head, specialise_head, default_head}
+use Rattle.match_model.specs.Rows.{Head, wildcards, heads_of, choices_of, is_wild_ctor}
+use Rattle.match_model.specs.Steps.{Replacement, row_replaced, expand_head, specialise_head, default_head}
 use Rattle.pattern_arena.specs.declared.pattern.DePat.{DePat, out-DePat}
 use Rattle.pattern_arena.specs.Trees.{tree, placed_ctor, placed_subs, plain_bound}
 use Rattle.pattern_arena.proofs.TreeFacts.{tree_out}

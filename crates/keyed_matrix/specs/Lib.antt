@@ -3,3 +3,6 @@ pub mod Choosing
 pub mod Steps
 pub mod Columns
 pub mod First
+pub mod KeyLists
+pub mod Deciding
+pub mod Turns

@@ -3,7 +3,8 @@
 //! A row has a head for each open column, in order: a pattern, or none where a wildcard stands that no pattern wrote. A
 //! step at a column puts something in place of the row's one head there (`Replacement` of `match_model`): an or-pattern
 //! its alternatives (`expanded_rows`), a pattern of a piece the patterns of its parts (`piece_rows`), a wildcard
-//! nothing (`dropped_rows`). Names are caught with the place of the column at which they were met.
+//! nothing (`dropped_rows`). After a step `in_order` puts the rows in the order in which their arms and alternatives are
+//! tried, as a table of what alternatives decide tells (`decisions_of`). Names are caught with the place of the column at which they were met.
 //!
 //! Contracts see rows and columns as those of `match_model` (`plain_rows`, `plain_columns`), and each step is the very
 //! step of the definitions (`rows_at`).
@@ -13,15 +14,21 @@
 
 mod choices;
 mod columns;
+mod decisions;
 mod first;
+mod keys;
 mod looking;
+mod order;
 mod replacing;
 mod rows;
 mod steps;
 
 pub use columns::{dropped_columns, piece_columns};
+pub use decisions::{Decisions, decisions_of};
 pub use first::{first_column, first_rows};
+pub use keys::Decided;
 pub use looking::{are_wild, ctors_at};
+pub use order::in_order;
 pub use rows::{Caught, KeyedColumn, KeyedRow};
 pub use steps::{dropped_rows, expanded_rows, piece_rows};
 

@@ -5,8 +5,8 @@ ghost use Rattle.pat_context.specs.Views.{plain_ctor};
 ghost use Rattle.pat_context.specs.Toy.{toy_set, toy_arity};
 
 use crate::{
-    KeyedColumn, are_wild, ctors_at, dropped_columns, dropped_rows, expanded_rows, first_column,
-    first_rows, piece_columns, piece_rows,
+    KeyedColumn, are_wild, ctors_at, decisions_of, dropped_columns, dropped_rows, expanded_rows,
+    first_column, first_rows, piece_columns, piece_rows,
 };
 use bumpalo::Bump;
 use no_memory::NoMemory;
@@ -88,5 +88,19 @@ fn take_columns_apart(rt: HostRuntime) -> Result<(), NoMemory> {
     assert!(rt; none.is_empty());
     let parts = piece_columns(alloc, &arena, &Toy, &columns, 0, &column, &Ctor::Single)?;
     assert_eq!(rt; parts.len(), 2);
+    Ok(())
+}
+
+// The second alternative of the first or-pattern decides it so.
+#[test]
+fn number_alternatives(rt: HostRuntime) -> Result<(), NoMemory> {
+    let alloc = rt.alloc();
+    let arena = Bump::new(alloc);
+    let placer = Placer::new(&arena);
+    let m = either_flag(&placer)?;
+    let decisions = decisions_of(alloc, &m)?;
+    let decided = decisions.decided(2);
+    assert_eq!(rt; decided.number, 0);
+    assert_eq!(rt; decided.alternative, 1);
     Ok(())
 }

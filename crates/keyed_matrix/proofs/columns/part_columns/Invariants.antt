@@ -2,7 +2,7 @@ use Rattle.std.proofs.Common.{◌≡◌, ◌++◌, ◌∷◌, []}
 use Rattle.match_model.specs.Matrices.{column_at, part_step, open_of}
 use Rattle.match_model.specs.Rows.{part_open}
 use Rattle.match_model.specs.Pieces.{each_below}
-use Rattle.pat_context.specs.Views.{plain_ctor, plain_place}
+use Rattle.pat_context.specs.Views.{plain_ctor}
 use Rattle.keyed_matrix.specs.Views.{plain_column, plain_columns}
 use Rattle.keyed_matrix.proofs.columns.part_columns.Given as goal
 

@@ -1,4 +1,4 @@
-use Rattle.std.proofs.Common.{Some, None, ◌∙◌, map, drop, ap}
+use Rattle.std.proofs.Common.{Some, None, map, drop, ap}
 use Rattle.std.specs.Option.{option_to_list}
 use Rattle.match_model.specs.Rows.{first_ctor, ctor_unless_wild}
 use Rattle.pat_context.specs.Views.{plain_ctor}

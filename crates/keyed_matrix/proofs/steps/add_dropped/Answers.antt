@@ -1,4 +1,4 @@
-use Rattle.std.proofs.Common.{[], ◌∷◌, refl, Some, None, map, sym, ◌∙◌}
+use Rattle.std.proofs.Common.{[], refl, Some, None, map, sym, ◌∙◌}
 use Rattle.match_model.specs.Steps.{default_head}
 use Rattle.pat_context.specs.Views.{plain_place}
 use Rattle.pattern_arena.specs.declared.pattern.DePat.{out-DePat}

@@ -1,9 +1,8 @@
-use Rattle.std.proofs.Common.{[], ◌∷◌, refl, Some, None, map, sym, ap, ◌∙◌}
-use Rattle.match_model.specs.Rows.{heads_of}
+use Rattle.std.proofs.Common.{[], Some, None, map, sym, ap, ◌∙◌}
 use Rattle.match_model.specs.Steps.{specialise_head}
 use Rattle.pat_context.specs.Views.{plain_ctor, plain_place}
 use Rattle.pattern_arena.specs.declared.pattern.DePat.{out-DePat}
-use Rattle.pattern_arena.specs.Trees.{tree, placed_ctor, placed_subs, plain_bound}
+use Rattle.pattern_arena.specs.Trees.{plain_bound}
 use Rattle.keyed_matrix.specs.Views.{plain_heads, plain_row, plain_rows}
 use Rattle.keyed_matrix.specs.Steps.{row_at}
 use Rattle.keyed_matrix.proofs.RowSteps.{row-one, row-none, was-there, on-rows, no-rows, of_heads, specialised-has, specialised-lacks}

@@ -1,10 +1,10 @@
 use Rattle.std.proofs.Common.{[], ◌∷◌, refl, Some, None}
-use Rattle.match_model.specs.Steps.{expand_head, row_replaced}
+use Rattle.match_model.specs.Steps.{expand_head}
 use Rattle.match_model.specs.Rows.{choices_of}
 use Rattle.pat_context.specs.Views.{plain_place}
 use Rattle.pattern_arena.specs.Trees.{tree}
-use Rattle.keyed_matrix.specs.Views.{plain_heads, plain_row, plain_rows}
-use Rattle.keyed_matrix.specs.Steps.{row_at, put_at, chosen_rows}
+use Rattle.keyed_matrix.specs.Views.{plain_row, plain_rows}
+use Rattle.keyed_matrix.specs.Steps.{row_at, chosen_rows}
 use Rattle.keyed_matrix.proofs.RowSteps.{row-one, row-chosen, was-there, on-rows}
 use Rattle.keyed_matrix.proofs.steps.add_expanded.Goals as goal
 

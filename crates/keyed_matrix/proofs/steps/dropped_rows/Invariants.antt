@@ -1,6 +1,6 @@
 use Rattle.std.proofs.Common.{◌≡◌, take}
 use Rattle.match_model.specs.Steps.{default_head, rows_at}
-use Rattle.pat_context.specs.Views.{plain_ctor, plain_place}
+use Rattle.pat_context.specs.Views.{plain_place}
 use Rattle.keyed_matrix.specs.Views.{plain_rows}
 use Rattle.keyed_matrix.proofs.steps.dropped_rows.Given as goal
 

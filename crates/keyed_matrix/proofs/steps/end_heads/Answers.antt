@@ -1,4 +1,4 @@
-use Rattle.std.proofs.Common.{◌≡◌, ◌-◌, ◌++◌, List, map, take, drop, length, min, Some, ap, sym, ◌∙◌, arith}
+use Rattle.std.proofs.Common.{◌≡◌, ◌-◌, ◌++◌, List, map, take, drop, Some, ap, ◌∙◌, arith}
 use Rattle.match_model.specs.Rows.{Head, wildcards}
 use Rattle.pattern_arena.specs.declared.pattern.DePat.{DePat}
 use Rattle.pattern_arena.specs.Trees.{tree}
