@@ -12,15 +12,13 @@ a time by that at half the size. A family meets its goals where the ratio is at 
 the engine, or both times are too short to be told from the start of a program. The last line says how many families met their goals; the exit status is 1
 where one did not.
 """
-import argparse
 import os
-import resource
 import subprocess
 import sys
 
-TOP = os.path.dirname(os.path.dirname(os.path.dirname(os.path.abspath(__file__))))
-OUT = os.path.join(TOP, "bench", "out")
-STACK = 8 * 1024 * 1024
+sys.path.insert(0, os.path.dirname(os.path.dirname(os.path.abspath(__file__))))
+from measuring import least, read_words, write
+
 LONGEST_RATIO = 2.0
 STEEPEST = 1.5
 SHORTEST = 0.002
@@ -177,34 +175,6 @@ class Reader:
         return before + "".join(arms) + "} }\n", before + "".join(arms) + "Nowhere::Nothing => {}\n} }\n"
 
 
-def seconds(command):
-    """The processor time of a run, and its status."""
-    pid = os.fork()
-    if pid == 0:
-        none = os.open(os.devnull, os.O_WRONLY)
-        os.dup2(none, 1)
-        os.dup2(none, 2)
-        resource.setrlimit(resource.RLIMIT_STACK, (STACK, STACK))
-        os.execvp(command[0], command)
-    _, status, usage = os.wait4(pid, 0)
-    return usage.ru_utime + usage.ru_stime, os.waitstatus_to_exitcode(status)
-
-
-def least(program, path, times):
-    """The least processor time of some checks of the file."""
-    runs = [seconds([program, "check", path]) for _ in range(times)]
-    if any(status not in (0, 1) for _, status in runs):
-        sys.exit(f"{path}: status {runs[0][1]}")
-    return min(spent for spent, _ in runs)
-
-
-def write(name, text):
-    path = os.path.join(OUT, name)
-    with open(path, "w") as file:
-        file.write(text)
-    return path
-
-
 def plain(engine, name, n):
     """The plain engine's time for a family."""
     words = subprocess.run([engine, "time", f"{name}:{n}", "", "j"], capture_output=True, text=True, check=True).stdout.split()
@@ -215,8 +185,9 @@ def ours(words, name, n):
     """The program's time for a family."""
     told = subprocess.run([words.engine, "family", name, str(n)], capture_output=True, text=True, check=True).stdout
     whole, broken = Reader(told).source()
-    judged = least(words.program, write(f"family_{name}_{n}.rs", whole), words.times)
-    return max(judged - least(words.program, write(f"family_{name}_{n}_broken.rs", broken), words.times), 0.0)
+    judged, refused = write(f"family_{name}_{n}.rs", whole), write(f"family_{name}_{n}_broken.rs", broken)
+    times = [least([words.program, "check", path], words.times)[0] for path in (judged, refused)]
+    return max(times[0] - times[1], 0.0)
 
 
 def measured(words, name, first):
@@ -236,15 +207,7 @@ def measured(words, name, first):
 
 
 def main():
-    reader = argparse.ArgumentParser(description="Measures the judging of hard matches beside an engine in plain Rust.")
-    reader.add_argument("--only", default="", help="just the families whose name has this text")
-    reader.add_argument("--times", type=int, default=5, help="so many runs each")
-    reader.add_argument("engine")
-    reader.add_argument("program", nargs="?", default=os.path.join(TOP, "crates/matchcheck/out/matchcheck"))
-    words = reader.parse_args()
-    if not os.access(words.program, os.X_OK):
-        sys.exit(f"{words.program} is not built: cd crates/matchcheck && rt run")
-    os.makedirs(OUT, exist_ok=True)
+    words = read_words("Measures the judging of hard matches beside an engine in plain Rust.", 5, ["engine"])
     print(f"{'family':<24} {'N':>6} {'ms':>10} {'plain ms':>10} {'ratio':>8} {'growth':>8} {'plain':>8}")
     chosen = [(name, first) for name, first in FAMILIES if words.only in name]
     met = sum(measured(words, name, first) for name, first in chosen)

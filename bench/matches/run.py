@@ -10,19 +10,16 @@ on a source by that on the one of half the size, by 2. A kind meets its goals wh
 need not grow faster than the list of arms, the last growth is at most 1.2. Times below a millisecond are too short to be judged,
 and count as a millisecond. The last line says how many kinds met their goals; the exit status is 1 where one did not.
 """
-import argparse
 import os
-import resource
 import shutil
 import sys
 
-TOP = os.path.dirname(os.path.dirname(os.path.dirname(os.path.abspath(__file__))))
-OUT = os.path.join(TOP, "bench", "out")
-STACK = 8 * 1024 * 1024
+sys.path.insert(0, os.path.dirname(os.path.dirname(os.path.abspath(__file__))))
+from measuring import OUT, least, read_words, source_name, write
+
 SHORTEST = 0.001
 RATIO = 2.0
 GROWTH = 1.2
-LONGEST = 16_777_216
 
 
 def function(parameter, arms, before=""):
@@ -120,59 +117,18 @@ KINDS = [
 ]
 
 
-def seconds(command):
-    """The processor time of a run, and its status."""
-    pid = os.fork()
-    if pid == 0:
-        none = os.open(os.devnull, os.O_WRONLY)
-        os.dup2(none, 1)
-        os.dup2(none, 2)
-        resource.setrlimit(resource.RLIMIT_STACK, (STACK, STACK))
-        os.execvp(command[0], command)
-    _, status, usage = os.wait4(pid, 0)
-    return usage.ru_utime + usage.ru_stime, os.waitstatus_to_exitcode(status)
-
-
-def least(command, times):
-    """The least processor time of some runs. A run that ends by a signal ends this one."""
-    best = None
-    for _ in range(times):
-        spent, status = seconds(command)
-        if status < 0:
-            sys.exit(f"{' '.join(command)} ended by signal {-status}")
-        best = spent if best is None else min(best, spent)
-    return best
-
-
-def write(name, text):
-    path = os.path.join(OUT, name)
-    if len(text) > LONGEST:
-        sys.exit(f"{name} is longer than a source may be")
-    with open(path, "w") as file:
-        file.write(text)
-    return path
-
-
 def main():
-    reader = argparse.ArgumentParser(description="Measures the program beside rustc on matches of one kind each.")
-    reader.add_argument("--only", default="", help="just the kinds whose name has this text")
-    reader.add_argument("--times", type=int, default=3, help="so many runs each")
-    reader.add_argument("program", nargs="?", default=os.path.join(TOP, "crates/matchcheck/out/matchcheck"))
-    words = reader.parse_args()
-    program = os.path.abspath(words.program)
-    if not os.access(program, os.X_OK):
-        sys.exit(f"{program} is not built: cd crates/matchcheck && rt run")
+    words = read_words("Measures the program beside rustc on matches of one kind each.", 3)
     if shutil.which("rustc") is None:
         sys.exit("rustc is not there to be compared with")
-    os.makedirs(OUT, exist_ok=True)
 
     def ours(path):
-        return least([program, "check", path], 12 * words.times)
+        return least([words.program, "check", path], 12 * words.times)[0]
 
     def theirs(path):
         out = os.path.join(OUT, "matches.rmeta")
         edition = ["--edition", "2024", "--crate-type", "lib", "--emit=metadata", "-A", "warnings", "-o", out]
-        return least(["rustc", *edition, path], words.times)
+        return least(["rustc", *edition, path], words.times)[0]
 
     empty = write("matches_empty.rs", "")
     our_start, their_start = ours(empty), theirs(empty)
@@ -185,7 +141,7 @@ def main():
         tried += 1
         fine, before, growth = True, None, None
         for n in (first, 2 * first, 4 * first):
-            path = write("matches_" + "".join(c if c.isalnum() else "_" for c in name) + f"_{n}.rs", make(n))
+            path = write(source_name("matches", name, n), make(n))
             our_time = max(ours(path) - our_start, SHORTEST)
             their_time = max(theirs(path) - their_start, SHORTEST)
             ratio = their_time / our_time

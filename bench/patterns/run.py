@@ -9,18 +9,15 @@ one of half the size, by 2: it is to be at most 1.2 at the last step. A source w
 end and is read up to there, but not judged; so is the one with other types. The last line says how many goals were met; the exit
 status is 1 where one was missed.
 """
-import argparse
 import itertools
 import os
-import resource
 import sys
 
-TOP = os.path.dirname(os.path.dirname(os.path.dirname(os.path.abspath(__file__))))
-OUT = os.path.join(TOP, "bench", "out")
-STACK = 8 * 1024 * 1024
+sys.path.insert(0, os.path.dirname(os.path.dirname(os.path.abspath(__file__))))
+from measuring import least, read_words, source_name, write
+
 SHORTEST = 0.01
 GROWTH = 1.2
-LONGEST = 16_777_216
 WIDE = "struct S { " + ", ".join(f"a{j}: u8" for j in range(256)) + " }\n"
 TYPES = "u8 u16 u32 u64 u128 usize i8 i16 i32 i64 i128 isize bool char".split()
 
@@ -98,49 +95,9 @@ KINDS = [
 ]
 
 
-def seconds(command):
-    """The processor time of a run, its peak memory in MB, and its status."""
-    pid = os.fork()
-    if pid == 0:
-        none = os.open(os.devnull, os.O_WRONLY)
-        os.dup2(none, 1)
-        resource.setrlimit(resource.RLIMIT_STACK, (STACK, STACK))
-        os.execvp(command[0], command)
-    _, status, usage = os.wait4(pid, 0)
-    return usage.ru_utime + usage.ru_stime, usage.ru_maxrss / 1024, os.waitstatus_to_exitcode(status)
-
-
-def least(command, times, wanted):
-    """The least processor time of some runs, and the peak memory. Each run is to end with one of these statuses."""
-    best = None
-    for _ in range(times):
-        spent, memory, status = seconds(command)
-        if status not in wanted:
-            sys.exit(f"{' '.join(command)} ended with status {status}")
-        best = spent if best is None else min(best, spent)
-    return best, memory
-
-
-def write(name, text):
-    path = os.path.join(OUT, name)
-    if len(text) > LONGEST:
-        sys.exit(f"{name} is longer than a source may be")
-    with open(path, "w") as file:
-        file.write(text)
-    return path
-
-
 def main():
-    reader = argparse.ArgumentParser(description="Measures how time grows with large patterns.")
-    reader.add_argument("--only", default="", help="just the kinds whose name has this text")
-    reader.add_argument("--times", type=int, default=3, help="so many runs each")
-    reader.add_argument("program", nargs="?", default=os.path.join(TOP, "crates/matchcheck/out/matchcheck"))
-    words = reader.parse_args()
-    program = os.path.abspath(words.program)
-    if not os.access(program, os.X_OK):
-        sys.exit(f"{program} is not built: cd crates/matchcheck && rt run")
-    os.makedirs(OUT, exist_ok=True)
-    start, _ = least([program, "check", write("patterns_empty.rs", "")], words.times, (0,))
+    words = read_words("Measures how time grows with large patterns.", 3)
+    start, _ = least([words.program, "check", write("patterns_empty.rs", "")], words.times, (0,))
     kinds = KINDS + [(f"{name}, refused", refused(make), n) for name, make, n in KINDS]
     kinds.append(("alternatives that bind a name with other types", other_types, 75_000))
     print(f"{'kind':<46} {'N':>8} {'seconds':>8} {'MB':>6} {'growth':>7}")
@@ -151,8 +108,8 @@ def main():
         tried += 1
         before, growth = None, None
         for n in (first, 2 * first, 4 * first):
-            path = write("patterns_" + "".join(c if c.isalnum() else "_" for c in name) + f"_{n}.rs", make(n))
-            spent, memory = least([program, "check", path], words.times, (0, 1))
+            path = write(source_name("patterns", name, n), make(n))
+            spent, memory = least([words.program, "check", path], words.times)
             spent = max(spent - start, SHORTEST)
             growth = spent / before / 2 if before else None
             before = spent
