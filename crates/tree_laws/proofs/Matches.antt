@@ -38,7 +38,7 @@ pub record IsGoodArm {T : Type 0} (cx : Context T) (t : T) (a : MDeArm T) : Type
 
 module _ {T : Type 0} (IsType : T → Type 0) (cx : Context T) (V : T → Bool → MValue → Type 0)
     (law : PartsLaw IsType V cx) (values : ValuesLaw IsType V cx) (decides : ℕ → Decision) where
-  first-good : (t : T) (sure : Bool) (j : ℕ) (arms : List (MDeArm T)) → Every (IsGoodArm cx t) arms →
+  pub first-good : (t : T) (sure : Bool) (j : ℕ) (arms : List (MDeArm T)) → Every (IsGoodArm cx t) arms →
       AreArmsNumbered decides arms →
       Every (IsGoodRow cx decides (record { place = []; type = t; sure = sure } ∷ [])) (first_rows j arms)
   first-good t sure j [] g n = tt
@@ -70,7 +70,7 @@ module _ {T : Type 0} (IsType : T → Type 0) (cx : Context T) (V : T → Bool �
       }) lowers shared
 
   -- the arms of a well-typed match are good
-  arms-good : (m : MDeMatch T) → IsWellTyped IsType cx m → AreArmsMade m.arms → Every (IsGoodArm cx m.type) m.arms
+  pub arms-good : (m : MDeMatch T) → IsWellTyped IsType cx m → AreArmsMade m.arms → Every (IsGoodArm cx m.type) m.arms
   arms-good m w made = go m.arms (λ a i. i) made
     where
       go : (arms : List (MDeArm T)) → ((a : MDeArm T) → Among a arms → Among a m.arms) → AreArmsMade arms →

@@ -1,0 +1,13 @@
+mod OneFirst
+mod Going
+mod Beginning
+mod Reading
+mod TypedRows
+mod CountingCases
+mod FewestSoFar
+mod Stepping
+mod FirstMatrix
+mod Looking
+mod Turning
+mod Empty
+mod StillInOrder

@@ -1,0 +1,134 @@
+use Rattle.std.proofs.Common.{◌∙◌, reverse, subst, refl, sym, ap, map, arith}
+use Rattle.match_model.specs.Lowering.{ctors_at}
+use Rattle.constructor_sets.specs.Columns.{plain_ctors}
+use Rattle.keyed_matrix.specs.Deciding.{table_decides}
+use Rattle.keyed_matrix.specs.Steps.{AreLonger}
+use Rattle.keyed_matrix.specs.Views.{plain_rows}
+use Rattle.tree_eval.specs.Nodes.{plain_branch}
+use Rattle.tree_eval.specs.Trees.{table_trees}
+use Rattle.tree_eval.specs.declared.tree.Case.TheVariants.{Else}
+use Rattle.decision_tree.specs.declared.frames.Frame.TheVariants.{Switch}
+use Rattle.decision_tree.specs.declared.frames.Looked.{Looked}
+use Rattle.decision_tree.specs.Matrices.{matrix_columns, matrix_rows}
+use Rattle.decision_tree.specs.Waiting.{Awaits}
+use Rattle.decision_tree.proofs.Beginning.{left-begun, else-begun}
+use Rattle.decision_tree.proofs.Looking.{within, read, longer, is-type, sharp, dropped-at}
+use Rattle.decision_tree.proofs.Turning.{last-first, found-at}
+use Rattle.decision_tree.proofs.lowering.begin_switch.Goals as goal
+
+pub ctors_at-requires : goal.ctors_at-requires
+ctors_at-requires g c =
+    let cx = c.args.cx.now in
+    let IsType = g.C.PatCx.is_type cx in
+    let context = g.C.PatCx.context cx in
+    let V = g.C.PatCx.is_value cx in
+    let decides = table_decides c.args.decisions.now in
+    let frames = reverse c.args.frames.now.items in
+    let now = table_trees c.args.table.now in
+    let values = g.met.C.PatCx.values cx in
+    let e = c.args.e in
+    let i = c.args.i in
+    let o = c.requires.1.1 in
+    subst (λ rs. AreLonger i (plain_rows rs)) (sym c.deref.ensures.value)
+    (longer IsType context V values decides i e o.column o.ready o.there)
+
+pub index-requires : goal.index-requires
+index-requires g c = omega (arith, c.args.e.columns.ok.0, within c.args.e c.args.i c.requires.1.1.column c.requires.1.1.there)
+
+pub index-requires-2 : goal.index-requires-2
+index-requires-2 g c = omega (arith, c.args.e.columns.ok.0, within c.args.e c.args.i c.requires.1.1.column c.requires.1.1.there)
+
+pub present-requires-clause-ty : goal.present-requires-clause-ty
+present-requires-clause-ty g c =
+    let cx = c.args.cx.now in
+    let IsType = g.C.PatCx.is_type cx in
+    let context = g.C.PatCx.context cx in
+    let V = g.C.PatCx.is_value cx in
+    let decides = table_decides c.args.decisions.now in
+    let frames = reverse c.args.frames.now.items in
+    let now = table_trees c.args.table.now in
+    let values = g.met.C.PatCx.values cx in
+    let e = c.args.e in
+    let i = c.args.i in
+    let o = c.requires.1.1 in
+    is-type IsType context V values decides i e o.column o.ready o.there c.index.result.now c.index.ensures
+
+pub present-requires-clause-heads : goal.present-requires-clause-heads
+present-requires-clause-heads g c =
+    let cx = c.args.cx.now in
+    let IsType = g.C.PatCx.is_type cx in
+    let context = g.C.PatCx.context cx in
+    let V = g.C.PatCx.is_value cx in
+    let decides = table_decides c.args.decisions.now in
+    let frames = reverse c.args.frames.now.items in
+    let now = table_trees c.args.table.now in
+    let values = g.met.C.PatCx.values cx in
+    let e = c.args.e in
+    let i = c.args.i in
+    let o = c.requires.1.1 in
+    sharp IsType context V values decides i e o.column o.ready o.there c.index.result.now c.index.ensures
+    (plain_ctors c.deref-2.result.now)
+    (ap plain_ctors c.deref-2.ensures.value ∙ c.in_ok-ctors.ensures ∙ ap (λ rs. ctors_at i (plain_rows rs)) c.deref.ensures.value)
+
+pub dropped-requires-clause-within : goal.dropped-requires-clause-within
+dropped-requires-clause-within g c = within c.args.e c.args.i c.requires.1.1.column c.requires.1.1.there
+
+pub returns-then-found : goal.returns-then-found
+returns-then-found g c =
+    let cx = c.args.cx.now in
+    let IsType = g.C.PatCx.is_type cx in
+    let context = g.C.PatCx.context cx in
+    let V = g.C.PatCx.is_value cx in
+    let decides = table_decides c.args.decisions.now in
+    let frames = reverse c.args.frames.now.items in
+    let now = table_trees c.args.table.now in
+    let values = g.met.C.PatCx.values cx in
+    let e = c.args.e in
+    let i = c.args.i in
+    let o = c.requires.1.1 in
+    let f = c.in_ok-found.found in
+    let next = c.in_ok-next.next in
+    let l : Looked g.row.C-Ty.Denot = record { matrix = e; column = i; pieces = f.ctors; cases = c.new.result } in
+    let found = found-at IsType context V decides g.root c.index.result.now c.index-2.result.now o.column (plain_ctors c.deref-2.result.now)
+    (ctors_at i (matrix_rows e)) (plain_ctors f.ctors.items) (plain_ctors f.gaps.items) f.missing
+    (read e i o.column o.there c.index.result.now c.index.ensures)
+    (read e i o.column o.there c.index-2.result.now c.index-2.ensures)
+    (ap plain_ctors c.deref-2.ensures.value ∙ c.in_ok-ctors.ensures ∙ ap (λ rs. ctors_at i (plain_rows rs)) c.deref.ensures.value)
+    c.in_ok-found.ensures.found in
+    let over = dropped-at context decides i e next o.column o.there c.in_ok-next.ensures.dropped in (
+      c.in_ok-next.ensures.good,
+      subst (λ fs. Awaits IsType context V decides g.root fs now (matrix_columns next) (matrix_rows next))
+          (sym (last-first c.args.frames.now.items c.push.new.self.items (Switch l Else) c.in_ok-push.ensures.items))
+          (else-begun IsType context V decides g.root frames now l o (plain_ctors f.gaps.items) f.missing found c.tables_are_built.ensures
+          (ap (map plain_branch) c.new.ensures.items) c.if-found.true Else (matrix_columns next) (matrix_rows next) refl over.0
+          over.1),
+    )
+
+pub next_case-requires : goal.next_case-requires
+next_case-requires g c κs inside =
+    let cx = c.args.cx.now in
+    let IsType = g.C.PatCx.is_type cx in
+    let context = g.C.PatCx.context cx in
+    let V = g.C.PatCx.is_value cx in
+    let decides = table_decides c.args.decisions.now in
+    let frames = reverse c.args.frames.now.items in
+    let now = table_trees c.args.table.now in
+    let values = g.met.C.PatCx.values cx in
+    let e = c.args.e in
+    let i = c.args.i in
+    let o = c.requires.1.1 in
+    let f = c.in_ok-found.found in
+    let l : Looked g.row.C-Ty.Denot = record { matrix = e; column = i; pieces = f.ctors; cases = c.new.result } in
+    let found = found-at IsType context V decides g.root c.index.result.now c.index-2.result.now o.column (plain_ctors c.deref-2.result.now)
+    (ctors_at i (matrix_rows e)) (plain_ctors f.ctors.items) (plain_ctors f.gaps.items) f.missing
+    (read e i o.column o.there c.index.result.now c.index.ensures)
+    (read e i o.column o.there c.index-2.result.now c.index-2.ensures)
+    (ap plain_ctors c.deref-2.ensures.value ∙ c.in_ok-ctors.ensures ∙ ap (λ rs. ctors_at i (plain_rows rs)) c.deref.ensures.value)
+    c.in_ok-found.ensures.found in (
+      inside.0,
+      (
+        inside.1,
+        left-begun IsType context V decides g.root frames now l o (plain_ctors f.gaps.items) f.missing found c.tables_are_built.ensures
+            (ap (map plain_branch) c.new.ensures.items) c.if-found.false,
+      ),
+    )

@@ -1,0 +1,3 @@
+pub mod Places
+pub mod Matrices
+pub mod Waiting

@@ -1,0 +1,43 @@
+// Matrices, and what waits for the trees of others.
+use keyed_matrix::{KeyedColumn, KeyedRow};
+use pat_context::Ctor;
+use tree_eval::{Bind, Case};
+
+// Rows over open columns.
+#[derive(Drop)]
+pub(crate) struct Matrix<'a, T: Copy> {
+    pub(crate) columns: Vec<KeyedColumn<'a, T>>,
+    pub(crate) rows: Vec<KeyedRow<'a, T>>,
+}
+
+// A column that is looked at: the rows have no or-pattern there.
+#[derive(Drop)]
+pub(crate) struct Looked<'a, T: Copy> {
+    pub(crate) matrix: Matrix<'a, T>,
+    // The number of the column.
+    pub(crate) column: usize,
+    // The pieces that have a value and stand in a row, in order; those that are done are taken off the end.
+    pub(crate) pieces: Vec<Ctor<'a>>,
+    // The cases that are done with the indices of their trees, the last case first.
+    pub(crate) cases: Vec<(Case, u64)>,
+}
+
+// What waits for the tree of other rows.
+#[derive(Drop)]
+pub(crate) enum Frame<'a, T: Copy> {
+    // The guard of an arm waits for the tree of the rows behind it.
+    Guard { arm: u32, binds: Vec<Bind> },
+    // A switch waits for the tree of the case.
+    Switch { looked: Looked<'a, T>, case: Case },
+}
+
+// What is done next.
+#[derive(Drop)]
+pub(crate) enum Turn<'a, T: Copy> {
+    // Lower the rows.
+    Lower(Matrix<'a, T>),
+    // Go on where the tree with the index was waited for.
+    Finished(u64),
+    // Nothing waits any more: the tree with the index is that of the first rows.
+    Done(u64),
+}

@@ -1,0 +1,34 @@
+// Rows that have only wildcards and names left.
+ghost use Rattle.std.specs.Prelude.{◌≡◌};
+ghost use Rattle.match_model.specs.DecisionTrees.{all_wild};
+ghost use Rattle.match_model.specs.Rows.{is_wild};
+ghost use Rattle.keyed_matrix.specs.Views.{plain_head, plain_row};
+
+use keyed_matrix::KeyedRow;
+use pat_context::Ctor;
+use pattern_arena::DePat;
+
+// Tells whether the head is a wildcard or a name.
+pub(crate) fn is_wild<'a, T: Copy>(head: &Option<&'a DePat<'a, T>>) -> bool
+    ensures { result ≡ is_wild (plain_head head.now) }
+{
+    match head {
+        None => true,
+        Some(p) => match p.ctor {
+            Ctor::Wild => true,
+            _ => false,
+        },
+    }
+}
+
+// Tells whether every head of the row is one.
+pub(crate) fn is_leaf<'a, T: Copy>(row: &KeyedRow<'a, T>) -> bool
+    ensures { result ≡ all_wild (plain_row row.now) }
+{
+    for head in &row.heads {
+        if !is_wild(head) {
+            return false;
+        }
+    }
+    true
+}

@@ -1,0 +1,363 @@
+// The tree of rows. What waits for the trees of other rows stands in a list, so that nothing calls itself.
+ghost use Rattle.std.specs.Prelude.{◌≡◌, ◌<◌, ◌^◌, ℕ, [], reverse, length, get_or, true, false, IfOk};
+ghost use Rattle.match_model.specs.DecisionTrees.{MTree, all_wild};
+ghost use Rattle.match_model.specs.FewestBranches.{IsFewest};
+ghost use Rattle.match_model.specs.Matrices.{first_matrix};
+ghost use Rattle.match_model.specs.Numbering.{match_decisions};
+ghost use Rattle.match_model.specs.WellTyped.{IsWellTyped};
+ghost use Rattle.pattern_arena.specs.Trees.{plain_match};
+ghost use Rattle.keyed_matrix.specs.Deciding.{table_decides};
+ghost use Rattle.keyed_matrix.specs.Views.{plain_row};
+ghost use Rattle.keyed_matrix.specs.declared.rows.KeyedRow.{KeyedRow};
+ghost use Rattle.tree_eval.specs.Tables.{IsFinished};
+ghost use Rattle.tree_eval.specs.Trees.{table_trees};
+ghost use Rattle.decision_tree.specs.Matrices.{matrix_columns, matrix_rows, IsGoodMatrix};
+ghost use Rattle.decision_tree.specs.Waiting.{Root, Tells, IsBare, Makes, Awaits, IsLeftOf, IsOpened, IsTurn};
+ghost use Rattle.decision_tree.specs.declared.frames.Turn.TheVariants.{Finished};
+
+use crate::binds::{place_by, row_binds};
+use crate::branches::place_of;
+use crate::frames::{Frame, Looked, Matrix, Turn};
+use crate::leaves::is_leaf;
+use crate::pieces::{case_of, is_switchless};
+use crate::steps::{dropped, entered, expanded};
+use bumpalo::Bump;
+use constructor_sets::{present, split_column};
+use keyed_matrix::{Decisions, are_wild, ctors_at, first_column, first_rows};
+use no_memory::NoMemory;
+use pat_context::PatCx;
+use pattern_arena::CheckedMatch;
+use std::alloc::Global;
+use tree_eval::laws::tables_are_built;
+use tree_eval::{Case, NodeTable};
+
+// Where no row is left.
+fn finish_none<'a, C: PatCx>(
+    cx: &C,
+    decisions: &Decisions,
+    bare: bool,
+    frames: &Vec<Frame<'a, C::Ty>>,
+    table: &mut NodeTable,
+    m: Matrix<'a, C::Ty>,
+) -> Result<Turn<'a, C::Ty>, NoMemory>
+    ghost root: { Root C.Ty }
+    requires bare { Tells bare (IsBare (C.is_value cx.now) root) }
+    requires none { m.rows.items ≡ [] }
+    requires awaits { Awaits (C.is_type cx.now) (C.context cx.now) (C.is_value cx.now) (table_decides decisions.now) root
+        (reverse frames.now.items) (table_trees table.old) (matrix_columns m) (matrix_rows m) }
+    ensures { IfOk result (λ t. IsTurn (C.is_type cx.now) (C.context cx.now) (C.is_value cx.now)
+        (table_decides decisions.now) root (reverse frames.now.items) (table_trees table.new) t) }
+{
+    tables_are_built(table);
+    if bare {
+        let index = table.void()?;
+        Ok(Turn::Finished(index))
+    } else {
+        let index = table.miss()?;
+        Ok(Turn::Finished(index))
+    }
+}
+
+// Where the first row has only wildcards and names left.
+fn finish_row<'a, C: PatCx>(
+    alloc: Global,
+    cx: &C,
+    decisions: &Decisions,
+    frames: &mut Vec<Frame<'a, C::Ty>>,
+    table: &mut NodeTable,
+    m: Matrix<'a, C::Ty>,
+) -> Result<Turn<'a, C::Ty>, NoMemory>
+    ghost root: { Root C.Ty }
+    requires some { 0 < length m.rows.items }
+    requires leaf { (d : KeyedRow C.Ty) → all_wild (plain_row (get_or m.rows.items 0 d)) ≡ true }
+    requires good { IsGoodMatrix (C.is_type cx.now) (C.context cx.now) (table_decides decisions.now) m }
+    requires awaits { Awaits (C.is_type cx.now) (C.context cx.now) (C.is_value cx.now) (table_decides decisions.now) root
+        (reverse frames.old.items) (table_trees table.old) (matrix_columns m) (matrix_rows m) }
+    ensures { IfOk result (λ t. IsTurn (C.is_type cx.now) (C.context cx.now) (C.is_value cx.now)
+        (table_decides decisions.now) root (reverse frames.new.items) (table_trees table.new) t) }
+{
+    tables_are_built(table);
+    let Matrix { columns, rows } = m;
+    let mut rows = rows;
+    let row = rows.remove(0);
+    let binds = row_binds(alloc, &columns, &row)?;
+    if row.guarded {
+        frames.push(Frame::Guard {
+            arm: row.arm,
+            binds,
+        })?;
+        Ok(Turn::Lower(Matrix { columns, rows }))
+    } else {
+        let index = table.take(row.arm, binds)?;
+        Ok(Turn::Finished(index))
+    }
+}
+
+// Goes on with the next case of the switch, from the last to the first; where none is left, the switch is finished.
+fn next_case<'a, C: PatCx>(
+    alloc: Global,
+    arena: &'a Bump<Global>,
+    cx: &C,
+    decisions: &Decisions,
+    frames: &mut Vec<Frame<'a, C::Ty>>,
+    table: &mut NodeTable,
+    looked: Looked<'a, C::Ty>,
+) -> Result<Turn<'a, C::Ty>, NoMemory>
+    ghost root: { Root C.Ty }
+    requires { IsLeftOf (C.is_type cx.now) (C.context cx.now) (C.is_value cx.now) (table_decides decisions.now) root
+        (reverse frames.old.items) (table_trees table.old) looked }
+    ensures { IfOk result (λ t. IsTurn (C.is_type cx.now) (C.context cx.now) (C.is_value cx.now)
+        (table_decides decisions.now) root (reverse frames.new.items) (table_trees table.new) t) }
+{
+    let mut looked = looked;
+    match looked.pieces.pop() {
+        Some(piece) => {
+            let case = case_of(alloc, &piece)?;
+            let i = looked.column;
+            let next = entered(alloc, arena, cx, decisions, &looked.matrix, i, &piece)?;
+            frames.push(Frame::Switch { looked, case })?;
+            Ok(Turn::Lower(next))
+        }
+        None => {
+            let place = place_by(alloc, looked.matrix.columns[looked.column].place)?;
+            let mut cases = looked.cases;
+            cases.reverse();
+            let index = table.switch(place, cases)?;
+            Ok(Turn::Finished(index))
+        }
+    }
+}
+
+// Begins the switch at the column, at which some row has a constructor. Where a piece with a value stands in no row, the last
+// case is that of all others.
+fn begin_switch<'a, C: PatCx>(
+    alloc: Global,
+    arena: &'a Bump<Global>,
+    cx: &C,
+    decisions: &Decisions,
+    frames: &mut Vec<Frame<'a, C::Ty>>,
+    table: &mut NodeTable,
+    e: Matrix<'a, C::Ty>,
+    i: usize,
+) -> Result<Turn<'a, C::Ty>, NoMemory>
+    ghost root: { Root C.Ty }
+    requires { IsOpened (C.is_type cx.now) (C.context cx.now) (C.is_value cx.now) (table_decides decisions.now) root
+        (reverse frames.old.items) (table_trees table.old) i false e }
+    ensures { IfOk result (λ t. IsTurn (C.is_type cx.now) (C.context cx.now) (C.is_value cx.now)
+        (table_decides decisions.now) root (reverse frames.new.items) (table_trees table.new) t) }
+{
+    tables_are_built(table);
+    let ctors = ctors_at(alloc, &e.rows, i)?;
+    let found = present(alloc, cx, e.columns[i].ty, e.columns[i].validity, &ctors)?;
+    let looked = Looked {
+        matrix: e,
+        column: i,
+        pieces: found.ctors,
+        cases: Vec::new(alloc),
+    };
+    if found.missing {
+        let next = dropped(alloc, cx, decisions, &looked.matrix, i)?;
+        frames.push(Frame::Switch {
+            looked,
+            case: Case::Else,
+        })?;
+        Ok(Turn::Lower(next))
+    } else {
+        next_case(alloc, arena, cx, decisions, frames, table, looked)
+    }
+}
+
+// Has the parts of the column take its place: its type has one piece.
+fn open_column<'a, C: PatCx>(
+    alloc: Global,
+    arena: &'a Bump<Global>,
+    cx: &C,
+    decisions: &Decisions,
+    frames: &Vec<Frame<'a, C::Ty>>,
+    table: &NodeTable,
+    e: Matrix<'a, C::Ty>,
+    i: usize,
+) -> Result<Turn<'a, C::Ty>, NoMemory>
+    ghost root: { Root C.Ty }
+    requires { IsOpened (C.is_type cx.now) (C.context cx.now) (C.is_value cx.now) (table_decides decisions.now) root
+        (reverse frames.now.items) (table_trees table.now) i true e }
+    ensures { IfOk result (λ t. IsTurn (C.is_type cx.now) (C.context cx.now) (C.is_value cx.now)
+        (table_decides decisions.now) root (reverse frames.now.items) (table_trees table.now) t) }
+{
+    let ctors = ctors_at(alloc, &e.rows, i)?;
+    let split = split_column(alloc, cx, e.columns[i].ty, e.columns[i].validity, &ctors)?;
+    let next = entered(alloc, arena, cx, decisions, &e, i, &split.pieces[0].ctor)?;
+    Ok(Turn::Lower(next))
+}
+
+// Looks at the column: its or-patterns are taken apart, and then it is dropped where no row has a constructor there.
+fn look_at<'a, C: PatCx>(
+    alloc: Global,
+    arena: &'a Bump<Global>,
+    cx: &C,
+    decisions: &Decisions,
+    frames: &mut Vec<Frame<'a, C::Ty>>,
+    table: &mut NodeTable,
+    m: Matrix<'a, C::Ty>,
+    i: usize,
+) -> Result<Turn<'a, C::Ty>, NoMemory>
+    ghost root: { Root C.Ty }
+    requires chosen { IsFewest (C.context cx.now) (C.is_value cx.now) (matrix_columns m) (matrix_rows m) i }
+    requires good { IsGoodMatrix (C.is_type cx.now) (C.context cx.now) (table_decides decisions.now) m }
+    requires awaits { Awaits (C.is_type cx.now) (C.context cx.now) (C.is_value cx.now) (table_decides decisions.now) root
+        (reverse frames.old.items) (table_trees table.old) (matrix_columns m) (matrix_rows m) }
+    ensures { IfOk result (λ t. IsTurn (C.is_type cx.now) (C.context cx.now) (C.is_value cx.now)
+        (table_decides decisions.now) root (reverse frames.new.items) (table_trees table.new) t) }
+{
+    let e = expanded(alloc, cx, decisions, m, i)?;
+    if are_wild(&e.rows, i) {
+        let next = dropped(alloc, cx, decisions, &e, i)?;
+        return Ok(Turn::Lower(next));
+    }
+    let set = cx.set(e.columns[i].ty);
+    if is_switchless(&set) {
+        open_column(alloc, arena, cx, decisions, frames, table, e, i)
+    } else {
+        begin_switch(alloc, arena, cx, decisions, frames, table, e, i)
+    }
+}
+
+// Lowers the rows by one rule.
+fn lower_one<'a, C: PatCx>(
+    alloc: Global,
+    arena: &'a Bump<Global>,
+    cx: &C,
+    decisions: &Decisions,
+    bare: bool,
+    frames: &mut Vec<Frame<'a, C::Ty>>,
+    table: &mut NodeTable,
+    m: Matrix<'a, C::Ty>,
+) -> Result<Turn<'a, C::Ty>, NoMemory>
+    ghost root: { Root C.Ty }
+    requires bare { Tells bare (IsBare (C.is_value cx.now) root) }
+    requires good { IsGoodMatrix (C.is_type cx.now) (C.context cx.now) (table_decides decisions.now) m }
+    requires awaits { Awaits (C.is_type cx.now) (C.context cx.now) (C.is_value cx.now) (table_decides decisions.now) root
+        (reverse frames.old.items) (table_trees table.old) (matrix_columns m) (matrix_rows m) }
+    ensures { IfOk result (λ t. IsTurn (C.is_type cx.now) (C.context cx.now) (C.is_value cx.now)
+        (table_decides decisions.now) root (reverse frames.new.items) (table_trees table.new) t) }
+{
+    if m.rows.is_empty() {
+        return finish_none(cx, decisions, bare, frames, table, m);
+    }
+    if is_leaf(&m.rows[0]) {
+        return finish_row(alloc, cx, decisions, frames, table, m);
+    }
+    let i = place_of(alloc, cx, &m.columns, &m.rows)?;
+    look_at(alloc, arena, cx, decisions, frames, table, m, i)
+}
+
+// Goes on where the tree with the index was waited for.
+fn resume<'a, C: PatCx>(
+    alloc: Global,
+    arena: &'a Bump<Global>,
+    cx: &C,
+    decisions: &Decisions,
+    frames: &mut Vec<Frame<'a, C::Ty>>,
+    table: &mut NodeTable,
+    index: u64,
+) -> Result<Turn<'a, C::Ty>, NoMemory>
+    ghost root: { Root C.Ty }
+    requires { IsTurn (C.is_type cx.now) (C.context cx.now) (C.is_value cx.now) (table_decides decisions.now) root
+        (reverse frames.old.items) (table_trees table.old) (Finished index) }
+    ensures { IfOk result (λ t. IsTurn (C.is_type cx.now) (C.context cx.now) (C.is_value cx.now)
+        (table_decides decisions.now) root (reverse frames.new.items) (table_trees table.new) t) }
+{
+    match frames.pop() {
+        None => Ok(Turn::Done(index)),
+        Some(Frame::Guard { arm, binds }) => {
+            let asked = table.ask(arm, binds, index)?;
+            Ok(Turn::Finished(asked))
+        }
+        Some(Frame::Switch { looked, case }) => {
+            let mut looked = looked;
+            looked.cases.push((case, index))?;
+            next_case(alloc, arena, cx, decisions, frames, table, looked)
+        }
+    }
+}
+
+// Does what is to be done next.
+fn step<'a, C: PatCx>(
+    alloc: Global,
+    arena: &'a Bump<Global>,
+    cx: &C,
+    decisions: &Decisions,
+    bare: bool,
+    frames: &mut Vec<Frame<'a, C::Ty>>,
+    table: &mut NodeTable,
+    turn: Turn<'a, C::Ty>,
+) -> Result<Turn<'a, C::Ty>, NoMemory>
+    ghost root: { Root C.Ty }
+    requires bare { Tells bare (IsBare (C.is_value cx.now) root) }
+    requires turn { IsTurn (C.is_type cx.now) (C.context cx.now) (C.is_value cx.now) (table_decides decisions.now) root
+        (reverse frames.old.items) (table_trees table.old) turn }
+    ensures { IfOk result (λ t. IsTurn (C.is_type cx.now) (C.context cx.now) (C.is_value cx.now)
+        (table_decides decisions.now) root (reverse frames.new.items) (table_trees table.new) t) }
+{
+    match turn {
+        Turn::Lower(m) => {
+            let new = lower_one(alloc, arena, cx, decisions, bare, frames, table, m)?;
+            Ok(new)
+        }
+        Turn::Finished(index) => {
+            let new = resume(alloc, arena, cx, decisions, frames, table, index)?;
+            Ok(new)
+        }
+        Turn::Done(index) => Ok(Turn::Done(index)),
+    }
+}
+
+// The matrix of the arms.
+fn first_matrix<'a, T: Copy>(
+    alloc: Global,
+    m: &CheckedMatch<'a, T>,
+) -> Result<Matrix<'a, T>, NoMemory>
+    requires { length m.now.arms.now < 2 ^ 32 }
+    ensures columns { IfOk result (λ e. matrix_columns e ≡ (first_matrix (plain_match m.now)).columns) }
+    ensures rows { IfOk result (λ e. matrix_rows e ≡ (first_matrix (plain_match m.now)).rows) }
+{
+    let rows = first_rows(alloc, m)?;
+    let mut columns = Vec::new(alloc);
+    columns.push(first_column(m))?;
+    Ok(Matrix { columns, rows })
+}
+
+// Puts the tree of the match, whose domain has a value, into the table, which is empty, and gives its index.
+pub(crate) fn lower_match<'a, C: PatCx>(
+    alloc: Global,
+    arena: &'a Bump<Global>,
+    cx: &C,
+    decisions: &Decisions,
+    bare: bool,
+    table: &mut NodeTable,
+    m: &CheckedMatch<'a, C::Ty>,
+) -> Result<u64, NoMemory>
+    ghost root: { Root C.Ty }
+    requires root { root ≡ plain_match m.now }
+    requires typed { IsWellTyped (C.is_type cx.now) (C.context cx.now) (plain_match m.now) }
+    requires few { length m.now.arms.now < 2 ^ 32 }
+    requires decides { (uid : ℕ) → table_decides decisions.now uid ≡ match_decisions (plain_match m.now) uid }
+    requires bare { Tells bare (IsBare (C.is_value cx.now) root) }
+    requires empty { table_trees table.old ≡ [] }
+    ensures { IfOk result (λ i. (t : MTree) × Makes (C.is_type cx.now) (C.context cx.now) (C.is_value cx.now)
+        (table_decides decisions.now) root (first_matrix root).columns (first_matrix root).rows t
+        × IsFinished [] t i (table_trees table.new)) }
+{
+    let first = first_matrix(alloc, m)?;
+    let mut frames = Vec::new(alloc);
+    let mut turn = Turn::Lower(first);
+    for _step in 0..usize::MAX {
+        match turn {
+            Turn::Done(index) => return Ok(index),
+            other => {
+                turn = step(alloc, arena, cx, decisions, bare, &mut frames, table, other)?;
+            }
+        }
+    }
+    Err(NoMemory)
+}

@@ -1,0 +1,82 @@
+// The steps of a matrix at a column, after each of which the rows are in order. Rows that a step keeps are in order
+// still; only rows whose or-patterns are taken apart are sorted.
+ghost use Rattle.std.specs.Prelude.{◌<◌, length, IfOk};
+ghost use Rattle.pat_context.specs.Views.{plain_ctor};
+ghost use Rattle.keyed_matrix.specs.Deciding.{table_decides};
+ghost use Rattle.decision_tree.specs.Matrices.{IsGoodMatrix, IsReadyMatrix, IsPieceAt};
+ghost use Rattle.decision_tree.specs.Matrices.{IsExpanded, IsDropped, IsEntered};
+
+use crate::frames::Matrix;
+use bumpalo::Bump;
+use keyed_matrix::{
+    Decisions, dropped_columns, dropped_rows, expanded_rows, in_order, piece_columns, piece_rows,
+};
+use no_memory::NoMemory;
+use pat_context::{Ctor, PatCx, count_parts};
+use std::alloc::Global;
+
+// The rows with the or-patterns of the column taken apart.
+pub(crate) fn expanded<'a, C: PatCx>(
+    alloc: Global,
+    cx: &C,
+    decisions: &Decisions,
+    m: Matrix<'a, C::Ty>,
+    i: usize,
+) -> Result<Matrix<'a, C::Ty>, NoMemory>
+    requires within { i < length m.columns.items }
+    requires good { IsGoodMatrix (C.is_type cx.now) (C.context cx.now) (table_decides decisions.now) m }
+    ensures expanded { IfOk result (λ e. IsExpanded (table_decides decisions.now) i m.entry e) }
+    ensures ready { IfOk result (λ e. IsReadyMatrix (C.is_type cx.now) (C.context cx.now)
+        (table_decides decisions.now) i e) }
+{
+    let rows = expanded_rows(alloc, &m.rows, i, m.columns[i].place)?;
+    let rows = in_order(alloc, decisions, rows)?;
+    Ok(Matrix {
+        columns: m.columns,
+        rows,
+    })
+}
+
+// The rows that are wild at the column, over the other columns.
+pub(crate) fn dropped<'a, C: PatCx>(
+    alloc: Global,
+    cx: &C,
+    decisions: &Decisions,
+    m: &Matrix<'a, C::Ty>,
+    i: usize,
+) -> Result<Matrix<'a, C::Ty>, NoMemory>
+    requires within { i < length m.now.columns.items }
+    requires ready { IsReadyMatrix (C.is_type cx.now) (C.context cx.now) (table_decides decisions.now) i m.now }
+    ensures dropped { IfOk result (λ e. IsDropped (table_decides decisions.now) i m.now e) }
+    ensures good { IfOk result (λ e. IsGoodMatrix (C.is_type cx.now) (C.context cx.now)
+        (table_decides decisions.now) e) }
+{
+    let rows = dropped_rows(alloc, &m.rows, i, m.columns[i].place)?;
+    let columns = dropped_columns(alloc, &m.columns, i)?;
+    Ok(Matrix { columns, rows })
+}
+
+// The rows of the piece, over the columns of its parts and the others.
+pub(crate) fn entered<'a, C: PatCx>(
+    alloc: Global,
+    arena: &'a Bump<Global>,
+    cx: &C,
+    decisions: &Decisions,
+    m: &Matrix<'a, C::Ty>,
+    i: usize,
+    piece: &Ctor,
+) -> Result<Matrix<'a, C::Ty>, NoMemory>
+    requires within { i < length m.now.columns.items }
+    requires ready { IsReadyMatrix (C.is_type cx.now) (C.context cx.now) (table_decides decisions.now) i m.now }
+    requires piece { IsPieceAt (C.context cx.now) i m.now (plain_ctor piece.now) }
+    ensures entered { IfOk result (λ e. IsEntered (C.context cx.now) (table_decides decisions.now) i
+        m.now (plain_ctor piece.now) e) }
+    ensures good { IfOk result (λ e. IsGoodMatrix (C.is_type cx.now) (C.context cx.now)
+        (table_decides decisions.now) e) }
+{
+    let column = &m.columns[i];
+    let count = count_parts(cx, piece, column.ty);
+    let rows = piece_rows(alloc, &m.rows, i, column.place, piece, count)?;
+    let columns = piece_columns(alloc, arena, cx, &m.columns, i, column, piece)?;
+    Ok(Matrix { columns, rows })
+}
