@@ -1,14 +1,18 @@
 -- The text of a report, from the texts of its entries.
 use Rattle.std.proofs.Common.{◌≡◌, ◌∙◌, sym, ap, refl, List, [], ◌∷◌, ◌++◌, ℕ, Bool, true, false, map, append_assoc, append-nil, codes, string_bytes}
-use Rattle.serde_json.specs.Data.{string}
+use Rattle.std.specs.Prelude.{Option, Some, None}
+use Rattle.serde_json.specs.Data.{string, array, Members, no_members, member}
 use Rattle.serde_json.specs.View.{items_of}
-use Rattle.serde_json.specs.Written.{compact_text, items_text, comma_if}
+use Rattle.serde_json.specs.Written.{compact_text, items_text, members_text, comma_if}
 use Rattle.serde_json.proofs.OnLiterals.{serde_json_on_literals}
 use Rattle.verdict_json.specs.declared.report.ReportText.{ReportText}
-use Rattle.verdict_json.specs.Report.{ReportEntry, unreachable_data, function_data, entry_data, report_data, report_text}
+use Rattle.verdict_json.specs.Report.{ReportEntry, unreachable_data, with_tree, function_data, entry_data, report_data, report_text}
 use Rattle.verdict_json.specs.Trees.{ReportTree}
 use Rattle.witness_text.specs.Reported.{witnesses_data}
-use Rattle.verdict_json.specs.Writing.{flag_word, listed, is_behind, HasEntries}
+use Rattle.witness_text.proofs.Adding.{two_added, five_added, six_added}
+use Rattle.tree_text.specs.Trees.{NodeTree}
+use Rattle.tree_text.specs.Reported.{tree_data}
+use Rattle.verdict_json.specs.Writing.{flag_word, shown_tree_text, listed, is_behind, HasEntries}
 
 -- the bracket closes the list
 closing : (later : Bool) (fs : List ReportEntry) → listed later fs ++ 93 ∷ [] ≡ items_text later (items_of (map entry_data fs))
@@ -65,39 +69,53 @@ grown fs f t u has later e = record {
   behind = later ∙ sym (behind_last fs f);
 }
 
--- a piece that was added stands before what is added later
-behind : (before after piece rest : List ℕ) → after ≡ before ++ piece → after ++ rest ≡ before ++ (piece ++ rest)
-behind before after piece rest e = ap (λ z. z ++ rest) e ∙ append_assoc before piece rest
+-- the key of a tree stands behind a comma, where there is one
+tree_written : (o : Option (List NodeTree)) (others : Members) →
+    members_text true (with_tree o others) ≡ shown_tree_text o ++ members_text true others
+unfolding serde_json_on_literals
+tree_written None others = refl
+tree_written (Some nodes) others = sym (append_assoc (codes ",\"tree\":") (compact_text (tree_data nodes)) (members_text true others))
+
+-- the members behind the tree
+abbrev last_members : ReportTree → Members
+last_members f =
+    member (codes "unreachable") (array (items_of (map unreachable_data f.unreachable)))
+    (member (codes "witnesses") (witnesses_data f.witnesses) no_members)
+
+-- what is reported of a function, with the key of its tree behind the first members
+begun_written : (f : ReportTree) →
+    codes "{\"exhaustive\":" ++ (flag_word f.exhaustive ++ (codes ",\"name\":" ++ (compact_text (string f.name) ++ (codes ",\"overlaps\":[]"
+    ++ members_text true (with_tree f.tree (last_members f))))))
+    ≡ compact_text (function_data f)
+unfolding serde_json_on_literals
+begun_written f = refl
+
+-- the members behind the tree, one after the other
+last_written : (f : ReportTree) →
+    codes ",\"unreachable\":[" ++ (items_text false (items_of (map unreachable_data f.unreachable)) ++ (codes ",\"witnesses\":"
+    ++ (compact_text (witnesses_data f.witnesses) ++ 125 ∷ [])))
+    ≡ members_text true (last_members f)
+unfolding serde_json_on_literals
+last_written f = refl
 
 -- the pieces of what is reported of a function, one after the other, make its text
-pub function_written : (f : ReportTree) (x0 x1 x2 x3 x4 x5 x6 x7 x8 x9 : List ℕ)
+pub function_written : (f : ReportTree) (x0 x1 x2 x3 x4 x5 x6 x7 x8 x9 x10 x11 : List ℕ)
     → x1 ≡ x0 ++ codes "{\"exhaustive\":"
     → x2 ≡ x1 ++ flag_word f.exhaustive
     → x3 ≡ x2 ++ codes ",\"name\":"
     → x4 ≡ x3 ++ compact_text (string f.name)
-    → x5 ≡ x4 ++ codes ",\"overlaps\":[],\"unreachable\":["
-    → x6 ≡ x5 ++ items_text false (items_of (map unreachable_data f.unreachable))
-    → x7 ≡ x6 ++ codes ",\"witnesses\":"
-    → x8 ≡ x7 ++ compact_text (witnesses_data f.witnesses)
-    → x9 ≡ x8 ++ 125 ∷ []
-    → x9 ≡ x0 ++ compact_text (function_data f)
-unfolding serde_json_on_literals
-function_written f x0 x1 x2 x3 x4 x5 x6 x7 x8 x9 e1 e2 e3 e4 e5 e6 e7 e8 e9 =
-    let p1 = codes "{\"exhaustive\":" in
-    let p2 = flag_word f.exhaustive in
-    let p3 = codes ",\"name\":" in
-    let p4 = compact_text (string f.name) in
-    let p5 = codes ",\"overlaps\":[],\"unreachable\":[" in
-    let p6 = items_text false (items_of (map unreachable_data f.unreachable)) in
-    let p7 = codes ",\"witnesses\":" in
-    let p8 = compact_text (witnesses_data f.witnesses) in
-    let p9 = 125 ∷ [] in
-    e9
-    ∙ behind x7 x8 p8 p9 e8
-    ∙ behind x6 x7 p7 (p8 ++ p9) e7
-    ∙ behind x5 x6 p6 (p7 ++ (p8 ++ p9)) e6
-    ∙ behind x4 x5 p5 (p6 ++ (p7 ++ (p8 ++ p9))) e5
-    ∙ behind x3 x4 p4 (p5 ++ (p6 ++ (p7 ++ (p8 ++ p9)))) e4
-    ∙ behind x2 x3 p3 (p4 ++ (p5 ++ (p6 ++ (p7 ++ (p8 ++ p9))))) e3
-    ∙ behind x1 x2 p2 (p3 ++ (p4 ++ (p5 ++ (p6 ++ (p7 ++ (p8 ++ p9)))))) e2
-    ∙ behind x0 x1 p1 (p2 ++ (p3 ++ (p4 ++ (p5 ++ (p6 ++ (p7 ++ (p8 ++ p9))))))) e1
+    → x5 ≡ x4 ++ codes ",\"overlaps\":[]"
+    → x6 ≡ x5 ++ shown_tree_text f.tree
+    → x7 ≡ x6 ++ codes ",\"unreachable\":["
+    → x8 ≡ x7 ++ items_text false (items_of (map unreachable_data f.unreachable))
+    → x9 ≡ x8 ++ codes ",\"witnesses\":"
+    → x10 ≡ x9 ++ compact_text (witnesses_data f.witnesses)
+    → x11 ≡ x10 ++ 125 ∷ []
+    → x11 ≡ x0 ++ compact_text (function_data f)
+function_written f x0 x1 x2 x3 x4 x5 x6 x7 x8 x9 x10 x11 e1 e2 e3 e4 e5 e6 e7 e8 e9 e10 e11 =
+    let tree = shown_tree_text f.tree in
+    let last : x11 ≡ x6 ++ members_text true (last_members f) =
+    five_added x6 x7 x8 x9 x10 x11 _ _ _ _ _ e7 e8 e9 e10 e11 ∙ ap (λ z. x6 ++ z) (last_written f) in
+    let behind : x11 ≡ x5 ++ members_text true (with_tree f.tree (last_members f)) =
+    two_added x5 x6 x11 tree (members_text true (last_members f)) e6 last ∙ ap (λ z. x5 ++ z) (sym (tree_written f.tree (last_members f))) in
+    six_added x0 x1 x2 x3 x4 x5 x11 _ _ _ _ _ _ e1 e2 e3 e4 e5 behind ∙ ap (λ z. x0 ++ z) (begun_written f)

@@ -1,8 +1,10 @@
 -- The report on functions as JSON.
-use Rattle.std.specs.Prelude.{ℕ, List, [], ◌∷◌, ◌++◌, map, codes}
-use Rattle.serde_json.specs.Data.{Data, boolean, number, unsigned, string, array, object, no_items, no_members, member}
+use Rattle.std.specs.Prelude.{ℕ, List, [], ◌∷◌, ◌++◌, map, Option, Some, None, codes}
+use Rattle.serde_json.specs.Data.{Data, boolean, number, unsigned, string, array, object, no_items, Members, no_members, member}
 use Rattle.serde_json.specs.View.{items_of}
 use Rattle.serde_json.specs.Written.{compact_text}
+use Rattle.tree_text.specs.Trees.{NodeTree}
+use Rattle.tree_text.specs.Reported.{tree_data}
 use Rattle.verdict_json.specs.declared.entry.Unreachable.{Unreachable}
 use Rattle.verdict_json.specs.declared.refusal.Refusal.{Refusal}
 use Rattle.verdict_json.specs.Refused.{name_or_empty, refusal_data}
@@ -17,14 +19,20 @@ unreachable_data u =
     (member (codes "at") (number (unsigned u.at))
     (member (codes "whole") (boolean u.whole) no_members)))
 
+-- the key of a decision tree in front of the others, where it is shown
+abbrev pub with_tree : Option (List NodeTree) → Members → Members
+with_tree None others = others
+with_tree (Some nodes) others = member (codes "tree") (tree_data nodes) others
+
 -- what is reported of one function
 abbrev pub function_data : ReportTree → Data
 function_data f =
     object (member (codes "exhaustive") (boolean f.exhaustive)
     (member (codes "name") (string f.name)
     (member (codes "overlaps") (array no_items)
+    (with_tree f.tree
     (member (codes "unreachable") (array (items_of (map unreachable_data f.unreachable)))
-    (member (codes "witnesses") (witnesses_data f.witnesses) no_members)))))
+    (member (codes "witnesses") (witnesses_data f.witnesses) no_members))))))
 
 -- the refusal of the function of this name
 abbrev pub refused_data : List ℕ → Refusal → Data

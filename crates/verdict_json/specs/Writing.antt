@@ -1,6 +1,8 @@
 -- A report to which functions are still added.
-use Rattle.std.specs.Prelude.{◌≡◌, ℕ, List, [], ◌∷◌, ◌++◌, Bool, true, false, codes, string_bytes}
+use Rattle.std.specs.Prelude.{◌≡◌, ℕ, List, [], ◌∷◌, ◌++◌, Bool, true, false, Option, Some, None, codes, string_bytes}
 use Rattle.serde_json.specs.Written.{comma_if, compact_text}
+use Rattle.tree_text.specs.Trees.{NodeTree}
+use Rattle.tree_text.specs.Reported.{tree_data}
 use Rattle.verdict_json.specs.declared.report.ReportText.{ReportText}
 use Rattle.verdict_json.specs.Report.{ReportEntry, entry_data}
 
@@ -8,6 +10,11 @@ use Rattle.verdict_json.specs.Report.{ReportEntry, entry_data}
 abbrev pub flag_word : Bool → List ℕ
 flag_word true = codes "true"
 flag_word false = codes "false"
+
+-- the key of a decision tree with the comma in front, where it is shown
+abbrev pub shown_tree_text : Option (List NodeTree) → List ℕ
+shown_tree_text None = []
+shown_tree_text (Some nodes) = codes ",\"tree\":" ++ compact_text (tree_data nodes)
 
 -- the texts of the entries with commas between them, and one in front where something stands before
 abbrev pub listed : Bool → List ReportEntry → List ℕ

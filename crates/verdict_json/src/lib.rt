@@ -3,7 +3,8 @@
 //! A report has an entry for each function: what is reported of it, or its refusal. It is written entry by entry into
 //! one text, so that no entry but the one that is being written lies in memory as a whole. Each text is the text that
 //! `serde_json` gives for the value that `specs/Report.antt` states, byte for byte: `report_text` for the entries that
-//! were added, in their order, and `refusal_text` for a refusal that stands alone. Witnesses are written by `witness_text`.
+//! were added, in their order, and `refusal_text` for a refusal that stands alone. Witnesses are written by `witness_text`,
+//! decision trees by `tree_text`.
 #![tactic(auto)]
 
 mod entry;

@@ -1,20 +1,20 @@
 // The report, function by function.
-ghost use Rattle.std.specs.Prelude.{◌≡◌, ◌++◌, ◌∷◌, [], List, map, false, IfOk, OnOk, codes, string_bytes};
-ghost use Rattle.serde_json.specs.Data.{string};
-ghost use Rattle.serde_json.specs.Written.{compact_text, items_text, comma_if};
+ghost use Rattle.std.specs.Prelude.{◌≡◌, ◌++◌, ◌∷◌, [], List, map, false, IfOk, OnOk, option_map, string_bytes};
+ghost use Rattle.serde_json.specs.Written.{compact_text, items_text};
 ghost use Rattle.serde_json.specs.View.{items_of};
+ghost use Rattle.tree_text.specs.Trees.{node_view};
 ghost use Rattle.verdict_json.specs.Report.{ReportEntry, JudgedFunction, RefusedFunction, report_text};
 ghost use Rattle.verdict_json.specs.Report.{function_data, unreachable_data};
 ghost use Rattle.verdict_json.specs.Rules.{IsRule};
 ghost use Rattle.verdict_json.specs.Trees.{report_view};
-ghost use Rattle.verdict_json.specs.Writing.{HasEntries, flag_word};
+ghost use Rattle.verdict_json.specs.Writing.{HasEntries, flag_word, shown_tree_text};
 
 use crate::entry::{Unreachable, unreachable_entry};
 use crate::refusal::{Refusal, refused_entry};
 use no_memory::NoMemory;
-use serde_json::json;
 use std::alloc::{AllocError, Global};
-use witness_text::{NamedWitness, push_witnesses};
+use tree_text::{NamedNode, push_tree};
+use witness_text::{NamedWitness, push_comma, push_quoted, push_witnesses};
 
 /// What is reported of a function.
 #[derive(Debug, Drop)]
@@ -25,6 +25,8 @@ pub struct FnReport<'a> {
     pub exhaustive: bool,
     /// The arms and alternatives that no value comes to, in reading order.
     pub unreachable: Vec<Unreachable>,
+    /// The nodes of its decision tree, where it is shown; the root is the first.
+    pub tree: Option<Vec<NamedNode<'a>>>,
     /// What is missing: disjoint, in constructor order.
     pub witnesses: Vec<NamedWitness<'a>>,
 }
@@ -35,24 +37,6 @@ pub struct ReportText {
     text: String,
     later: bool,
     alloc: Global,
-}
-
-// Adds a comma where something stands before.
-fn push_comma(text: &mut String, later: bool) -> Result<(), AllocError>
-    ensures { OnOk result (string_bytes text.new ≡ string_bytes text.old ++ comma_if later) }
-{
-    if !later {
-        return Ok(());
-    }
-    text.push(',')
-}
-
-// Adds the name of a function as JSON.
-fn push_quoted(alloc: Global, text: &mut String, name: &str) -> Result<(), AllocError>
-    ensures { OnOk result (string_bytes text.new ≡ string_bytes text.old ++ compact_text (string name.now)) }
-{
-    let quoted = json!(in alloc; name)?.to_string(alloc)?;
-    text.push_str(quoted.as_str())
 }
 
 // Adds the entries of the unreachable list, with commas between them, and the bracket that closes them.
@@ -76,6 +60,25 @@ fn push_unreachable(
     Ok(())
 }
 
+// Adds the key of the decision tree, where it is shown.
+fn push_shown_tree(
+    alloc: Global,
+    text: &mut String,
+    tree: &Option<Vec<NamedNode<'_>>>,
+) -> Result<(), NoMemory>
+    ensures { OnOk result (string_bytes text.new ≡ string_bytes text.old
+        ++ shown_tree_text (option_map (λ nodes. map node_view nodes.items) tree.now)) }
+{
+    match tree {
+        None => Ok(()),
+        Some(nodes) => {
+            text.push_str(",\"tree\":")?;
+            push_tree(alloc, text, nodes)?;
+            Ok(())
+        }
+    }
+}
+
 fn flag_word(flag: bool) -> &'static str
     ensures { result.now ≡ flag_word flag }
 {
@@ -90,7 +93,9 @@ fn push_function(alloc: Global, text: &mut String, report: &FnReport<'_>) -> Res
     text.push_str(flag_word(report.exhaustive))?;
     text.push_str(",\"name\":")?;
     push_quoted(alloc, text, report.name)?;
-    text.push_str(",\"overlaps\":[],\"unreachable\":[")?;
+    text.push_str(",\"overlaps\":[]")?;
+    push_shown_tree(alloc, text, &report.tree)?;
+    text.push_str(",\"unreachable\":[")?;
     push_unreachable(alloc, text, &report.unreachable)?;
     text.push_str(",\"witnesses\":")?;
     push_witnesses(alloc, text, &report.witnesses)?;

@@ -37,6 +37,7 @@ fn with_refused(alloc: Global) -> Result<Vec<u8>, Fail> {
         name: "g",
         exhaustive: true,
         unreachable: Vec::new(alloc),
+        tree: None,
         witnesses: Vec::new(alloc),
     };
     let no_reference = Refusal {
@@ -57,6 +58,7 @@ fn three(alloc: Global) -> Result<Vec<u8>, Fail> {
         name: "f",
         exhaustive: true,
         unreachable: Vec::new(alloc),
+        tree: None,
         witnesses: Vec::new(alloc),
     };
     first.unreachable.push(Unreachable {
@@ -73,6 +75,7 @@ fn three(alloc: Global) -> Result<Vec<u8>, Fail> {
         name: "g",
         exhaustive: false,
         unreachable: Vec::new(alloc),
+        tree: None,
         witnesses: Vec::new(alloc),
     };
     second.witnesses.push(NamedWitness::UnitForm(FormName::Variant {
@@ -84,6 +87,7 @@ fn three(alloc: Global) -> Result<Vec<u8>, Fail> {
         name: "h",
         exhaustive: false,
         unreachable: Vec::new(alloc),
+        tree: None,
         witnesses: Vec::new(alloc),
     };
     third.witnesses.push(NamedWitness::Any)?;

@@ -1,3 +1,6 @@
 pub mod FormLemmas
+pub mod Entered
+pub mod NamedCases
 pub mod PartLists
 mod Examples
+mod ExamplesTrees

@@ -1,7 +1,10 @@
 -- What the code looks up of a type: how its variants are written, with their names, and what it is made of.
-use Rattle.std.specs.Prelude.{◌≡◌, ℕ, Bool, true, false, List, [], Option, Some, None, option_map, slice_get}
-use Rattle.match_model.specs.Types.{DeclaredItem, MType, TupleType, PointType, NamedType, no_types}
+use Rattle.std.specs.Prelude.{◌≡◌, ℕ, Bool, true, false, List, [], Option, Some, None, option_map, nat_lt, slice_get}
+use Rattle.match_model.specs.Types.{DeclaredItem, MType, TupleType, PointType, SliceType, ArrayType, NamedType, no_types}
 use Rattle.match_model.specs.Declarations.{MField, MForm, UnitForm, TupleForm, BraceForm, MVariant, StructItem, MProgram, node_types}
+use Rattle.match_model.specs.OfType.{entered, type_entered}
+use Rattle.match_model.specs.Places.{MStep}
+use Rattle.match_model.specs.RustTypes.{rust_context, rust_set}
 use Rattle.match_model.specs.Witness.{MWitness, RowOf, MWitnesses, no_witnesses}
 use Rattle.type_names.specs.declared.meanings.FormKind.{FormKind}
 use Rattle.type_names.specs.declared.meanings.FormKind.TheVariants as kinds
@@ -29,6 +32,10 @@ form_there program t k = option_map (form_told program t) (type_variant program 
 -- the name of the type's variant with this number, if there is one
 abbrev pub name_there : MProgram → MType → (variant : ℕ) → Option NameTree
 name_there program t k = option_map (λ v. form_name program t v.name) (type_variant program t k)
+
+-- the type of what a step from a place of the type enters, if it enters a part that the type has
+abbrev pub behind_step : MProgram → MType → MStep → Option MType
+behind_step program t s = type_entered (rust_context program) t (entered (rust_set program t) s)
 
 -- the fields of a brace form; another form has none with names
 abbrev pub fields_of_form : MForm → List MField
@@ -61,6 +68,12 @@ IsDeclaredStruct program t =
 abbrev pub is_tuple : MType → Bool
 is_tuple (TupleType types) = true
 is_tuple _ = false
+
+-- the type of the items of a slice, or of an array that has an item behind so many
+abbrev pub item_behind : MType → (others : ℕ) → Option MType
+item_behind (SliceType t) i = Some t
+item_behind (ArrayType t n) i = elim (nat_lt i n) [ true ↦ Some t | false ↦ None ]
+item_behind _ i = None
 
 -- the mutability of a reference, and the type behind it
 abbrev pub pointed : MType → Option (Bool × MType)

@@ -32,6 +32,19 @@ pub(crate) fn form_of<'t>(
     }
 }
 
+// The name of the type's variant with this number, counted from 0, if there is one; a struct has the variant 0.
+pub(crate) fn name_of<'t>(table: &'t TypeTable, ty: TyId, variant: u32) -> Option<FormName<'t>>
+    requires of { IsOf table.now ty }
+    requires file { IsOfFile table.now }
+    ensures { option_map name_view result
+        ≡ name_there (table_program table.now) (table_type table.now ty) variant }
+{
+    match form_of(table, ty, variant) {
+        Some((_, name)) => Some(name),
+        None => None,
+    }
+}
+
 // The form of a struct, whose variant is 0.
 fn struct_form<'t>(table: &'t TypeTable, ty: TyId, variant: u32) -> Option<(FormKind, FormName<'t>)>
     requires of { IsOf table.now ty }

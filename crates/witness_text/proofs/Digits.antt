@@ -21,7 +21,7 @@ plain_onto (suc k) n rest e =
     ap (λ z. z ++ escape rest) (plain_glyph d (omega arith)) ∙ ap (λ z. digit_glyph false d ∷ z) e in
     either (n / 10 == 0) _ _ g (plain_onto k (n / 10) _ g)
 
-plain_decimal : (n : ℕ) → escape (decimal n) ≡ decimal n
+pub plain_decimal : (n : ℕ) → escape (decimal n) ≡ decimal n
 unfolding digits
 plain_decimal n = plain_onto 64 n [] refl
 

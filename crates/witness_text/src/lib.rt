@@ -21,4 +21,7 @@ mod tests;
 mod tree;
 
 pub use named::{FormName, NamedField, NamedWitness};
+pub use names::form_name;
+pub use quoting::{push_comma, push_quoted};
 pub use report::{push_overlap, push_witness, push_witnesses};
+pub use tree::{push_flag, push_one_text, push_range};

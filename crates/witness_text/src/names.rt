@@ -30,7 +30,7 @@ pub fn push_form_name(text: &mut String, name: &FormName<'_>) -> Result<(), Allo
     }
 }
 
-// The text of a name.
+/// The text of a name; one that is a keyword has `r#`. The only error is want of memory.
 pub fn form_name(alloc: Global, name: &FormName<'_>) -> Result<String, AllocError>
     ensures { IfOk result (λ s. string_bytes s ≡ name_text (name_view name.now)) }
 {

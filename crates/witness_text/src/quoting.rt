@@ -6,7 +6,7 @@ ghost use Rattle.serde_json.specs.Written.{compact_text, comma_if};
 use serde_json::json;
 use std::alloc::{AllocError, Global};
 
-// Adds a comma where something stands before.
+/// Adds a comma where something stands before. The only error is want of memory.
 pub fn push_comma(text: &mut String, later: bool) -> Result<(), AllocError>
     ensures { OnOk result (string_bytes text.new ≡ string_bytes text.old ++ comma_if later) }
 {
@@ -16,7 +16,7 @@ pub fn push_comma(text: &mut String, later: bool) -> Result<(), AllocError>
     text.push(',')
 }
 
-// Adds a text as a JSON string.
+/// Adds a text as a JSON string. The only error is want of memory.
 pub fn push_quoted(alloc: Global, text: &mut String, shown: &str) -> Result<(), AllocError>
     ensures { OnOk result (string_bytes text.new ≡ string_bytes text.old ++ compact_text (string shown.now)) }
 {

@@ -62,8 +62,9 @@ fn push_char_end(text: &mut String, end: Option<char>) -> Result<(), AllocError>
     }
 }
 
-// Adds a range of numbers.
-fn push_range(text: &mut String, range: &Range) -> Result<(), AllocError>
+/// Adds a range of numbers as JSON, its ends as strings of decimal digits; a free end is `null`. The only error is want of
+/// memory; the text may then end within the range.
+pub fn push_range(text: &mut String, range: &Range) -> Result<(), AllocError>
     ensures { OnOk result (string_bytes text.new ≡ string_bytes text.old
         ++ compact_text (range_data (end_data (plain_end range.now.low)) (end_data (plain_end range.now.high)))) }
 {
@@ -110,8 +111,8 @@ fn push_later(text: &mut String) -> Result<(), AllocError>
     Ok(())
 }
 
-// Adds a flag.
-fn push_flag(text: &mut String, flag: bool) -> Result<(), AllocError>
+/// Adds a flag as JSON. The only error is want of memory; the text may then end within the flag.
+pub fn push_flag(text: &mut String, flag: bool) -> Result<(), AllocError>
     ensures { OnOk result (string_bytes text.new ≡ string_bytes text.old
         ++ compact_text (flag_data flag)) }
 {
@@ -129,8 +130,8 @@ fn push_text(alloc: Global, text: &mut String, shown: &str) -> Result<(), AllocE
     push_quoted(alloc, text, shown)
 }
 
-// Adds the one text.
-fn push_one_text(alloc: Global, text: &mut String, shown: &str) -> Result<(), AllocError>
+/// Adds the one text as JSON. The only error is want of memory; the text may then end within it.
+pub fn push_one_text(alloc: Global, text: &mut String, shown: &str) -> Result<(), AllocError>
     ensures { OnOk result (string_bytes text.new ≡ string_bytes text.old
         ++ compact_text (one_text_data (chars shown.now))) }
 {

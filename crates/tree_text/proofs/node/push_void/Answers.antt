@@ -1,0 +1,6 @@
+use Rattle.serde_json.proofs.OnLiterals.{serde_json_on_literals}
+use Rattle.tree_text.proofs.node.push_void.Goals as goal
+
+pub returns : goal.returns
+unfolding serde_json_on_literals
+returns c = c.in_ok-push_str.ensures.bytes
