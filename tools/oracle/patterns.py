@@ -35,6 +35,17 @@ class Head:
 
 
 @dataclass
+class Naming:
+    """A pattern that binds a name to its whole part, or to its middle items, without so many at each end. Only patterns that
+    are asked for with their names have it."""
+
+    name: str
+    mode: str
+    middle: tuple
+    pattern: object
+
+
+@dataclass
 class CheckedArm:
     """`offsets` has the offset of each alternative of the arm in reading order, `parents` the alternative around."""
 
@@ -71,8 +82,9 @@ def behind(points, pattern):
 class ArmChecker:
     """Checks the nodes of an arm in reading order. `alternatives_of` has what each or-pattern's alternatives bind."""
 
-    def __init__(self, declarations):
+    def __init__(self, declarations, names):
         self.declarations = declarations
+        self.names = names
         self.bound = []
         self.alternatives_of = []
         self.offsets = []
@@ -155,7 +167,8 @@ class ArmChecker:
         self.refuse(node, rules)
         bound_mode = ("ref mut" if node.mutable else "ref") if node.by_ref else mode
         self.bound.append((node.name, ty, bound_mode, list(self.around)))
-        return self.visit(node.inner, ty, mode) if node.inner else ANY
+        found = self.visit(node.inner, ty, mode) if node.inner else ANY
+        return Naming(node.name, bound_mode, None, found) if self.names else found
 
     def is_bound(self, name):
         """Whether a name was bound before, and no or-pattern holds the two in different alternatives."""
@@ -257,16 +270,20 @@ class ArmChecker:
         if ty[0] == "array" or len(rest) > 1:
             self.counts(node.items, ty[2] if ty[0] == "array" else None, rules)
         self.refuse(node, rules)
-        parts, others = [], len(node.items) - 1
+        parts, others, named = [], len(node.items) - 1, None
         for item in node.items:
             if s.is_rest(item):
                 if isinstance(item, s.Named):
-                    self.named(item, ("slice", ty[1]) if ty[0] == "slice" else ("array", ty[1], ty[2] - others), mode)
+                    middle = ("slice", ty[1]) if ty[0] == "slice" else ("array", ty[1], ty[2] - others)
+                    named = self.named(item, middle, mode)
             else:
                 parts.append(self.visit(item, ty[1], mode, True))
         if not rest:
             return Head(("fixed", len(parts)), parts)
-        return Head(("longer", rest[0], len(parts) - rest[0]), parts)
+        found = Head(("longer", rest[0], len(parts) - rest[0]), parts)
+        if isinstance(named, Naming):
+            return Naming(named.name, named.mode, (rest[0], len(parts) - rest[0]), found)
+        return found
 
     # Literals and ranges.
     @staticmethod
@@ -326,8 +343,9 @@ class ArmChecker:
         return low, 0xD7FF if ty == ("char",) and before == 0xDFFF else before
 
 
-def check_match(declarations, number):
-    """The match of a function without faults; its first fault is raised."""
+def check_match(declarations, number, names=False):
+    """The match of a function without faults, with the names of its patterns where they are asked for; its first fault is
+    raised."""
     function = declarations.items[number].kind
     ty = declarations.type_of(function.parameter)
     if function.star is not None:
@@ -336,7 +354,7 @@ def check_match(declarations, number):
         ty = ty[2]
     arms, differing = [], None
     for place, arm in enumerate(function.arms):
-        checker = ArmChecker(declarations)
+        checker = ArmChecker(declarations, names)
         try:
             checked = checker.visit(arm.pattern, ty, "move")
         except Fault as fault:

@@ -1,4 +1,4 @@
-"""The bytes that `check FILE` writes."""
+"""The bytes that `check FILE` and `trees FILE` write."""
 import json
 
 from declarations import Declarations
@@ -6,6 +6,7 @@ from enumerating import cross_check
 from fault import Fault
 from judging import Judge
 from lexing import KEYWORDS, lex
+from lowering import Lowering, numbered
 from parsing import parse
 from patterns import check_match
 import syntax as s
@@ -119,7 +120,7 @@ class WitnessWriter:
         return one(low) + "..=" + one(high)
 
 
-def entry(declarations, number, twice):
+def entry(declarations, number, twice, trees):
     """The entry of a function in the report."""
     name = declarations.items[number].kind.name
     try:
@@ -132,17 +133,20 @@ def entry(declarations, number, twice):
     if twice is not None:
         twice.append(cross_check(declarations, number, match, witnesses, unreachable))
     writer = WitnessWriter(declarations)
-    return {
+    found = {
         "exhaustive": not witnesses,
         "name": name,
         "overlaps": [],
         "unreachable": [{"arm": arm, "at": at, "whole": whole} for arm, at, whole in unreachable],
         "witnesses": [{"text": writer.text(match.type, it), "tree": writer.tree(match.type, it)} for it in witnesses],
     }
+    if trees:
+        found["tree"] = numbered(Lowering(declarations, check_match(declarations, number, True), writer).tree())
+    return found
 
 
-def check(data, twice=None):
-    """What `check` writes for a file of these bytes, and its status.
+def check(data, twice=None, trees=False):
+    """What `check` writes for a file of these bytes, and its status; with `trees` what `trees` writes.
 
     Where `twice` is a list, each judgement is made a second way too, and the list gets whether there were few enough
     values for it.
@@ -158,7 +162,7 @@ def check(data, twice=None):
     except Fault as fault:
         return output({"refused": fault.tree()}), REFUSED
     functions = [number for number, item in enumerate(items) if isinstance(item.kind, s.Function)]
-    entries = [entry(declarations, number, twice) for number in functions]
+    entries = [entry(declarations, number, twice, trees) for number in functions]
     status = CLEAN if all(it.get("exhaustive") for it in entries) else FOUND
     return output({"functions": entries}), status
 
