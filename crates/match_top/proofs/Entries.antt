@@ -13,6 +13,7 @@ use Rattle.verdict_json.specs.declared.refusal.Refusal.{Refusal}
 use Rattle.verdict_json.specs.Report.{ReportEntry, RefusedFunction}
 use Rattle.verdict_json.specs.Writing.{HasEntries}
 use Rattle.match_top.specs.declared.reporting.Progress.{Progress}
+use Rattle.match_top.specs.declared.words.Command.{Command}
 use Rattle.match_top.specs.Reports.{NumberedFunction, functions_from, functions_of, function_at, IsEntry, is_clean}
 use Rattle.match_top.specs.Reporting.{ReportsOn}
 
@@ -35,11 +36,12 @@ all_push p [] x = and_true (p x)
 all_push p (y ∷ ys) x = ap (λ b. p y && b) (all_push p ys x) ∙ sym (and_assoc (p y) (list_all p ys) (p x))
 
 -- one entry more
-pub one_more : (items : List ItemTree) (fs : List NumberedFunction) (f : NumberedFunction) (e : ReportEntry) (old new : Progress) → (h : ReportsOn items fs old) → IsEntry items f e
-    → HasEntries (h.entries ++ e ∷ []) new.text → new.clean ≡ (old.clean && is_clean e) → ReportsOn items (fs ++ f ∷ []) new
-one_more items fs f e old new h is text clean = record {
+pub one_more : (command : Command) (items : List ItemTree) (fs : List NumberedFunction) (f : NumberedFunction) (e : ReportEntry) (old new : Progress)
+    → (h : ReportsOn command items fs old) → IsEntry command items f e
+    → HasEntries (h.entries ++ e ∷ []) new.text → new.clean ≡ (old.clean && is_clean e) → ReportsOn command items (fs ++ f ∷ []) new
+one_more command items fs f e old new h is text clean = record {
   entries = h.entries ++ e ∷ [];
-  each = zip_push (IsEntry items) fs h.entries f e h.each is;
+  each = zip_push (IsEntry command items) fs h.entries f e h.each is;
   text = text;
   clean_is = clean ∙ ap (λ b. b && is_clean e) h.clean_is ∙ sym (all_push is_clean h.entries e);
 }
@@ -85,9 +87,9 @@ functions_more items i x lt is =
     zero_plus n = omega arith
 
 -- the entries of a front that is one item longer
-pub reports_more : (all : List ItemTree) (items : List Item) (i : ℕ) (x : Item) (p : Progress) → i < length items → x ≡ get_or items i x
-    → ReportsOn all (functions_of (map item_view (take i items)) ++ function_at i (kind_view x.kind)) p → ReportsOn all (functions_of (map item_view (take (i + 1) items))) p
-reports_more all items i x p lt is h = subst (λ fs. ReportsOn all fs p) (sym (functions_more items i x lt is)) h
+pub reports_more : (command : Command) (all : List ItemTree) (items : List Item) (i : ℕ) (x : Item) (p : Progress) → i < length items → x ≡ get_or items i x
+    → ReportsOn command all (functions_of (map item_view (take i items)) ++ function_at i (kind_view x.kind)) p → ReportsOn command all (functions_of (map item_view (take (i + 1) items))) p
+reports_more command all items i x p lt is h = subst (λ fs. ReportsOn command all fs p) (sym (functions_more items i x lt is)) h
 
 -- the item of a file at this number
 pub there_at : (items : List Item) (i : ℕ) (x : Item) → i < length items → x ≡ get_or items i x → slice_get (map item_view items) i ≡ Some (item_view x)

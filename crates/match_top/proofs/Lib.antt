@@ -7,3 +7,4 @@ pub mod Matches
 pub mod OneAnswer
 pub mod RuleNames
 pub mod SomeReport
+pub mod WithoutTrees

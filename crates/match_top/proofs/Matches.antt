@@ -1,6 +1,7 @@
 -- The match of a function as the engine has it, and what is found of it.
-use Rattle.std.proofs.Common.{◌≡◌, ◌∙◌, ℕ, ◌<◌, List, [], ◌∷◌, map, length, Result, Ok, Err, IfOk, refl, sym, ap, subst}
+use Rattle.std.proofs.Common.{◌≡◌, ◌∙◌, ℕ, ◌<◌, List, [], ◌∷◌, map, length, Result, Ok, Err, IfOk, Option, Some, None, refl, sym, ap, subst}
 use Rattle.std.specs.List.{Contains}
+use Rattle.std.specs.Prelude.{option_map}
 use Rattle.std.proofs.lemmas.List.{length-map}
 use Rattle.decl_syntax.specs.Functions.{FunctionTree}
 use Rattle.decl_syntax.specs.Items.{ArmTree}
@@ -8,6 +9,8 @@ use Rattle.match_model.specs.ArenaPatterns.{MDeArm, MDeMatch, MDePat, type_of}
 use Rattle.match_model.specs.Declarations.{MProgram}
 use Rattle.match_model.specs.Lists.{Every}
 use Rattle.match_model.specs.Made.{AreArmsMade}
+use Rattle.match_model.specs.MatchTree.{IsMatchTree}
+use Rattle.match_model.specs.Trees.{MNode}
 use Rattle.match_model.specs.Types.{MType}
 use Rattle.match_model.specs.Unreachable.{Entry}
 use Rattle.pattern_arena.specs.declared.matches.CheckedMatch.{CheckedMatch}
@@ -17,25 +20,32 @@ use Rattle.pattern_laws.proofs.ParsedSound.{every_of}
 use Rattle.pattern_laws.specs.JudgedLaws.{by_offset}
 use Rattle.pattern_laws.specs.ParsedLaws.{ParsedArmsAreSound}
 use Rattle.pattern_laws.specs.TableLaws.{JudgedTableMatch}
+use Rattle.pattern_laws.specs.TreeLaws.{TreeOfTableMatch}
 use Rattle.pattern_matrix.specs.SearchLaws.{IsJudged}
 use Rattle.pattern_rules.specs.ArenaForms.{all_within}
 use Rattle.pattern_rules.specs.Faults.{scrutinee_type}
 use Rattle.pattern_rules.specs.Settings.{program}
 use Rattle.pattern_rules.specs.ShownMatches.{IsSoundArm, IsShownMatch}
+use Rattle.tree_eval.specs.Nodes.{tree_nodes}
+use Rattle.tree_eval.specs.declared.tree.Tree.{Tree}
+use Rattle.tree_text.specs.Trees.{NodeTree}
 use Rattle.type_table.specs.TableContext.{TableValue, table_context}
 use Rattle.type_table.specs.Tables.{IsOf, table_program, table_type}
 use Rattle.type_table.specs.declared.table.TyId.{TyId}
 use Rattle.verdict_json.specs.Report.{ReportEntry, JudgedFunction}
 use Rattle.verdict_json.specs.declared.entry.Unreachable.{Unreachable}
 use Rattle.witness_names.specs.Named.{named_witness}
+use Rattle.witness_names.specs.NamedTrees.{named_node}
 use Rattle.witness_search.specs.Entries.{plain_entries}
 use Rattle.witness_text.specs.Trees.{WitnessTree}
 use Rattle.witnesses.specs.Views.{plain_witness}
 use Rattle.witnesses.specs.declared.judgement.Judgement.{Judgement}
 use Rattle.witnesses.specs.declared.witness.Witness.{Witness}
 use Rattle.match_top.specs.declared.source.Source.{Source}
-use Rattle.match_top.specs.Reports.{numbered, shown_entry, IsEntry, is_judged}
-use Rattle.match_top.specs.Reporting.{items_in, setting_in, IsFineFunction, IsMatchOf, IsVerdictFor}
+use Rattle.match_top.specs.declared.words.Command.{Command}
+use Rattle.match_top.specs.declared.words.Command.TheVariants.{Check, Trees}
+use Rattle.match_top.specs.Reports.{numbered, shown_entry, named_tree, IsShownTree, IsEntry, is_judged}
+use Rattle.match_top.specs.Reporting.{items_in, setting_in, IsFineFunction, IsMatchOf, IsVerdictFor, IsTreeFor}
 use Rattle.match_top.proofs.Entries.{contains_at}
 
 -- each arm of a function that breaks no rule is sound
@@ -83,12 +93,40 @@ named_each : (p : MProgram) (t : MType) (ws : List Witness) → map (λ (w : Wit
 named_each p t [] = refl
 named_each p t (w ∷ ws) = ap (λ (us : List WitnessTree). named_witness p t (plain_witness w) ∷ us) (named_each p t ws)
 
+-- the tree of the match is that of the function
+pub tree_for : {E : Type 0} → TreeOfTableMatch → (x : Source) (f : FunctionTree) (m : MDeMatch TyId) (r : Result Tree E) → IsMatchOf x f m
+    → IfOk r (λ t. IsMatchTree (table_context x.table.now) (TableValue x.table.now) m (tree_nodes t))
+    → IfOk r (λ t. IsTreeFor Trees x f (Some t))
+tree_for law x f m (Ok t) h lowered = (t, refl, law x.table.now (setting_in x) f m (tree_nodes t) h lowered)
+tree_for law x f m (Err e) h lowered = tt
+
+-- the names of the nodes of a tree, if there is one, over the types of the table
+abbrev pub table_named : Source → TyId → Option Tree → Option (List NodeTree)
+table_named x ty tree =
+    option_map (λ t. map (named_node (table_program x.table.now) (table_type x.table.now ty)) (tree_nodes t)) tree
+
+-- what was made of the function's tree is shown of it
+shown_tree : (command : Command) (x : Source) (f : FunctionTree) (m : MDeMatch TyId) (made : Option Tree) (tree : Option (List NodeTree))
+    → table_program x.table.now ≡ program (setting_in x) → table_type x.table.now m.type ≡ scrutinee_type (setting_in x) f
+    → IsTreeFor command x f made → tree ≡ table_named x m.type made → IsShownTree command (setting_in x) f tree
+shown_tree Check x f m made tree program_is type_is is named = named ∙ ap (table_named x m.type) is
+shown_tree Trees x f m made tree program_is type_is is named = (
+  tree_nodes is.0,
+  is.2,
+  named ∙ ap (table_named x m.type) is.1
+      ∙ ap (λ (p : MProgram). Some (map (named_node p (table_type x.table.now m.type)) (tree_nodes is.0))) program_is
+      ∙ ap (λ (t : MType). Some (map (named_node (program (setting_in x)) t) (tree_nodes is.0))) type_is,
+)
+
 -- a report on a function that shows what was found of it is its entry
-pub judged_entry : (x : Source) (number : ℕ) (f : FunctionTree) (m : MDeMatch TyId) (j : Judgement) (name : List ℕ) (us : List Unreachable) (vs : List WitnessTree)
-    → IsFineFunction x number f → IsMatchOf x f m → IsVerdictFor x f j → name ≡ f.name → us ≡ map shown_entry (plain_entries j.unreachable.items)
+pub judged_entry : (command : Command) (x : Source) (number : ℕ) (f : FunctionTree) (m : MDeMatch TyId) (j : Judgement) (made : Option Tree)
+    (name : List ℕ) (tree : Option (List NodeTree)) (us : List Unreachable) (vs : List WitnessTree)
+    → IsFineFunction x number f → IsMatchOf x f m → IsVerdictFor x f j → IsTreeFor command x f made → name ≡ f.name
+    → tree ≡ table_named x m.type made → us ≡ map shown_entry (plain_entries j.unreachable.items)
     → vs ≡ map (λ (w : Witness). named_witness (table_program x.table.now) (table_type x.table.now m.type) (plain_witness w)) j.witnesses.items
-    → IsEntry (items_in x) (numbered number f) (JudgedFunction (record { name = name; exhaustive = j.exhaustive; unreachable = us; witnesses = vs }))
-judged_entry x number f m j name us vs fine is_match verdict name_is unreachable witnesses =
+    → IsEntry command (items_in x) (numbered number f)
+    (JudgedFunction (record { name = name; exhaustive = j.exhaustive; tree = tree; unreachable = us; witnesses = vs }))
+judged_entry command x number f m j made name tree us vs fine is_match verdict is_tree name_is tree_named unreachable witnesses =
     let s = setting_in x in
     let es = plain_entries j.unreachable.items in
     let ws = map plain_witness j.witnesses.items in
@@ -100,13 +138,15 @@ judged_entry x number f m j name us vs fine is_match verdict name_is unreachable
     ∙ ap (λ (p : MProgram). map (named_witness p (table_type x.table.now m.type)) ws) program_is
     ∙ ap (λ (t : MType). map (named_witness (program s) t) ws) type_is in
     let entry : List ℕ → List Unreachable → List WitnessTree → ReportEntry =
-    λ n es vs. JudgedFunction (record { name = n; exhaustive = j.exhaustive; unreachable = es; witnesses = vs }) in
+    λ n es vs. JudgedFunction (record { name = n; exhaustive = j.exhaustive; tree = tree; unreachable = es; witnesses = vs }) in
     is_judged (record {
       fine = fine.fine;
       exhaustive = j.exhaustive;
       unreachable = map by_offset es;
       witnesses = ws;
       verdict = verdict;
+      tree = tree;
+      tree_is = shown_tree command x f m made tree program_is type_is is_tree tree_named;
       shows =
           ap (λ (n : List ℕ). entry n us vs) name_is
           ∙ ap (λ (es : List Unreachable). entry f.name es vs) shown

@@ -1,5 +1,5 @@
 -- A file has one answer at most.
-use Rattle.std.proofs.Common.{◌≡◌, ◌∙◌, ◌<◌, ℕ, List, [], ◌∷◌, Bool, true, false, Some, None, MatchBool, inl, inr, refl, sym, ap, subst, arith, length, nat_lt}
+use Rattle.std.proofs.Common.{◌≡◌, ◌∙◌, ◌<◌, ℕ, List, [], ◌∷◌, Bool, true, false, Option, Some, None, MatchBool, inl, inr, refl, sym, ap, subst, arith, length, nat_lt}
 use Rattle.std.proofs.lemmas.Bool.Decides.{nat_tests}
 use Rattle.std.specs.List.{AllZip, list_all}
 use Rattle.decl_lexer.specs.Lexing.{Placed}
@@ -13,14 +13,20 @@ use Rattle.type_table.specs.Faults.{IsFirstFault}
 use Rattle.match_model.specs.Unreachable.{Entry}
 use Rattle.match_model.specs.Witness.{MWitness}
 use Rattle.pattern_laws.specs.JudgedLaws.{VerdictIsOne}
+use Rattle.pattern_laws.specs.TreeLaws.{TreeOnIsOne}
 use Rattle.pattern_rules.specs.FirstFault.{PatternFault, AnswerIsOne}
 use Rattle.pattern_rules.specs.Settings.{Setting}
+use Rattle.decl_syntax.specs.Functions.{FunctionTree}
+use Rattle.match_model.specs.Trees.{MNode}
+use Rattle.tree_text.specs.Trees.{NodeTree}
 use Rattle.verdict_json.specs.Report.{ReportEntry, JudgedFunction, RefusedFunction, report_text}
 use Rattle.match_top.specs.declared.statuses.Status.{Status}
+use Rattle.match_top.specs.declared.words.Command.{Command}
+use Rattle.match_top.specs.declared.words.Command.TheVariants.{Check, Trees}
 use Rattle.match_top.specs.Answers.{Answers, IsJudged, IsAnswerToTokens, IsAnswerToItems, IsRefusedIn, IsRefusedAt, IsRefusedBy, longest_source}
-use Rattle.match_top.specs.Reports.{NumberedFunction, setting_of, refusal_of, report_of, IsJudgedFunction, IsRefusedFunction}
+use Rattle.match_top.specs.Reports.{NumberedFunction, setting_of, refusal_of, named_tree, IsShownTree, report_of, IsJudgedFunction, IsRefusedFunction}
 use Rattle.match_top.specs.Reports.{IsEntry, is_refused, is_judged, is_clean, IsReported, status_of}
-use Rattle.match_top.specs.Laws.{OneAnswer, OneFirstFault, OneEntry}
+use Rattle.match_top.specs.Laws.{OneFirstFault}
 
 -- the same text and the same status
 abbrev Same : (text other : List ℕ) → (status ending : Status) → Type 0
@@ -72,7 +78,7 @@ abbrev refused : NumberedFunction → PatternFault → ReportEntry
 refused f x = RefusedFunction f.function.name (refusal_of f.number x.rule x.arm x.at)
 
 -- what the laws of rules and of verdicts tell of entries
-module _ (answer_is_one : AnswerIsOne) (one_verdict : VerdictIsOne) where
+module _ (answer_is_one : AnswerIsOne) (one_verdict : VerdictIsOne) (one_tree : TreeOnIsOne) (command : Command) where
   both_refused : (s : Setting) (f : NumberedFunction) (e d : ReportEntry) → IsRefusedFunction s f.number f.function e → IsRefusedFunction s f.number f.function d
       → e ≡ d
   both_refused s f e d a b =
@@ -81,27 +87,35 @@ module _ (answer_is_one : AnswerIsOne) (one_verdict : VerdictIsOne) where
       let same : one ≡ other = some_is one other (answer_is_one s f.function (Some one) (Some other) a.fault b.fault) in
       a.tells ∙ ap (refused f) same ∙ sym b.tells
 
-  not_both : (s : Setting) (f : NumberedFunction) (e d : ReportEntry) → IsRefusedFunction s f.number f.function e → IsJudgedFunction s f.function d → ⊥
+  not_both : (s : Setting) (f : NumberedFunction) (e d : ReportEntry) → IsRefusedFunction s f.number f.function e → IsJudgedFunction command s f.function d → ⊥
   not_both s f e d a b =
       let one : PatternFault = record { rule = a.rule; arm = a.arm; at = a.at } in
       some_is_none one (answer_is_one s f.function (Some one) None a.fault b.fine)
 
-  both_judged : (s : Setting) (f : NumberedFunction) (e d : ReportEntry) → IsJudgedFunction s f.function e → IsJudgedFunction s f.function d → e ≡ d
+  -- what is shown of a function's tree is one thing
+  tree_same : (c : Command) (s : Setting) (f : FunctionTree) (x y : Option (List NodeTree)) → IsShownTree c s f x → IsShownTree c s f y → x ≡ y
+  tree_same Check s f x y a b = a ∙ sym b
+  tree_same Trees s f x y a b =
+      a.2 ∙ ap (λ (nodes : List MNode). Some (named_tree s f nodes)) (one_tree s f a.0 b.0 a.1 b.1) ∙ sym b.2
+
+  both_judged : (s : Setting) (f : NumberedFunction) (e d : ReportEntry) → IsJudgedFunction command s f.function e → IsJudgedFunction command s f.function d → e ≡ d
   both_judged s f e d a b =
       let v = one_verdict s f.function a.exhaustive b.exhaustive a.unreachable b.unreachable a.witnesses b.witnesses a.verdict b.verdict in
       a.shows
-      ∙ ap (λ (x : Bool). JudgedFunction (report_of s f.function x a.unreachable a.witnesses)) v.0
-      ∙ ap (λ (us : List Entry). JudgedFunction (report_of s f.function b.exhaustive us a.witnesses)) v.1
-      ∙ ap (λ (ws : List MWitness). JudgedFunction (report_of s f.function b.exhaustive b.unreachable ws)) v.2
+      ∙ ap (λ (x : Bool). JudgedFunction (report_of s f.function x a.tree a.unreachable a.witnesses)) v.0
+      ∙ ap (λ (us : List Entry). JudgedFunction (report_of s f.function b.exhaustive a.tree us a.witnesses)) v.1
+      ∙ ap (λ (ws : List MWitness). JudgedFunction (report_of s f.function b.exhaustive a.tree b.unreachable ws)) v.2
+      ∙ ap (λ (t : Option (List NodeTree)). JudgedFunction (report_of s f.function b.exhaustive t b.unreachable b.witnesses))
+      (tree_same command s f.function a.tree b.tree a.tree_is b.tree_is)
       ∙ sym b.shows
 
-  pub one_entry_of : OneEntry
+  pub one_entry_of : (items : List ItemTree) (f : NumberedFunction) (e d : ReportEntry) → IsEntry command items f e → IsEntry command items f d → e ≡ d
   one_entry_of items f e d (is_refused a) (is_refused b) = both_refused (setting_of items) f e d a b
   one_entry_of items f e d (is_refused a) (is_judged b) = absurd (not_both (setting_of items) f e d a b)
   one_entry_of items f e d (is_judged a) (is_refused b) = absurd (not_both (setting_of items) f d e b a)
   one_entry_of items f e d (is_judged a) (is_judged b) = both_judged (setting_of items) f e d a b
 
-  same_entries : (items : List ItemTree) (fs : List NumberedFunction) (es ds : List ReportEntry) → AllZip (IsEntry items) fs es → AllZip (IsEntry items) fs ds
+  same_entries : (items : List ItemTree) (fs : List NumberedFunction) (es ds : List ReportEntry) → AllZip (IsEntry command items) fs es → AllZip (IsEntry command items) fs ds
       → es ≡ ds
   same_entries items [] [] [] a b = refl
   same_entries items [] [] (d ∷ ds) a b = absurd b
@@ -113,12 +127,12 @@ module _ (answer_is_one : AnswerIsOne) (one_verdict : VerdictIsOne) where
 
   -- ---- the answer
 
-  reported_same : (items : List ItemTree) (t u : List ℕ) (s r : Status) → IsReported items t s → IsReported items u r → Same t u s r
+  reported_same : (items : List ItemTree) (t u : List ℕ) (s r : Status) → IsReported command items t s → IsReported command items u r → Same t u s r
   reported_same items t u s r a b =
       let same : a.entries ≡ b.entries = same_entries items _ a.entries b.entries a.each b.each in
       (a.text_is ∙ ap report_text same ∙ sym b.text_is, a.status_is ∙ ap (λ (es : List ReportEntry). status_of (list_all is_clean es)) same ∙ sym b.status_is)
 
-  items_same : (items : List ItemTree) (t u : List ℕ) (s r : Status) → IsAnswerToItems items t s → IsAnswerToItems items u r → Same t u s r
+  items_same : (items : List ItemTree) (t u : List ℕ) (s r : Status) → IsAnswerToItems command items t s → IsAnswerToItems command items u r → Same t u s r
   unfolding IsAnswerToItems
   items_same items t u s r (inl a) (inl b) =
       let same = one_first_fault items a.rule a.number a.place b.rule b.number b.place a.fault b.fault in
@@ -131,7 +145,7 @@ module _ (answer_is_one : AnswerIsOne) (one_verdict : VerdictIsOne) where
 
   -- what the laws of the grammar tell of answers to tokens
   module _ (one_file : OneFile) (one_fault : parser.OneFault) (file_or_fault : FileOrFault) where
-    tokens_same : (tokens : List Placed) (t u : List ℕ) (s r : Status) → IsAnswerToTokens tokens t s → IsAnswerToTokens tokens u r → Same t u s r
+    tokens_same : (tokens : List Placed) (t u : List ℕ) (s r : Status) → IsAnswerToTokens command tokens t s → IsAnswerToTokens command tokens u r → Same t u s r
     unfolding IsAnswerToTokens
     tokens_same tokens t u s r (inl a) (inl b) =
         let same = (one_fault (units tokens) a.number a.place b.number b.place).0 a.fault b.fault in
@@ -147,11 +161,11 @@ module _ (answer_is_one : AnswerIsOne) (one_verdict : VerdictIsOne) where
     tokens_same tokens t u s r (inr (inr a)) (inr (inl b)) = absurd ((file_or_fault (units tokens) a.items a.spelled b.number b.place).1 b.fault)
     tokens_same tokens t u s r (inr (inr a)) (inr (inr b)) =
         let same : b.items ≡ a.items = one_file (units tokens) b.items a.items b.spelled a.spelled in
-        items_same a.items t u s r a.answered (subst (λ (items : List ItemTree). IsAnswerToItems items u r) same b.answered)
+        items_same a.items t u s r a.answered (subst (λ (items : List ItemTree). IsAnswerToItems command items u r) same b.answered)
 
     -- and those of tokens of answers to a source
     module _ (one_tokens : OneTokenList) (one_lexing_fault : OneFault) (never_both : NeverBoth) where
-      judged_same : (source t u : List ℕ) (s r : Status) → IsJudged source t s → IsJudged source u r → Same t u s r
+      judged_same : (source t u : List ℕ) (s r : Status) → IsJudged command source t s → IsJudged command source u r → Same t u s r
       unfolding IsJudged
       judged_same source t u s r (inl a) (inl b) =
           let same = one_lexing_fault source a.rule a.place b.rule b.place a.fault b.fault in
@@ -162,12 +176,12 @@ module _ (answer_is_one : AnswerIsOne) (one_verdict : VerdictIsOne) where
       judged_same source t u s r (inr a) (inl b) = absurd (never_both source a.tokens b.rule b.place a.lexed b.fault)
       judged_same source t u s r (inr a) (inr b) =
           let same : b.tokens ≡ a.tokens = one_tokens source b.tokens a.tokens b.lexed a.lexed in
-          tokens_same a.tokens t u s r a.answered (subst (λ (tokens : List Placed). IsAnswerToTokens tokens u r) same b.answered)
+          tokens_same a.tokens t u s r a.answered (subst (λ (tokens : List Placed). IsAnswerToTokens command tokens u r) same b.answered)
 
-      pub one_answer_of : OneAnswer
+      pub one_answer_of : (bytes t u : List ℕ) (s r : Status) → Answers command bytes t s → Answers command bytes u r → Same t u s r
       unfolding Answers
       one_answer_of bytes t u s r a b = by (nat_lt longest_source (length bytes)) a b
         where
-          by : (long : Bool) → MatchBool long (IsRefusedBy 7 t s) (IsJudged bytes t s) → MatchBool long (IsRefusedBy 7 u r) (IsJudged bytes u r) → Same t u s r
+          by : (long : Bool) → MatchBool long (IsRefusedBy 7 t s) (IsJudged command bytes t s) → MatchBool long (IsRefusedBy 7 u r) (IsJudged command bytes u r) → Same t u s r
           by true x y = (x.0 ∙ sym y.0, x.1 ∙ sym y.1)
           by false x y = judged_same bytes t u s r x y

@@ -18,6 +18,7 @@ use Rattle.type_table.specs.Faults.{BreaksNone}
 use Rattle.verdict_json.specs.Report.{ReportEntry, JudgedFunction, RefusedFunction, report_text}
 use Rattle.match_top.specs.Reports.{NumberedFunction, numbered, function_at, functions_from, functions_of}
 use Rattle.match_top.specs.Reports.{setting_of, refusal_of, report_of, IsEntry, is_refused, is_judged, is_clean, status_of}
+use Rattle.match_top.specs.declared.words.Command.TheVariants.{Check}
 use Rattle.match_top.specs.Reporting.{StandsAt}
 use Rattle.match_top.proofs.Entries.{contains_at}
 use Rattle.match_top.specs.Laws.{SomeEntry, EachFunctionStands, SomeReport}
@@ -55,7 +56,7 @@ module _ (walk_tells : WalkTells) (spelled_functions : ParsedFunctionsAreSpelled
   -- the entry by what the walk tells
   entry_by : (source : List ℕ) (tokens : List Placed) (items : List ItemTree) (i : ℕ) (f : NumberedFunction) → HasTokens source tokens
       → IsFile (units tokens) items → IsSoundFile (setting_of items) → StandsAt items i f.function
-      → (answer : Option PatternFault) → IsAnswer (setting_of items) f.function answer → (e : ReportEntry) × IsEntry items f e
+      → (answer : Option PatternFault) → IsAnswer (setting_of items) f.function answer → (e : ReportEntry) × IsEntry Check items f e
   entry_by source tokens items i f lexed spelled sound at (Some x) fault = (
     RefusedFunction f.function.name (refusal_of f.number x.rule x.arm x.at),
     is_refused (record { rule = x.rule; arm = x.arm; at = x.at; fault = fault; tells = refl }),
@@ -73,8 +74,8 @@ module _ (walk_tells : WalkTells) (spelled_functions : ParsedFunctionsAreSpelled
         ascend = parsed.ascend a here;
       } in
       let v = some_verdict (setting_of items) f.function sound.sound type_is arms in (
-        JudgedFunction (report_of (setting_of items) f.function v.0 v.1 v.2),
-        is_judged (record { fine = fine; exhaustive = v.0; unreachable = v.1; witnesses = v.2; verdict = v.3; shows = refl }),
+        JudgedFunction (report_of (setting_of items) f.function v.0 None v.1 v.2),
+        is_judged (record { fine = fine; exhaustive = v.0; unreachable = v.1; witnesses = v.2; verdict = v.3; tree = None; tree_is = refl; shows = refl }),
       )
 
   pub some_entry_of : SomeEntry
@@ -86,7 +87,7 @@ module _ (walk_tells : WalkTells) (spelled_functions : ParsedFunctionsAreSpelled
   all_entries : (source : List ℕ) (tokens : List Placed) (items : List ItemTree) (fs : List NumberedFunction) → HasTokens source tokens
       → IsFile (units tokens) items → BreaksNone items Endless
       → ((k : ℕ) (f : NumberedFunction) → slice_get fs k ≡ Some f → (j : ℕ) × (slice_get (functions_of items) j ≡ Some f))
-      → (es : List ReportEntry) × AllZip (IsEntry items) fs es
+      → (es : List ReportEntry) × AllZip (IsEntry Check items) fs es
   all_entries source tokens items [] lexed spelled unbroken among = ([], tt)
   all_entries source tokens items (f ∷ fs) lexed spelled unbroken among =
       let here = among 0 f refl in

@@ -9,6 +9,7 @@ use Rattle.match_model.specs.declared.Width.TheVariants.{Endless}
 use Rattle.type_table.specs.Faults.{IsFirstFault}
 use Rattle.match_top.specs.declared.statuses.Status.{Status}
 use Rattle.match_top.specs.declared.statuses.Status.TheVariants.{Refused}
+use Rattle.match_top.specs.declared.words.Command.{Command}
 use Rattle.match_top.specs.Reports.{IsReported}
 
 -- the greatest length of a source, in bytes (our own choice)
@@ -67,30 +68,32 @@ pub record IsRefusedDeclaration (items : List ItemTree) (text : List ℕ) (statu
 
 -- the text and the status of a file of these items: it is refused by a rule on declarations, or there is a report on its
 -- functions
-unfoldable pub IsAnswerToItems : List ItemTree → List ℕ → Status → Type 0
-IsAnswerToItems items text status = IsRefusedDeclaration items text status ⊎ IsReported items text status
+unfoldable pub IsAnswerToItems : Command → List ItemTree → List ℕ → Status → Type 0
+IsAnswerToItems command items text status = IsRefusedDeclaration items text status ⊎ IsReported command items text status
 
 -- the tokens spell a file, and its items are answered
-pub record IsAnswerToFile (tokens : List Placed) (text : List ℕ) (status : Status) : Type 0 where
+pub record IsAnswerToFile (command : Command) (tokens : List Placed) (text : List ℕ) (status : Status) : Type 0 where
   pub items : List ItemTree
   pub spelled : IsFile (units tokens) items
-  pub answered : IsAnswerToItems items text status
+  pub answered : IsAnswerToItems command items text status
 
 -- the text and the status of tokens: what they spell decides
-unfoldable pub IsAnswerToTokens : List Placed → List ℕ → Status → Type 0
-IsAnswerToTokens tokens text status = IsRefusedSyntax tokens text status ⊎ (IsRefusedWidth tokens text status ⊎ IsAnswerToFile tokens text status)
+unfoldable pub IsAnswerToTokens : Command → List Placed → List ℕ → Status → Type 0
+IsAnswerToTokens command tokens text status =
+    IsRefusedSyntax tokens text status ⊎ (IsRefusedWidth tokens text status ⊎ IsAnswerToFile command tokens text status)
 
 -- the source has tokens, and they are answered
-pub record IsAnswerToSource (source text : List ℕ) (status : Status) : Type 0 where
+pub record IsAnswerToSource (command : Command) (source text : List ℕ) (status : Status) : Type 0 where
   pub tokens : List Placed
   pub lexed : HasTokens source tokens
-  pub answered : IsAnswerToTokens tokens text status
+  pub answered : IsAnswerToTokens command tokens text status
 
 -- the text and the status of a source that is not too long: one that does not lex is refused with its first fault, any
 -- other is answered by its tokens
-unfoldable pub IsJudged : List ℕ → List ℕ → Status → Type 0
-IsJudged source text status = IsRefusedFault source text status ⊎ IsAnswerToSource source text status
+unfoldable pub IsJudged : Command → List ℕ → List ℕ → Status → Type 0
+IsJudged command source text status = IsRefusedFault source text status ⊎ IsAnswerToSource command source text status
 
--- the text and the status of a file that has these bytes: one that is longer than a source may be is refused by rule 7
-unfoldable pub Answers : List ℕ → List ℕ → Status → Type 0
-Answers bytes text status = MatchBool (nat_lt longest_source (length bytes)) (IsRefusedBy 7 text status) (IsJudged bytes text status)
+-- the text and the status that a command has for a file of these bytes: one that is longer than a source may be is refused by rule 7
+unfoldable pub Answers : Command → List ℕ → List ℕ → Status → Type 0
+Answers command bytes text status =
+    MatchBool (nat_lt longest_source (length bytes)) (IsRefusedBy 7 text status) (IsJudged command bytes text status)

@@ -9,12 +9,16 @@ use Rattle.match_model.specs.declared.Width.TheVariants.{Endless}
 use Rattle.type_table.specs.Faults.{BreaksNone, IsFirstFault}
 use Rattle.verdict_json.specs.Report.{ReportEntry}
 use Rattle.match_top.specs.declared.statuses.Status.{Status}
+use Rattle.match_top.specs.declared.words.Command.{Command}
+use Rattle.match_top.specs.declared.words.Command.TheVariants.{Check, Trees}
 use Rattle.match_top.specs.Answers.{Answers}
-use Rattle.match_top.specs.Reports.{NumberedFunction, numbered, functions_of, IsEntry, IsReported}
+use Rattle.match_top.specs.Reports.{NumberedFunction, numbered, functions_of, without_tree, IsEntry, IsReported}
 
--- the bytes of a file have one text and one status at most
+-- for each command the bytes of a file have one text and one status at most
 abbrev pub OneAnswer : Type 0
-OneAnswer = (bytes text other : List ℕ) (status ending : Status) → Answers bytes text status → Answers bytes other ending → (text ≡ other) × (status ≡ ending)
+OneAnswer =
+    (command : Command) (bytes text other : List ℕ) (status ending : Status) → Answers command bytes text status
+    → Answers command bytes other ending → (text ≡ other) × (status ≡ ending)
 
 -- items have one first fault at most
 abbrev pub OneFirstFault : Type 0
@@ -22,16 +26,19 @@ OneFirstFault =
     (items : List ItemTree) (rule i at other j elsewhere : ℕ) → IsFirstFault items Endless rule i at → IsFirstFault items Endless other j elsewhere
     → (rule ≡ other) × (i ≡ j) × (at ≡ elsewhere)
 
--- a function has one entry at most
+-- for each command a function has one entry at most
 abbrev pub OneEntry : Type 0
-OneEntry = (items : List ItemTree) (f : NumberedFunction) (e other : ReportEntry) → IsEntry items f e → IsEntry items f other → e ≡ other
+OneEntry =
+    (command : Command) (items : List ItemTree) (f : NumberedFunction) (e other : ReportEntry) → IsEntry command items f e
+    → IsEntry command items f other → e ≡ other
 
 -- each function of a file that the tokens of a source spell, and of which no item breaks a rule on declarations, has an entry
+-- where trees are not asked for
 abbrev pub SomeEntry : Type 0
 SomeEntry =
     (source : List ℕ) (tokens : List Placed) (items : List ItemTree) (k : ℕ) (f : NumberedFunction)
     → HasTokens source tokens → IsFile (units tokens) items → BreaksNone items Endless
-    → slice_get (functions_of items) k ≡ Some f → (e : ReportEntry) × IsEntry items f e
+    → slice_get (functions_of items) k ≡ Some f → (e : ReportEntry) × IsEntry Check items f e
 
 -- each item that is a function stands among the functions of its file, with its number
 abbrev pub EachFunctionStands : Type 0
@@ -40,7 +47,18 @@ EachFunctionStands =
     → item.kind ≡ Function f.name f.param f.deref f.arms → (k : ℕ) × (slice_get (functions_of items) k ≡ Some (numbered i f))
 
 -- a file that the tokens of a source spell, and of which no item breaks a rule on declarations, has a report
+-- where trees are not asked for
 abbrev pub SomeReport : Type 0
 SomeReport =
     (source : List ℕ) (tokens : List Placed) (items : List ItemTree) → HasTokens source tokens → IsFile (units tokens) items
-    → BreaksNone items Endless → (text : List ℕ) × (status : Status) × IsReported items text status
+    → BreaksNone items Endless → (text : List ℕ) × (status : Status) × IsReported Check items text status
+
+-- what `check` has for a function is what `trees` has without its decision tree
+abbrev pub EntriesAreWithoutTrees : Type 0
+EntriesAreWithoutTrees =
+    (items : List ItemTree) (f : NumberedFunction) (e : ReportEntry) → IsEntry Trees items f e → IsEntry Check items f (without_tree e)
+
+-- a file that `trees` answers `check` answers too, with the same status
+abbrev pub AnswersAreWithoutTrees : Type 0
+AnswersAreWithoutTrees =
+    (bytes text : List ℕ) (status : Status) → Answers Trees bytes text status → (other : List ℕ) × Answers Check bytes other status

@@ -1,4 +1,5 @@
 pub mod Answers
+pub mod Asked
 pub mod Laws
 pub mod Reading
 pub mod Reporting

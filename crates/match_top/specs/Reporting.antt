@@ -1,5 +1,5 @@
 -- No meaning: what the private functions of `judging` and `reporting` give, for their proofs.
-use Rattle.std.specs.Prelude.{◌≡◌, ℕ, List, map, slice_get, Some}
+use Rattle.std.specs.Prelude.{◌≡◌, ℕ, List, map, slice_get, Option, Some, None}
 use Rattle.std.specs.List.{AllZip, list_all}
 use Rattle.decl_lexer.specs.Lexing.{Placed, HasTokens}
 use Rattle.decl_parser.specs.FileGrammar.{IsFile}
@@ -10,9 +10,12 @@ use Rattle.match_model.specs.declared.Width.TheVariants.{Endless}
 use Rattle.match_model.specs.ArenaPatterns.{MDeMatch}
 use Rattle.pattern_laws.specs.JudgedLaws.{by_offset}
 use Rattle.pattern_laws.specs.TableLaws.{IsTableMatch}
+use Rattle.pattern_laws.specs.TreeLaws.{IsTreeOn}
 use Rattle.pattern_rules.specs.Faults.{BreaksNone, function_of}
 use Rattle.pattern_rules.specs.Settings.{Setting}
 use Rattle.pattern_rules.specs.Verdicts.{IsVerdictOn}
+use Rattle.tree_eval.specs.Nodes.{tree_nodes}
+use Rattle.tree_eval.specs.declared.tree.Tree.{Tree}
 use Rattle.type_table.specs.Tables.{IsTableOf}
 use Rattle.type_table.specs.declared.table.TyId.{TyId}
 use Rattle.verdict_json.specs.Report.{ReportEntry}
@@ -22,6 +25,8 @@ use Rattle.witnesses.specs.Views.{plain_witness}
 use Rattle.witnesses.specs.declared.judgement.Judgement.{Judgement}
 use Rattle.match_top.specs.declared.reporting.Progress.{Progress}
 use Rattle.match_top.specs.declared.source.Source.{Source}
+use Rattle.match_top.specs.declared.words.Command.{Command}
+use Rattle.match_top.specs.declared.words.Command.TheVariants.{Check, Trees}
 use Rattle.match_top.specs.Reports.{NumberedFunction, IsEntry, is_clean, setting_of}
 
 -- the items of the file
@@ -62,9 +67,14 @@ abbrev pub IsVerdictFor : Source → FunctionTree → Judgement → Type 0
 IsVerdictFor x f j =
     IsVerdictOn (setting_in x) f j.exhaustive (map by_offset (plain_entries j.unreachable.items)) (map plain_witness j.witnesses.items)
 
+-- the tree that was made is the function's, where trees are asked for
+abbrev pub IsTreeFor : Command → Source → FunctionTree → Option Tree → Type 0
+IsTreeFor Check x f tree = tree ≡ None
+IsTreeFor Trees x f tree = (t : Tree) × (tree ≡ Some t) × IsTreeOn (setting_in x) f (tree_nodes t)
+
 -- the text has the entries of these functions of the items
-pub record ReportsOn (items : List ItemTree) (fs : List NumberedFunction) (p : Progress) : Type 0 where
+pub record ReportsOn (command : Command) (items : List ItemTree) (fs : List NumberedFunction) (p : Progress) : Type 0 where
   pub entries : List ReportEntry
-  pub each : AllZip (IsEntry items) fs entries
+  pub each : AllZip (IsEntry command items) fs entries
   pub text : HasEntries entries p.text
   pub clean_is : p.clean ≡ list_all is_clean entries

@@ -1,9 +1,10 @@
 -- The report on the functions of a file of which no item breaks a rule on declarations.
-use Rattle.std.specs.Prelude.{◌≡◌, ℕ, ◌+◌, Bool, true, false, List, [], ◌∷◌, ◌++◌, map, Option, Some}
+use Rattle.std.specs.Prelude.{◌≡◌, ℕ, ◌+◌, Bool, true, false, List, [], ◌∷◌, ◌++◌, map, Option, Some, None}
 use Rattle.std.specs.List.{AllZip, list_all}
 use Rattle.decl_syntax.specs.Functions.{FunctionTree}
 use Rattle.decl_syntax.specs.Items.{KindTree, Enum, Struct, Import, Function, ItemTree}
 use Rattle.match_model.specs.declared.Width.TheVariants.{Endless}
+use Rattle.match_model.specs.Trees.{MNode}
 use Rattle.match_model.specs.Unreachable.{Entry}
 use Rattle.match_model.specs.Witness.{MWitness}
 use Rattle.type_table.specs.Faults.{BreaksNone}
@@ -12,13 +13,18 @@ use Rattle.pattern_rules.specs.Faults as patterns
 use Rattle.pattern_rules.specs.Faults.{IsFirstPatternFault, scrutinee_type}
 use Rattle.pattern_rules.specs.Settings.{Setting, program}
 use Rattle.pattern_rules.specs.Verdicts.{IsVerdictOn}
+use Rattle.pattern_laws.specs.TreeLaws.{IsTreeOn}
+use Rattle.tree_text.specs.Trees.{NodeTree}
 use Rattle.witness_names.specs.Named.{named_witness}
+use Rattle.witness_names.specs.NamedTrees.{named_node}
 use Rattle.verdict_json.specs.declared.entry.Unreachable.{Unreachable}
 use Rattle.verdict_json.specs.declared.refusal.Refusal.{Refusal}
 use Rattle.verdict_json.specs.Report.{ReportEntry, JudgedFunction, RefusedFunction, report_text}
 use Rattle.verdict_json.specs.Trees.{ReportTree}
 use Rattle.match_top.specs.declared.statuses.Status.{Status}
 use Rattle.match_top.specs.declared.statuses.Status.TheVariants.{Clean, Found}
+use Rattle.match_top.specs.declared.words.Command.{Command}
+use Rattle.match_top.specs.declared.words.Command.TheVariants.{Check, Trees}
 
 -- a function of a file, with the number of its item
 pub record NumberedFunction : Type 0 where
@@ -57,23 +63,36 @@ refusal_of number rule arm at = record { rule = rule; item = Some number; arm = 
 abbrev pub shown_entry : Entry → Unreachable
 shown_entry e = record { arm = e.arm; at = e.at; whole = e.whole }
 
+-- the nodes of a tree as a report shows them: with the names of the file's types
+abbrev pub named_tree : Setting → FunctionTree → List MNode → List NodeTree
+named_tree s f nodes = map (named_node (program s) (scrutinee_type s f)) nodes
+
+-- what a report shows of a function's decision tree: nothing, unless trees are asked for
+abbrev pub IsShownTree : Command → Setting → FunctionTree → Option (List NodeTree) → Type 0
+IsShownTree Check s f tree = tree ≡ None
+IsShownTree Trees s f tree = (nodes : List MNode) × IsTreeOn s f nodes × (tree ≡ Some (named_tree s f nodes))
+
 -- what is reported of a function by what is found of it: the witnesses are told with the names of the file's types
-abbrev pub report_of : Setting → FunctionTree → (exhaustive : Bool) → (unreachable : List Entry) → (witnesses : List MWitness) → ReportTree
-report_of s f exhaustive unreachable witnesses = record {
+abbrev pub report_of : Setting → FunctionTree → (exhaustive : Bool) → (tree : Option (List NodeTree)) → (unreachable : List Entry) →
+    (witnesses : List MWitness) → ReportTree
+report_of s f exhaustive tree unreachable witnesses = record {
   name = f.name;
   exhaustive = exhaustive;
+  tree = tree;
   unreachable = map shown_entry unreachable;
   witnesses = map (named_witness (program s) (scrutinee_type s f)) witnesses;
 }
 
 -- a function that breaks no rule, what is found of it, and the entry that shows this
-pub record IsJudgedFunction (s : Setting) (f : FunctionTree) (e : ReportEntry) : Type 0 where
+pub record IsJudgedFunction (command : Command) (s : Setting) (f : FunctionTree) (e : ReportEntry) : Type 0 where
   pub fine : patterns.BreaksNone s f
   pub exhaustive : Bool
   pub unreachable : List Entry
   pub witnesses : List MWitness
   pub verdict : IsVerdictOn s f exhaustive unreachable witnesses
-  pub shows : e ≡ JudgedFunction (report_of s f exhaustive unreachable witnesses)
+  pub tree : Option (List NodeTree)
+  pub tree_is : IsShownTree command s f tree
+  pub shows : e ≡ JudgedFunction (report_of s f exhaustive tree unreachable witnesses)
 
 -- a function that breaks a rule, and the entry that tells the first one
 pub record IsRefusedFunction (s : Setting) (number : ℕ) (f : FunctionTree) (e : ReportEntry) : Type 0 where
@@ -84,10 +103,15 @@ pub record IsRefusedFunction (s : Setting) (number : ℕ) (f : FunctionTree) (e 
   pub tells : e ≡ RefusedFunction f.name (refusal_of number rule arm at)
 
 -- the entry of a function in the report on a file of these items: the refusal by its first broken rule, or else what is found
--- of its match
-pub data IsEntry (items : List ItemTree) (f : NumberedFunction) (e : ReportEntry) : Type 0 where
-  is_refused : IsRefusedFunction (setting_of items) f.number f.function e → IsEntry items f e
-  is_judged : IsJudgedFunction (setting_of items) f.function e → IsEntry items f e
+-- of its match, with its decision tree where trees are asked for
+pub data IsEntry (command : Command) (items : List ItemTree) (f : NumberedFunction) (e : ReportEntry) : Type 0 where
+  is_refused : IsRefusedFunction (setting_of items) f.number f.function e → IsEntry command items f e
+  is_judged : IsJudgedFunction command (setting_of items) f.function e → IsEntry command items f e
+
+-- the entry, without a decision tree
+abbrev pub without_tree : ReportEntry → ReportEntry
+without_tree (JudgedFunction report) = JudgedFunction (record report { tree = None })
+without_tree (RefusedFunction name refusal) = RefusedFunction name refusal
 
 -- the function is judged, and its match is exhaustive
 abbrev pub is_clean : ReportEntry → Bool
@@ -100,9 +124,9 @@ status_of true = Clean
 status_of false = Found
 
 -- no item breaks a rule on declarations, and the text is the report: an entry for each function, in file order
-pub record IsReported (items : List ItemTree) (text : List ℕ) (status : Status) : Type 0 where
+pub record IsReported (command : Command) (items : List ItemTree) (text : List ℕ) (status : Status) : Type 0 where
   pub unbroken : BreaksNone items Endless
   pub entries : List ReportEntry
-  pub each : AllZip (IsEntry items) (functions_of items) entries
+  pub each : AllZip (IsEntry command items) (functions_of items) entries
   pub text_is : text ≡ report_text entries
   pub status_is : status ≡ status_of (list_all is_clean entries)

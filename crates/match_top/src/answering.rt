@@ -20,6 +20,7 @@ use crate::Status;
 use crate::reading::LONGEST_SOURCE;
 use crate::reporting::{Reported, report_on};
 use crate::source::Source;
+use crate::words::Command;
 use decl_lexer::{LexFault, Token, lex};
 use decl_parser::{ParseFault, parse};
 use decl_syntax::File;
@@ -36,16 +37,20 @@ pub(crate) struct Answer {
     pub status: Status,
 }
 
-/// The answer to a file of which these bytes were taken.
-pub(crate) fn answer_to(alloc: Global, source: &[u8]) -> Result<Answer, NoMemory>
+/// What the command has for a file of which these bytes were taken.
+pub(crate) fn answer_to(
+    alloc: Global,
+    command: Command,
+    source: &[u8],
+) -> Result<Answer, NoMemory>
     ensures answers { IfOk result (λ a. (bytes : List ℕ) → source.now ≡ taken bytes
-        → Answers bytes a.text.items a.status) }
+        → Answers command bytes a.text.items a.status) }
     ensures verdict { IfOk result (λ a. IsVerdict a.status) }
 {
     if is_too_long(source) {
         return refused_at(alloc, 7, None);
     }
-    judged(alloc, source)
+    judged(alloc, command, source)
 }
 
 // Whether these are more bytes than a source may have.
@@ -57,27 +62,31 @@ fn is_too_long(source: &[u8]) -> bool
 }
 
 // The answer to a source that is not too long: its first fault, or else by its tokens.
-fn judged(alloc: Global, source: &[u8]) -> Result<Answer, NoMemory>
+fn judged(alloc: Global, command: Command, source: &[u8]) -> Result<Answer, NoMemory>
     requires { length source.now ≤ longest_source }
-    ensures answers { IfOk result (λ a. IsJudged source.now a.text.items a.status) }
+    ensures answers { IfOk result (λ a. IsJudged command source.now a.text.items a.status) }
     ensures verdict { IfOk result (λ a. IsVerdict a.status) }
 {
     match lex(alloc, source) {
-        Ok(tokens) => answer_to_tokens(alloc, tokens),
+        Ok(tokens) => answer_to_tokens(alloc, command, tokens),
         Err(LexFault::Rule { rule, at }) => refused_at(alloc, rule, Some(at)),
         Err(LexFault::NoMemory) => Err(NoMemory),
     }
 }
 
 // The answer to the tokens of a source: the answer to the file that they spell, or else their fault.
-fn answer_to_tokens(alloc: Global, tokens: Vec<Token>) -> Result<Answer, NoMemory>
+fn answer_to_tokens(
+    alloc: Global,
+    command: Command,
+    tokens: Vec<Token>,
+) -> Result<Answer, NoMemory>
     requires few { length tokens.items ≤ longest_source }
     requires lexed { (source : List ℕ) × HasTokens source (tokens_view tokens.items) }
-    ensures answers { IfOk result (λ a. IsAnswerToTokens (tokens_view tokens.items) a.text.items a.status) }
+    ensures answers { IfOk result (λ a. IsAnswerToTokens command (tokens_view tokens.items) a.text.items a.status) }
     ensures verdict { IfOk result (λ a. IsVerdict a.status) }
 {
     let fault = match file_of(alloc, tokens) {
-        Ok(file) => return answer_to_file(alloc, &file),
+        Ok(file) => return answer_to_file(alloc, command, &file),
         Err(fault) => fault,
     };
     match fault {
@@ -97,28 +106,33 @@ fn file_of(alloc: Global, tokens: Vec<Token>) -> Result<File, ParseFault>
 }
 
 // The answer to a file that tokens spell: its first fault on declarations, or else the report on its functions.
-fn answer_to_file(alloc: Global, file: &File) -> Result<Answer, NoMemory>
+fn answer_to_file(alloc: Global, command: Command, file: &File) -> Result<Answer, NoMemory>
     requires spelled { AreSpelled (file_view file.now) }
     requires few { sum_by (λ i. kind_arms i.kind) (file_view file.now) < 2 ^ 32 }
-    ensures answers { IfOk result (λ a. IsAnswerToItems (file_view file.now) a.text.items a.status) }
+    ensures answers { IfOk result (λ a. IsAnswerToItems command (file_view file.now) a.text.items a.status) }
     ensures verdict { IfOk result (λ a. IsVerdict a.status) }
 {
     match TypeTable::build(alloc, file, Width::Endless) {
-        Ok(table) => reported(alloc, file, &table),
+        Ok(table) => reported(alloc, command, file, &table),
         Err(DeclFault::Rule { rule, item, at }) => refused_in(alloc, rule, Some(item), Some(at)),
         Err(DeclFault::NoMemory) => Err(NoMemory),
     }
 }
 
 // The report on a file of which no item breaks a rule on declarations, with the table of its types.
-fn reported(alloc: Global, file: &File, table: &TypeTable) -> Result<Answer, NoMemory>
+fn reported(
+    alloc: Global,
+    command: Command,
+    file: &File,
+    table: &TypeTable,
+) -> Result<Answer, NoMemory>
     requires spelled { AreSpelled (file_view file.now) }
     requires table { IsTableOf (file_view file.now) Endless table.now }
     requires few { sum_by (λ i. kind_arms i.kind) (file_view file.now) < 2 ^ 32 }
-    ensures answers { IfOk result (λ a. IsReported (file_view file.now) a.text.items a.status) }
+    ensures answers { IfOk result (λ a. IsReported command (file_view file.now) a.text.items a.status) }
     ensures verdict { IfOk result (λ a. IsVerdict a.status) }
 {
-    let Reported { text, clean } = report_on(alloc, &Source { file, table })?;
+    let Reported { text, clean } = report_on(alloc, command, &Source { file, table })?;
     let status = status_of(clean);
     Ok(Answer { text, status })
 }

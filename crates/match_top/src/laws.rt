@@ -1,15 +1,16 @@
 //! Laws of what is written for a file. Each function changes nothing, and its contract is a law; in its body stand the
 //! laws that it follows from.
 ghost use Rattle.match_top.specs.Laws.{OneAnswer, OneFirstFault, OneEntry, SomeEntry, EachFunctionStands, SomeReport};
+ghost use Rattle.match_top.specs.Laws.{EntriesAreWithoutTrees, AnswersAreWithoutTrees};
 
 use decl_lexer::{one_fault as one_lexing_fault, one_token_list, tokens_or_fault};
 use decl_parser::{file_or_fault, one_fault, one_file};
 use pattern_laws::laws::{
-    files_are_sound, parsed_functions_are_spelled, some_verdict, verdict_is_one,
+    files_are_sound, parsed_functions_are_spelled, some_verdict, tree_is_one, verdict_is_one,
 };
 use pattern_rules::laws::{answer_is_one, walk_tells};
 
-/// The bytes of a file have at most one text and one status.
+/// For each command the bytes of a file have at most one text and one status.
 pub fn one_answer()
     ensures { OneAnswer }
 {
@@ -21,6 +22,7 @@ pub fn one_answer()
     file_or_fault();
     answer_is_one();
     verdict_is_one();
+    tree_is_one();
 }
 
 /// Items have at most one first fault on declarations.
@@ -28,8 +30,8 @@ pub fn one_first_fault()
     ensures { OneFirstFault }
 {}
 
-/// Each function of a file stands among its functions, and has at most one entry; it has one where the tokens of a source
-/// spell the file and no item breaks a rule on declarations.
+/// Each function of a file stands among its functions, and for each command has at most one entry; where trees are not
+/// asked for, it has one if the tokens of a source spell the file and no item breaks a rule on declarations.
 pub fn one_entry()
     ensures each { EachFunctionStands }
     ensures some { SomeEntry }
@@ -37,13 +39,15 @@ pub fn one_entry()
 {
     answer_is_one();
     verdict_is_one();
+    tree_is_one();
     walk_tells();
     parsed_functions_are_spelled();
     files_are_sound();
     some_verdict();
 }
 
-/// A file that the tokens of a source spell, and of which no item breaks a rule on declarations, has a report.
+/// A file that the tokens of a source spell, and of which no item breaks a rule on declarations, has a report, where trees
+/// are not asked for.
 pub fn some_report()
     ensures { SomeReport }
 {
@@ -52,3 +56,9 @@ pub fn some_report()
     files_are_sound();
     some_verdict();
 }
+
+/// What `check` has for a function or a file is what `trees` has, without the decision trees, and with the same status.
+pub fn check_is_without_trees()
+    ensures entries { EntriesAreWithoutTrees }
+    ensures answers { AnswersAreWithoutTrees }
+{}

@@ -2,10 +2,10 @@
 //!
 //! `run` reads the words, takes the file that they name from a source of files, makes the whole answer in memory and
 //! only then writes it to a sink. Its contract says when each status comes and which bytes were written, for every
-//! source and every sink: the relation `Answers` between the bytes of a file, the text and the status is all that it
-//! knows of matches. The way of a file through the modules: `reading` (the bytes), `answering` (tokens, items and their
+//! source and every sink: the relation `Answers` between a command, the bytes of a file, the text and the status is all that
+//! it knows of matches. The way of a file through the modules: `reading` (the bytes), `answering` (tokens, items and their
 //! faults; text and status), `reporting` (the entries of the functions), `judging` (the match of a function, and the
-//! engine's verdict on it), `writing` (the sink).
+//! engine's verdict on it), `trees` (its decision tree, where it is asked for), `writing` (the sink).
 //! `laws` says that a file has one answer, and that no function is left out of a report.
 #![tactic(auto)]
 
@@ -19,9 +19,11 @@ mod statuses;
 #[cfg(test)]
 mod tests;
 mod top;
+mod trees;
 mod words;
 mod writing;
 
-pub use laws::{one_answer, one_entry, one_first_fault, some_report};
+pub use laws::{check_is_without_trees, one_answer, one_entry, one_first_fault, some_report};
 pub use statuses::Status;
 pub use top::run;
+pub use words::Command;

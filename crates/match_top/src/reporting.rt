@@ -10,10 +10,13 @@ ghost use Rattle.verdict_json.specs.Rules.{IsRule};
 ghost use Rattle.verdict_json.specs.Trees.{report_view};
 ghost use Rattle.match_top.specs.Reports.{NumberedFunction, numbered, function_at, functions_of};
 ghost use Rattle.match_top.specs.Reports.{IsEntry, IsReported, refusal_of, status_of};
+ghost use Rattle.match_top.specs.declared.words.Command.{Command};
 ghost use Rattle.match_top.specs.Reporting.{IsSound, StandsAt, IsFineFunction, ReportsOn, items_in};
 
 use crate::judging::{match_of, shown_entries, verdict_on};
 use crate::source::Source;
+use crate::trees::{named_tree, tree_of};
+use crate::words::Command;
 use bumpalo::Bump;
 use decl_syntax::{FnItem, Item, ItemKind};
 use no_memory::NoMemory;
@@ -38,29 +41,38 @@ struct Progress {
     clean: bool,
 }
 
-/// The report on a file of which no item breaks a rule on declarations.
-pub(crate) fn report_on(alloc: Global, source: &Source<'_>) -> Result<Reported, NoMemory>
+/// The report on a file of which no item breaks a rule on declarations, with trees where the command asks for them.
+pub(crate) fn report_on(
+    alloc: Global,
+    command: Command,
+    source: &Source<'_>,
+) -> Result<Reported, NoMemory>
     requires sound { IsSound source.now }
     requires few { sum_by (λ i. kind_arms i.kind) (items_in source.now) < 2 ^ 32 }
-    ensures { IfOk result (λ r. IsReported (items_in source.now) r.text.items (status_of r.clean)) }
+    ensures { IfOk result (λ r. IsReported command (items_in source.now) r.text.items (status_of r.clean)) }
 {
-    let entries = all_entries(alloc, source, &source.file.items)?;
+    let entries = all_entries(alloc, command, source, &source.file.items)?;
     finished(entries)
 }
 
 // The entries of the functions among the items.
-fn all_entries(alloc: Global, source: &Source<'_>, items: &[Item]) -> Result<Progress, NoMemory>
+fn all_entries(
+    alloc: Global,
+    command: Command,
+    source: &Source<'_>,
+    items: &[Item],
+) -> Result<Progress, NoMemory>
     requires sound { IsSound source.now }
     requires items { map item_view items.now ≡ items_in source.now }
     requires few { sum_by (λ i. kind_arms i.kind) (map item_view items.now) < 2 ^ 32 }
-    ensures { IfOk result (ReportsOn (items_in source.now) (functions_of (map item_view items.now))) }
+    ensures { IfOk result (ReportsOn command (items_in source.now) (functions_of (map item_view items.now))) }
 {
     let mut so_far = Progress {
         text: ReportText::begin(alloc)?,
         clean: true,
     };
     for (number, item) in items.iter().enumerate() {
-        so_far = add_item(alloc, source, so_far, number as u64, item)?;
+        so_far = add_item(alloc, command, source, so_far, number as u64, item)?;
     }
     Ok(so_far)
 }
@@ -68,6 +80,7 @@ fn all_entries(alloc: Global, source: &Source<'_>, items: &[Item]) -> Result<Pro
 // Adds the entry of the item with this number, if it is a function.
 fn add_item(
     alloc: Global,
+    command: Command,
     source: &Source<'_>,
     so_far: Progress,
     number: u64,
@@ -76,20 +89,21 @@ fn add_item(
     requires sound { IsSound source.now }
     requires there { slice_get (items_in source.now) number ≡ Some (item_view item.now) }
     requires few { kind_arms (kind_view item.now.kind) < 2 ^ 32 }
-    ensures { (fs : List NumberedFunction) → ReportsOn (items_in source.now) fs so_far
-        → IfOk result (ReportsOn (items_in source.now) (fs ++ function_at number (kind_view item.now.kind))) }
+    ensures { (fs : List NumberedFunction) → ReportsOn command (items_in source.now) fs so_far
+        → IfOk result (ReportsOn command (items_in source.now) (fs ++ function_at number (kind_view item.now.kind))) }
 {
     match &item.kind {
         ItemKind::Enum(_) => Ok(so_far),
         ItemKind::Struct(_) => Ok(so_far),
         ItemKind::Import(_) => Ok(so_far),
-        ItemKind::Function(f) => add_function(alloc, source, so_far, number, f),
+        ItemKind::Function(f) => add_function(alloc, command, source, so_far, number, f),
     }
 }
 
 // Adds the entry of a function, the item with this number: its first broken rule, or what is found of it.
 fn add_function(
     alloc: Global,
+    command: Command,
     source: &Source<'_>,
     so_far: Progress,
     number: u64,
@@ -98,12 +112,12 @@ fn add_function(
     requires sound { IsSound source.now }
     requires there { StandsAt (items_in source.now) number (function_view f.now) }
     requires few { length f.now.arms.items < 2 ^ 32 }
-    ensures { (fs : List NumberedFunction) → ReportsOn (items_in source.now) fs so_far
-        → IfOk result (ReportsOn (items_in source.now) (fs ++ numbered number (function_view f.now) ∷ [])) }
+    ensures { (fs : List NumberedFunction) → ReportsOn command (items_in source.now) fs so_far
+        → IfOk result (ReportsOn command (items_in source.now) (fs ++ numbered number (function_view f.now) ∷ [])) }
 {
     match first_fault(alloc, source.table, Edition::E2024, number, f)? {
         Some(fault) => add_refused(so_far, f.name.as_str(), &refusal_of(number, &fault)),
-        None => add_judged(alloc, source, so_far, number, f),
+        None => add_judged(alloc, command, source, so_far, number, f),
     }
 }
 
@@ -122,18 +136,20 @@ fn refusal_of(number: u64, fault: &Fault) -> Refusal
 // Adds a function of this name that is refused.
 fn add_refused(so_far: Progress, name: &str, refusal: &Refusal) -> Result<Progress, NoMemory>
     requires { IsRule refusal.now.rule }
-    ensures { (items : List ItemTree) → (fs : List NumberedFunction) → (f : NumberedFunction)
-        → ReportsOn items fs so_far → IsEntry items f (RefusedFunction name.now refusal.now)
-        → IfOk result (ReportsOn items (fs ++ f ∷ [])) }
+    ensures { (command : Command) → (items : List ItemTree) → (fs : List NumberedFunction)
+        → (f : NumberedFunction) → ReportsOn command items fs so_far → IsEntry command items f (RefusedFunction name.now refusal.now)
+        → IfOk result (ReportsOn command items (fs ++ f ∷ [])) }
 {
     let Progress { text, .. } = so_far;
     let text = text.add_refused(name, refusal)?;
     Ok(Progress { text, clean: false })
 }
 
-// Adds a function that breaks no rule, with what is found of it. Its match goes with its arena before the next function.
+// Adds a function that breaks no rule, with what is found of it, and its tree where the command asks for it. Its match goes
+// with its arena before the next function.
 fn add_judged(
     alloc: Global,
+    command: Command,
     source: &Source<'_>,
     so_far: Progress,
     number: u64,
@@ -141,19 +157,22 @@ fn add_judged(
 ) -> Result<Progress, NoMemory>
     requires fine { IsFineFunction source.now number (function_view f.now) }
     requires few { length f.now.arms.items < 2 ^ 32 }
-    ensures { (fs : List NumberedFunction) → ReportsOn (items_in source.now) fs so_far
-        → IfOk result (ReportsOn (items_in source.now) (fs ++ numbered number (function_view f.now) ∷ [])) }
+    ensures { (fs : List NumberedFunction) → ReportsOn command (items_in source.now) fs so_far
+        → IfOk result (ReportsOn command (items_in source.now) (fs ++ numbered number (function_view f.now) ∷ [])) }
 {
     let arena = Bump::new(alloc);
     let placer = Placer::new(&arena);
     let m = match_of(alloc, source, &placer, number, f)?;
     let found = verdict_on(alloc, source, &m)?;
+    let tree = tree_of(alloc, command, source, &arena, &m)?;
     let unreachable = shown_entries(alloc, &found.unreachable)?;
     let witnesses = name_witnesses(alloc, source.table, m.ty, &found.witnesses)?;
+    let tree = named_tree(alloc, source.table, m.ty, &tree)?;
     let report = FnReport {
         name: f.name.as_str(),
         exhaustive: found.exhaustive,
         unreachable,
+        tree,
         witnesses,
     };
     add_report(so_far, &report)
@@ -161,9 +180,9 @@ fn add_judged(
 
 // Adds a function with what is reported of it.
 fn add_report(so_far: Progress, report: &FnReport<'_>) -> Result<Progress, NoMemory>
-    ensures { (items : List ItemTree) → (fs : List NumberedFunction) → (f : NumberedFunction)
-        → ReportsOn items fs so_far → IsEntry items f (JudgedFunction (report_view report.now))
-        → IfOk result (ReportsOn items (fs ++ f ∷ [])) }
+    ensures { (command : Command) → (items : List ItemTree) → (fs : List NumberedFunction)
+        → (f : NumberedFunction) → ReportsOn command items fs so_far → IsEntry command items f (JudgedFunction (report_view report.now))
+        → IfOk result (ReportsOn command items (fs ++ f ∷ [])) }
 {
     let Progress { text, clean } = so_far;
     let clean = both(clean, report.exhaustive);
@@ -179,8 +198,9 @@ fn both(before: bool, now: bool) -> bool
 
 // The whole report, from the entries of all functions.
 fn finished(entries: Progress) -> Result<Reported, NoMemory>
-    ensures { (items : List ItemTree) → BreaksNone items Endless → ReportsOn items (functions_of items) entries
-        → IfOk result (λ r. IsReported items r.text.items (status_of r.clean)) }
+    ensures { (command : Command) → (items : List ItemTree) → BreaksNone items Endless
+        → ReportsOn command items (functions_of items) entries
+        → IfOk result (λ r. IsReported command items r.text.items (status_of r.clean)) }
 {
     let Progress { text, clean } = entries;
     let text = text.finish()?;

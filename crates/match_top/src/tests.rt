@@ -44,7 +44,12 @@ type Row = (
 
 const CHECK: &[&str] = &["check", "a"];
 
-const ROWS: [Row; 19] = [
+const TREES: &[&str] = &["trees", "a"];
+
+const ROWS: [Row; 22] = [
+    (TREES, &[], 4096, &[], 3, NO_ITEM),
+    (&["trees"], &[], 4096, &[], 2, ""),
+    (&["Trees", "a"], &[], 4096, &[], 2, ""),
     (CHECK, &[], 4096, &[], 3, NO_ITEM),
     (CHECK, &[8], 4096, &[], 3, NO_ITEM),
     (&[], &[], 4096, &[], 2, ""),
@@ -201,6 +206,32 @@ fn sources_are_answered_as_far_as_the_sink_takes_them(rt: HostRuntime) -> Result
         let status = run(alloc, &words, &mut files, &mut sink);
         assert_eq!(rt; status.number(), row.3, "status of source {i}");
         assert_eq!(rt; sink.bytes(), row.4.as_bytes(), "written for source {i}");
+    }
+    Ok(())
+}
+
+const TREE_OF_TWO: &str = "{\"functions\":[{\"exhaustive\":false,\"name\":\"f\",\"overlaps\":[],\"tree\":[\
+    [\"switch\",\"$\",[[[\"variant\",\"E::A\"],1],[[\"variant\",\"E::B\"],2],[[\"else\"],3]]],\
+    [\"take\",0,[]],[\"take\",1,[]],[\"miss\"]],\"unreachable\":[],\
+    \"witnesses\":[{\"text\":\"E::C\",\"tree\":[\"node\",\"E::C\",[]]}]}]}\n";
+
+#[test]
+fn trees_are_shown_where_they_are_asked_for(rt: HostRuntime) -> Result<(), Fail> {
+    let alloc = rt.alloc();
+    let words = texts(alloc, TREES)?;
+    let mut files = one_file(alloc, TWO_OF_THREE.as_bytes(), &[])?;
+    let mut sink = MemorySink::new(alloc, 4096, 16, Vec::new(alloc))?;
+    assert_eq!(rt; run(alloc, &words, &mut files, &mut sink), Status::Found);
+    assert_eq!(rt; sink.bytes(), TREE_OF_TWO.as_bytes());
+    // The trees themselves stand in tests/sources/trees; here each call that a tree wants has the memory that it wants.
+    for (source, wanted) in [
+        (FORMS, Status::Found),
+        (OTHER_FORMS, Status::Clean),
+        (MANY_COLUMNS, Status::Clean),
+    ] {
+        let mut files = one_file(alloc, source.as_bytes(), &[])?;
+        let mut sink = MemorySink::new(alloc, 65_536, 4096, Vec::new(alloc))?;
+        assert_eq!(rt; run(alloc, &words, &mut files, &mut sink), wanted);
     }
     Ok(())
 }

@@ -5,21 +5,22 @@ ghost use Rattle.match_io.specs.Causes.{Rose};
 ghost use Rattle.match_top.specs.Answers.{Answers, most_taken};
 ghost use Rattle.match_top.specs.Reading.{HasTaken};
 ghost use Rattle.match_top.specs.Statuses.{IsVerdict};
-ghost use Rattle.match_top.specs.Words.{form_of};
+ghost use Rattle.match_top.specs.Words.{Form, form_of};
 ghost use Rattle.match_top.specs.Writing.{AppendsPart};
 ghost use Rattle.match_top.specs.declared.statuses.Status.{Status};
 
 use crate::Status;
 use crate::answering::answer_to;
 use crate::reading::{ReadError, read_source};
-use crate::words::file_word;
+use crate::words::asked_by;
 use crate::writing::write_text;
 use match_io::{Files, Sink};
 use std::alloc::Global;
 
 /// Does what the words ask for, and tells how it ended. The words are those of the command line without the program's
-/// name: `check FILE` writes the report on the functions of a file (the form is our own choice). The files and the sink
-/// may be used again afterwards: nothing is kept between calls.
+/// name: `check FILE` writes the report on the functions of a file, `trees FILE` the same with the decision tree of each
+/// function that is judged (the forms are our own choice). The files and the sink may be used again afterwards: nothing is
+/// kept between calls.
 pub fn run<F: Files, K: Sink>(
     alloc: Global,
     words: &[String],
@@ -34,14 +35,15 @@ pub fn run<F: Files, K: Sink>(
     // front.
     ensures holds { F.holds files.new ≡ F.holds files.old }
     ensures still_sure { F.sure files.old → F.sure files.new }
-    ensures few { (file bytes : List ℕ) → form_of words.now ≡ Some file → F.holds files.old file ≡ Some bytes
+    ensures few { (form : Form) → (bytes : List ℕ) → form_of words.now ≡ Some form
+        → F.holds files.old form.file ≡ Some bytes
         → (F.left files.new ≡ F.left files.old) ⊎ HasTaken most_taken bytes (F.left files.new) }
 
     // A fault comes only where a count rose.
     ensures counted { (F.faults files.old ≤ F.faults files.new) × (K.faults sink.old ≤ K.faults sink.new) }
     ensures read_fault { result ≡ Status.ReadFault → Rose (F.faults files.old) (F.faults files.new) }
-    ensures sure { (file : List ℕ) → form_of words.now ≡ Some file → F.sure files.old
-        → IsSome (F.holds files.old file) → result ≢ Status.ReadFault }
+    ensures sure { (form : Form) → form_of words.now ≡ Some form → F.sure files.old
+        → IsSome (F.holds files.old form.file) → result ≢ Status.ReadFault }
     ensures write_fault { result ≡ Status.WriteFault → Rose (K.faults sink.old) (K.faults sink.new) }
 
     // Where no count rose, the file is judged, or memory was refused.
@@ -52,28 +54,29 @@ pub fn run<F: Files, K: Sink>(
 
     // What is written: nothing, a front of the text, or the whole text of the whole file.
     ensures nothing { (result ≡ Status.ReadFault) ⊎ (result ≡ Status.NoMemory) → sink.new ≡ sink.old }
-    ensures part { result ≡ Status.WriteFault → (file bytes : List ℕ) → form_of words.now ≡ Some file
-        → F.holds files.old file ≡ Some bytes
-        → (text : List ℕ) × (status : Status) × Answers bytes text status
+    ensures part { result ≡ Status.WriteFault → (form : Form) → (bytes : List ℕ) → form_of words.now ≡ Some form
+        → F.holds files.old form.file ≡ Some bytes
+        → (text : List ℕ) × (status : Status) × Answers form.command bytes text status
         × AppendsPart (K.written sink.old) (K.written sink.new) text }
-    ensures whole { IsVerdict result → (file bytes : List ℕ) → form_of words.now ≡ Some file
-        → F.holds files.old file ≡ Some bytes
-        → (text : List ℕ) × Answers bytes text result
+    ensures whole { IsVerdict result → (form : Form) → (bytes : List ℕ) → form_of words.now ≡ Some form
+        → F.holds files.old form.file ≡ Some bytes
+        → (text : List ℕ) × Answers form.command bytes text result
         × Appends (K.written sink.old) (K.written sink.new) text }
 
     // Of a file of which nothing is told it is the whole text of some bytes.
-    ensures seen { IsVerdict result → (bytes : List ℕ) × (text : List ℕ) × Answers bytes text result
+    ensures seen { IsVerdict result → (form : Form) → form_of words.now ≡ Some form
+        → (bytes : List ℕ) × (text : List ℕ) × Answers form.command bytes text result
         × Appends (K.written sink.old) (K.written sink.new) text }
 {
-    let Some(file) = file_word(words) else {
+    let Some(asked) = asked_by(words) else {
         return Status::Words;
     };
-    let source = match read_source(alloc, files, file) {
+    let source = match read_source(alloc, files, asked.file) {
         Ok(source) => source,
         Err(ReadError::Failed) => return Status::ReadFault,
         Err(ReadError::NoMemory) => return Status::NoMemory,
     };
-    let Ok(answer) = answer_to(alloc, &source) else {
+    let Ok(answer) = answer_to(alloc, asked.command, &source) else {
         return Status::NoMemory;
     };
     match write_text(sink, &answer.text) {

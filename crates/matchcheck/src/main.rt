@@ -1,4 +1,5 @@
-//! The program: `matchcheck check FILE` judges the matches of a Rust source and writes the report as JSON.
+//! The program: `matchcheck check FILE` judges the matches of a Rust source and writes the report as JSON, `matchcheck trees
+//! FILE` with decision trees.
 //!
 //! It hands the words of the command line, the files and the standard output to `match_top::run`, and ends with the
 //! number of the status that comes back. It writes nothing else.

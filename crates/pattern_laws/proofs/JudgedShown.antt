@@ -176,7 +176,7 @@ one_shown type s f (a ∷ bs) (x ∷ ds) h (suc j) d e = one_shown type s f bs d
 module _ {T : Type 0} (type : T → MType) (is_type_s : T → Bool) (cy : Context T) (s : Setting) (f : FunctionTree)
     (m : MDeMatch T)
     (k : IsEngineMatch type is_type_s cy s f m) where
-  each : Each (λ d a. IsShownArm type s f a d) m.arms f.arms
+  pub each : Each (λ d a. IsShownArm type s f a d) m.arms f.arms
   each = shown_each type s f f.arms m.arms k.shown.count k.shown.arms
 
   shown_at : (d : MDeArm T) → Contains m.arms d → (a : ArmTree) × IsShownArm type s f a d
@@ -202,7 +202,7 @@ module _ {T : Type 0} (type : T → MType) (is_type_s : T → Bool) (cy : Contex
   sure_is : m.sure ≡ not (is_some f.deref)
   sure_is = k.shown.sure_is ∙ none_not f.deref
 
-  in_domain : (X : (MValue → Type 0) → Type 0) → X (λ v. IsTrue (is_value (program s) m.sure (type m.type) v)) →
+  pub in_domain : (X : (MValue → Type 0) → Type 0) → X (λ v. IsTrue (is_value (program s) m.sure (type m.type) v)) →
       X (Domain s f)
   in_domain X x =
       subst (λ b. X (λ v. IsTrue (is_value (program s) b (scrutinee_type s f) v))) sure_is

@@ -55,3 +55,10 @@ pub mod PlainUids
 pub mod MarksExist
 pub mod SomeVerdict
 pub mod MadeRanges
+pub mod SameSelection
+pub mod MovedRows
+pub mod MovedTrees
+pub mod MovedMatches
+pub mod MovedUids
+pub mod EngineTrees
+pub mod TableTrees

@@ -11,31 +11,8 @@ use Rattle.match_model.specs.Made.{IsMadePat, AreMadePats, AreArmsMade}
 use Rattle.match_model.specs.WellTyped.{uids_in, uids_in_all}
 use Rattle.pattern_rules.specs.ArenaForms.{all_within, all_below}
 use Rattle.pattern_rules.specs.Shown.{uid_under, settled, settled_all}
+use Rattle.pattern_laws.specs.NumberedMatch.{size, sizes, renumbered, all_renumbered, arms_renumbered}
 use Rattle.pattern_laws.proofs.TokenStanding.{Between, between_both}
-
-abbrev mutual
-  -- how many patterns it has, itself among them
-  pub size : {T : Type 0} → MDePat T → ℕ
-  size (de_pat c t uid at subs binds) = suc (sizes subs)
-
-  pub sizes : {T : Type 0} → MDePats T → ℕ
-  sizes no_de_pats = 0
-  sizes (more_de_pats p ps) = size p + sizes ps
-
-abbrev mutual
-  -- the pattern with uids from this one on, in reading order
-  pub renumbered : {T : Type 0} → ℕ → MDePat T → MDePat T
-  renumbered n (de_pat c t uid at subs binds) = de_pat c t n at (all_renumbered (suc n) subs) binds
-
-  pub all_renumbered : {T : Type 0} → ℕ → MDePats T → MDePats T
-  all_renumbered n no_de_pats = no_de_pats
-  all_renumbered n (more_de_pats p ps) = more_de_pats (renumbered n p) (all_renumbered (n + size p) ps)
-
--- the arms, one after the other
-abbrev pub arms_renumbered : {T : Type 0} → ℕ → List (MDeArm T) → List (MDeArm T)
-arms_renumbered n [] = []
-arms_renumbered n (a ∷ rest) = record { pat = renumbered n a.pat; guarded = a.guarded }
-    ∷ arms_renumbered (n + size a.pat) rest
 
 abbrev arms_size : {T : Type 0} → List (MDeArm T) → ℕ
 arms_size [] = 0

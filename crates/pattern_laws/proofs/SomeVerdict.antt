@@ -1,6 +1,5 @@
 -- Of each function that breaks no rule something is found.
 use Rattle.std.proofs.Common.{◌≡◌, ℕ, zero, suc, ◌+◌, ◌<◌, Bool, ◌&&◌, List, [], ◌∷◌, ◌++◌, length, map, Some, slice_get, IsTrue, refl, sym, ap, subst, ◌∙◌, arith}
-use Rattle.std.specs.Prelude.{is_none}
 use Rattle.std.specs.List.{Contains}
 use Rattle.std.proofs.lemmas.Option.{slice_get_within, get_or_from_slice_get}
 use Rattle.match_model.specs.declared.Mode.TheVariants.{Move}
@@ -32,12 +31,13 @@ use Rattle.pattern_rules.specs.ShownMatches.{IsSoundArm, elaborated_arm, IsShown
 use Rattle.pattern_rules.specs.Verdicts.{IsVerdictOn}
 use Rattle.pattern_rules.proofs.SameTypes.{both_left}
 use Rattle.pattern_laws.specs.JudgedLaws.{by_offset, IsEngineMatch, SomeVerdict}
+use Rattle.pattern_laws.specs.NumberedMatch.{size, renumbered, arms_renumbered, numbered_match}
 use Rattle.pattern_laws.proofs.ArmsKept.{arms_typed, arm_made}
 use Rattle.pattern_laws.proofs.Everywhere.{RangeHolds}
 use Rattle.pattern_laws.proofs.Everywhere as everywhere
 use Rattle.pattern_laws.proofs.TypedShown.{sub_is_type}
 use Rattle.pattern_laws.proofs.ParsedSound.{every_of}
-use Rattle.pattern_laws.proofs.Renumbered.{size, renumbered, arms_renumbered, uids_differ, arms_differ, settled_same, at_same, arms_made, Everywhere, every_both, types_same}
+use Rattle.pattern_laws.proofs.Renumbered.{uids_differ, arms_differ, settled_same, at_same, arms_made, Everywhere, every_both, types_same}
 use Rattle.pattern_laws.proofs.PlainUids.{standing_shown}
 use Rattle.pattern_laws.proofs.MarksExist.{marks_exist}
 use Rattle.pattern_laws.proofs.SomeJudged.{some_judged}
@@ -155,7 +155,7 @@ module _ (s : Setting) (f : FunctionTree) (sound : IsSoundProgram (program s))
   plain_arm a = record { pat = elaborated_arm s f a; guarded = a.guarded }
 
   abbrev whole : MDeMatch MType
-  whole = record { type = scrutinee_type s f; sure = is_none f.deref; arms = arms_renumbered 0 (map plain_arm f.arms) }
+  whole = numbered_match s f
 
   same_count : (n : ℕ) (bs : List ArmTree) → length (arms_renumbered n (map plain_arm bs)) ≡ length bs
   same_count n [] = refl
@@ -206,7 +206,7 @@ module _ (s : Setting) (f : FunctionTree) (sound : IsSoundProgram (program s))
   plain_made [] h = tt
   plain_made (a ∷ bs) h = (pat_made (elaborated_arm s f a) (arm_made s f a h.0), plain_made bs h.1)
 
-  engine : IsEngineMatch (λ t. t) (is_type (program s)) (rust_context (program s)) s f whole
+  pub engine : IsEngineMatch (λ t. t) (is_type (program s)) (rust_context (program s)) s f whole
   engine = record {
     sound = sound;
     view = same_view (program s) sound;

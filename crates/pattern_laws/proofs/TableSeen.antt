@@ -161,7 +161,7 @@ files_sound s table is = sound_file s table is
 -- ---- a match over a table
 
 module _ (table : TypeTable) (s : Setting) (f : FunctionTree) (m : MDeMatch TyId) (k : IsTableMatch table s f m) where
-  engine_match : IsEngineMatch (table_type table) (is_number_of table) (table_context table) s f m
+  pub engine_match : IsEngineMatch (table_type table) (is_number_of table) (table_context table) s f m
   engine_match = record {
     sound = sound_there table s.items s.width k.table_is;
     view = view_there table s.items s.width k.table_is;

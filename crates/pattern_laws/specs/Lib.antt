@@ -3,3 +3,5 @@ pub mod ShownLaws
 pub mod JudgedLaws
 pub mod TableLaws
 pub mod ParsedLaws
+pub mod NumberedMatch
+pub mod TreeLaws

@@ -4,6 +4,7 @@ ghost use Rattle.pattern_laws.specs.JudgedLaws.{JudgedShownMatch, ShownMatchIsWe
 ghost use Rattle.pattern_laws.specs.ParsedLaws.{FilesAreSound, ParsedArmsAreSound, ParsedFunctionsAreSpelled, TokensAreSpelled};
 ghost use Rattle.pattern_laws.specs.ShownLaws.{ShownArmIsTyped, ShownMatchIsKept, ShownNamesDiffer};
 ghost use Rattle.pattern_laws.specs.TableLaws.{JudgedTableMatch, TablesAreSeen, TabledFilesAreSound, TableMatchIsWellTyped};
+ghost use Rattle.pattern_laws.specs.TreeLaws.{TreeOfShownMatch, TreeOfTableMatch, TreeOnIsOne};
 
 /// The pattern that an arm's becomes has the ways that the written one means.
 pub fn ways_are_kept()
@@ -51,6 +52,16 @@ pub fn judged_shown_match<T>()
     ensures { JudgedShownMatch T }
 {}
 
+/// The decision tree of such a match is that of the function.
+pub fn tree_of_shown_match<T>()
+    ensures { TreeOfShownMatch T }
+{}
+
+/// A function has one decision tree at most.
+pub fn tree_is_one()
+    ensures { TreeOnIsOne }
+{}
+
 /// Of a function one thing alone is found.
 pub fn verdict_is_one()
     ensures { VerdictIsOne }
@@ -81,6 +92,11 @@ pub fn table_match_is_well_typed()
 /// What such a match is judged to be is what is found of the function.
 pub fn judged_table_match()
     ensures { JudgedTableMatch }
+{}
+
+/// The decision tree of such a match is that of the function.
+pub fn tree_of_table_match()
+    ensures { TreeOfTableMatch }
 {}
 
 /// The literals of a source's tokens are scalar values, bytes and texts.
@@ -117,5 +133,6 @@ mod tests {
         shown_arm_is_typed::<u32>();
         shown_match_is_well_typed::<u32>();
         judged_shown_match::<u32>();
+        tree_of_shown_match::<u32>();
     }
 }

@@ -20,10 +20,7 @@ pub enum NamedNode<'a> {
         no: u64,
     },
     /// Takes the arm, counted from 0.
-    Take {
-        arm: u32,
-        binds: &'a [Bind],
-    },
+    Take { arm: u32, binds: &'a [Bind] },
     /// No arm is left.
     Miss,
     /// There is no value to match.

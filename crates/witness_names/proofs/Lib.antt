@@ -3,4 +3,3 @@ pub mod Entered
 pub mod NamedCases
 pub mod PartLists
 mod Examples
-mod ExamplesTrees

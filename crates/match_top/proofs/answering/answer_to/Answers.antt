@@ -6,8 +6,8 @@ use Rattle.match_top.proofs.answering.answer_to.Goals as goal
 
 pub returns-then-is_too_long-clause-answers : goal.returns-then-is_too_long-clause-answers
 returns-then-is_too_long-clause-answers c =
-    let over : longest_source < length c.args.source.now = grind (arith, nat_tests) in refused_long _ _ over c.refused_at.ensures.answers
+    let over : longest_source < length c.args.source.now = grind (arith, nat_tests) in refused_long c.args.command _ _ over c.refused_at.ensures.answers
 
 pub returns-clause-answers : goal.returns-clause-answers
 returns-clause-answers c =
-    let fits : length c.args.source.now ≤ longest_source = grind (arith, nat_tests) in judged_short _ _ fits c.judged.ensures.answers
+    let fits : length c.args.source.now ≤ longest_source = grind (arith, nat_tests) in judged_short c.args.command _ _ fits c.judged.ensures.answers

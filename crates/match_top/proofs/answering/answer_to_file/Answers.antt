@@ -13,7 +13,7 @@ refused_in-requires c =
 pub returns-in-Err-Rule-clause-answers : goal.returns-in-Err-Rule-clause-answers
 returns-in-Err-Rule-clause-answers c =
     let fault : IsFirstFault (file_view c.args.file.now) Endless c.in-Err-Rule.rule c.in-Err-Rule.item c.in-Err-Rule.at = search rules in
-    declaration_answer (file_view c.args.file.now) _ _ _ _ fault c.refused_in.ensures.answers
+    declaration_answer c.args.command (file_view c.args.file.now) _ _ _ _ fault c.refused_in.ensures.answers
 
 pub returns-in-Ok-clause-answers : goal.returns-in-Ok-clause-answers
-returns-in-Ok-clause-answers c = report_answer (file_view c.args.file.now) _ c.reported.ensures.answers
+returns-in-Ok-clause-answers c = report_answer c.args.command (file_view c.args.file.now) _ c.reported.ensures.answers

@@ -7,9 +7,9 @@ use Rattle.match_top.proofs.answering.judged.Goals as goal
 pub returns-in-Ok-clause-answers : goal.returns-in-Ok-clause-answers
 returns-in-Ok-clause-answers c =
     let lexed : HasTokens c.args.source.now (tokens_view c.in-Ok.tokens.items) = search rules in
-    tokens_answer c.args.source.now (tokens_view c.in-Ok.tokens.items) _ lexed c.answer_to_tokens.ensures.answers
+    tokens_answer c.args.command c.args.source.now (tokens_view c.in-Ok.tokens.items) _ lexed c.answer_to_tokens.ensures.answers
 
 pub returns-in-Err-Rule-clause-answers : goal.returns-in-Err-Rule-clause-answers
 returns-in-Err-Rule-clause-answers c =
     let fault : HasFault c.args.source.now c.in-Err-Rule.rule c.in-Err-Rule.at = search rules in
-    fault_answer c.args.source.now _ _ _ fault c.refused_at.ensures.answers
+    fault_answer c.args.command c.args.source.now _ _ _ fault c.refused_at.ensures.answers

@@ -9,4 +9,4 @@ pub returns-clause-some : goal.returns-clause-some
 returns-clause-some c = some_entry_of c.walk_tells.ensures c.parsed_functions_are_spelled.ensures c.files_are_sound.ensures c.some_verdict.ensures
 
 pub returns-clause-one : goal.returns-clause-one
-returns-clause-one c = one_entry_of c.answer_is_one.ensures c.verdict_is_one.ensures
+returns-clause-one c = one_entry_of c.answer_is_one.ensures c.verdict_is_one.ensures c.tree_is_one.ensures

@@ -28,7 +28,7 @@ returns-in-Some c = λ fs h.
     let at = c.requires.there in
     let told : IsFirstPatternFault (setting_in x) (function_view c.args.f.now) c.in-Some.fault.rule c.in-Some.fault.arm c.in-Some.fault.at =
     rw c.in-Some.is at c.in_ok-fault.ensures.found (setting_in x) at.item c.requires.sound.table_is refl at.there at.is in
-    c.add_refused.ensures (items_in x) fs (numbered c.args.number (function_view c.args.f.now)) h
+    c.add_refused.ensures c.args.command (items_in x) fs (numbered c.args.number (function_view c.args.f.now)) h
     (is_refused (record {
       rule = c.in-Some.fault.rule;
       arm = c.in-Some.fault.arm;

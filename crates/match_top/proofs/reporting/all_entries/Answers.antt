@@ -16,6 +16,6 @@ add_item-requires-clause-few c = few_here c.args.items.now c.loop-number.number 
 
 pub loop-number-preserved : goal.loop-number-preserved
 loop-number-preserved c =
-    reports_more (items_in c.args.source.now) c.args.items.now c.loop-number.number c.index-items-number.result c.in_ok-so_far.so_far
+    reports_more c.args.command (items_in c.args.source.now) c.args.items.now c.loop-number.number c.index-items-number.result c.in_ok-so_far.so_far
     c.loop-number-test.true c.index-items-number.is
     (c.in_ok-so_far.ensures (functions_of (map item_view (take c.loop-number.number c.args.items.now))) c.loop-number.invariant)

@@ -3,7 +3,7 @@ use Rattle.match_top.specs.Reports.{status_of}
 use Rattle.match_top.proofs.reporting.finished.Goals as goal
 
 pub returns : goal.returns
-returns c items unbroken h = record {
+returns c command items unbroken h = record {
   unbroken = unbroken;
   entries = h.entries;
   each = h.each;

@@ -6,7 +6,7 @@ use Rattle.match_top.proofs.Answered.{taken_whole}
 use Rattle.match_top.proofs.top.run.Goals as goal
 
 pub returns-clause-part : goal.returns-clause-part
-returns-clause-part g c = λ _ file bytes form told.
+returns-clause-part g c = λ _ form bytes formed told.
     let same : c.deref.result.now ≡ taken bytes = search rules in
     let text : c.deref-2.result.now ≡ c.in-Ok-answer_to.answer.text.items = search rules in (
       c.in-Ok-answer_to.answer.text.items,

@@ -1,0 +1,9 @@
+use Rattle.pattern_arena.specs.Trees.{plain_match}
+use Rattle.match_top.specs.Reporting.{setting_in}
+use Rattle.match_top.proofs.Matches.{tree_for}
+use Rattle.match_top.proofs.trees.tree_of.Goals as goal
+
+pub lowered-requires-clause-typed : goal.lowered-requires-clause-typed
+lowered-requires-clause-typed c =
+    let x = c.args.source.now in
+    c.table_match_is_well_typed.ensures x.table.now (setting_in x) c.requires.shown.0 (plain_match c.args.m.now) c.requires.shown.1

@@ -1,0 +1,1 @@
+fn f(x:char){match x{'a'..='z'=>1,_=>2}}

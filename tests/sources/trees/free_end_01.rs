@@ -1,0 +1,1 @@
+fn f(x:usize){match x{5.. =>1,_=>2}}

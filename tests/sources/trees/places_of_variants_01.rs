@@ -1,0 +1,1 @@
+enum X{P,Q} enum Y{R,S} enum E{A(X),B(Y)} fn f(x:E){match x{E::A(X::P)|E::B(Y::R)=>1,_=>2}}

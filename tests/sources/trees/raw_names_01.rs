@@ -1,0 +1,1 @@
+enum E{r#in,B} fn f(x:E){match x{E::r#in=>1,E::B=>2}}

@@ -1,0 +1,1 @@
+fn f(x:&(u8,bool)){match x{(y,true)=>1,(_,false)=>2}}

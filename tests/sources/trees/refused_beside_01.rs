@@ -1,0 +1,1 @@
+enum E{A} fn f(x:E){match x{E::B=>1}} fn g(x:bool){match x{_=>1}}
