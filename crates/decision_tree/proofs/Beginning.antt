@@ -1,11 +1,11 @@
 -- How a switch begins, and steps that make no node.
 use Rattle.std.proofs.Common.{◌≡◌, ℕ, Bool, true, false, inl, inr, List, [], ◌∷◌, map, reverse, sym, ap, subst, ◌∙◌, append-nil, true≢false, slice_get, Some, IsTrue}
-use Rattle.std.specs.List.{list_any, Contains}
+use Rattle.std.specs.List.{list_any}
 use Rattle.match_model.specs.Values.{MValue}
 use Rattle.match_model.specs.ArenaPatterns.{MDeMatch}
 use Rattle.match_model.specs.Constructors.{MCtor}
 use Rattle.match_model.specs.Contexts.{Context}
-use Rattle.match_model.specs.DecisionTrees.{MTree, no_branch, is_switchless, IsMissing}
+use Rattle.match_model.specs.DecisionTrees.{MTree, no_branch, is_switchless}
 use Rattle.match_model.specs.FewestBranches.{IsFewest}
 use Rattle.match_model.specs.Keys.{Decision}
 use Rattle.match_model.specs.Lists.{Every, Each, Among}

@@ -16,7 +16,7 @@ use Rattle.keyed_rows.specs.Parting.{RowParted}
 use Rattle.keyed_steps.specs.Good.{IsGood}
 use Rattle.keyed_matrix.specs.First.{first_row}
 use Rattle.tree_laws.proofs.Matches.{first-good, arms-good}
-use Rattle.decision_tree.specs.Matrices.{matrix_columns, matrix_rows, IsGoodMatrix}
+use Rattle.decision_tree.specs.Matrices.{matrix_columns, matrix_rows}
 use Rattle.decision_tree.specs.Waiting.{IsTurn, Makes}
 use Rattle.decision_tree.specs.declared.frames.Frame.{Frame}
 use Rattle.decision_tree.specs.declared.frames.Matrix.{Matrix}

@@ -1,23 +1,22 @@
 -- What each turn of the lowering keeps.
-use Rattle.std.proofs.Common.{◌≡◌, ℕ, zero, suc, Bool, true, false, inl, inr, List, [], ◌∷◌, ◌++◌, map, reverse, refl, sym, ap, subst, ◌∙◌, append_assoc, append-nil, arith, slice_get, Option, Some, None, IsTrue}
+use Rattle.std.proofs.Common.{◌≡◌, ℕ, zero, suc, Bool, true, false, inl, inr, List, [], ◌∷◌, ◌++◌, map, reverse, refl, sym, ap, subst, ◌∙◌, append_assoc, append-nil, arith, slice_get, Some, IsTrue}
 use Rattle.std.proofs.lemmas.List.{map-append, reverse-append}
 use Rattle.std.specs.List.{All, filter_map}
 use Rattle.match_model.specs.Values.{MValue}
 use Rattle.match_model.specs.ArenaPatterns.{MDeMatch}
 use Rattle.match_model.specs.Constructors.{MCtor}
 use Rattle.match_model.specs.Contexts.{Context}
-use Rattle.match_model.specs.DecisionTrees.{MTree, SwitchTree, AskTree, TakeTree, MissTree, VoidTree, MBranches, no_branch, more_branches, row_binds, all_wild, is_switchless, case_of}
+use Rattle.match_model.specs.DecisionTrees.{MTree, SwitchTree, AskTree, TakeTree, MissTree, VoidTree, MBranches, no_branch, more_branches, row_binds, all_wild, case_of}
 use Rattle.match_model.specs.FewestBranches.{IsFewest}
 use Rattle.match_model.specs.Keys.{Decision}
 use Rattle.match_model.specs.Lists.{Every, Each}
-use Rattle.match_model.specs.Lowering.{Lowers, no_value_left, no_row_left, takes, asks, drops, opens, switches, Branches, with_else, no_case, one_case, ctors_at, all_wild_at}
-use Rattle.match_model.specs.Matrices.{MColumn, MRow, open_of, part_columns, first_matrix}
-use Rattle.match_model.specs.Pieces.{ArePieces}
+use Rattle.match_model.specs.Lowering.{no_value_left, no_row_left, takes, asks, switches, Branches, with_else, no_case, one_case, ctors_at}
+use Rattle.match_model.specs.Matrices.{MColumn, MRow, open_of, part_columns}
 use Rattle.match_model.specs.PieceStates.{named_in}
 use Rattle.match_model.specs.Places.{MStep}
 use Rattle.match_model.specs.RowOrder.{AreInOrder}
 use Rattle.match_model.specs.SharedTrees.{WalksAll, last_first, case_trees}
-use Rattle.match_model.specs.Steps.{expand_head, specialise_head, default_head, rows_at, replaced_at}
+use Rattle.match_model.specs.Steps.{specialise_head, rows_at, replaced_at}
 use Rattle.match_model.specs.Trees.{MBind, MCase, ElseCase, MBranch}
 use Rattle.constructor_sets.specs.Columns.{IsState, plain_ctors}
 use Rattle.constructor_sets.specs.Present.{present_piece}
@@ -35,7 +34,7 @@ use Rattle.decision_tree.specs.declared.frames.Looked.{Looked}
 use Rattle.decision_tree.specs.declared.frames.Matrix.{Matrix}
 use Rattle.decision_tree.specs.declared.frames.Turn.TheVariants.{Finished, Done}
 use Rattle.decision_tree.specs.Matrices.{matrix_columns, matrix_rows}
-use Rattle.decision_tree.specs.Waiting.{IsBare, Makes, Leads, AreDone, IsLooked, IsElseNext, IsPieceNext, Awaits, IsLeft, IsTurn}
+use Rattle.decision_tree.specs.Waiting.{IsBare, Makes, Leads, IsLooked, IsElseNext, IsPieceNext, Awaits, IsLeft, IsTurn}
 
 pub all-every : {A : Type 0} (P : A → Type 0) (xs : List A) → All P xs → Every P xs
 all-every P [] h = tt

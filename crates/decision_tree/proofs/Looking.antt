@@ -1,20 +1,19 @@
 -- What the code asks of the column that is looked at.
-use Rattle.std.proofs.Common.{◌≡◌, ◌<◌, ℕ, Bool, true, false, ◌&&◌, List, [], ◌∷◌, map, length, get_or, Option, Some, slice_get, refl, sym, ap, ◌∙◌, subst, arith, IsTrue}
+use Rattle.std.proofs.Common.{◌≡◌, ◌<◌, ℕ, Bool, true, List, [], ◌∷◌, map, length, get_or, Some, slice_get, refl, sym, ap, ◌∙◌, subst, arith, IsTrue}
 use Rattle.std.specs.List.{All}
 use Rattle.std.proofs.lemmas.List.{length-map}
 use Rattle.std.proofs.lemmas.Option.{slice_get_within}
 use Rattle.match_model.specs.Values.{MValue}
-use Rattle.match_model.specs.Constructors.{MCtor, MSet, SingleSet, PointSet, TextSet, FlagSet, OpaqueSet, NothingSet, VariantSet, NumberSet, RowSet, belongs}
+use Rattle.match_model.specs.Constructors.{MCtor, MSet, SingleSet, PointSet, TextSet, FlagSet, OpaqueSet, NothingSet, VariantSet, NumberSet, RowSet}
 use Rattle.match_model.specs.Contexts.{Context}
 use Rattle.match_model.specs.ContextLaws.{ValuesLaw}
 use Rattle.match_model.specs.DecisionTrees.{is_switchless}
 use Rattle.match_model.specs.Keys.{Decision}
 use Rattle.match_model.specs.Lowering.{ctors_at}
-use Rattle.match_model.specs.Matrices.{MColumn, MRow, part_columns}
+use Rattle.match_model.specs.Matrices.{MColumn, part_columns}
 use Rattle.match_model.specs.Pieces.{ArePieces}
 use Rattle.match_model.specs.RowOrder.{AreInOrder}
 use Rattle.match_model.specs.Steps.{expand_head, specialise_head, default_head, rows_at, replaced_at}
-use Rattle.match_model.specs.WellTyped.{is_written}
 use Rattle.match_model.proofs.Basics.{untrue}
 use Rattle.constructor_sets.specs.Columns.{is_head, plain_piece}
 use Rattle.constructor_sets.specs.Present.{is_sharp_head}

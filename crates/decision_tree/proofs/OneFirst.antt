@@ -1,5 +1,5 @@
 -- Of any two rows that a step makes one comes first.
-use Rattle.std.proofs.Common.{◌≡◌, ◌⊎◌, inl, inr, ℕ, List, [], ◌∷◌, map, refl, sym, subst}
+use Rattle.std.proofs.Common.{◌≡◌, inl, inr, ℕ, List, [], ◌∷◌, map, refl, sym, subst}
 use Rattle.match_model.specs.Keys.{Decision, both_keys, IsBefore}
 use Rattle.match_model.specs.Lists.{Every, Ordered, Among}
 use Rattle.match_model.specs.Matrices.{MRow}
@@ -10,7 +10,7 @@ use Rattle.match_model.specs.Steps.{Replacement, replacements_at, row_replaced, 
 use Rattle.keyed_rows.specs.Dividing.{AreFree, GoodAt, Divides, replacement_key}
 use Rattle.keyed_rows.specs.Parting.{IsParted, RowParted}
 use Rattle.keyed_rows.proofs.Lists.{every-append, ordered-append, ordered-map}
-use Rattle.keyed_rows.proofs.Parting.{StillEither, row-divided, rows-parted, among-every, among-map}
+use Rattle.keyed_rows.proofs.Parting.{StillEither, row-divided, rows-parted, among-map}
 use Rattle.keyed_rows.proofs.RowOrder.{every-among, key-of-row}
 use Rattle.keyed_matrix.specs.Turns.{IsOneFirst}
 

@@ -1,8 +1,8 @@
 -- What typed rows have at a column.
-use Rattle.std.proofs.Common.{◌≡◌, ◌<◌, ℕ, zero, suc, Bool, true, false, ◌&&◌, List, [], ◌∷◌, inl, inr, map, length, Some, None, slice_get, refl, sym, ap, ◌∙◌, subst, arith, IsTrue}
+use Rattle.std.proofs.Common.{◌≡◌, ◌<◌, ℕ, zero, suc, List, [], ◌∷◌, inl, inr, map, length, Some, None, slice_get, refl, sym, ap, ◌∙◌, subst, arith, IsTrue}
 use Rattle.std.specs.List.{All}
 use Rattle.match_model.specs.ArenaPatterns.{de_pat}
-use Rattle.match_model.specs.Constructors.{MCtor, MSet, SingleCtor, PointCtor, LaterCtor, OtherTextCtor, WildCtor, OrCtor, VariantCtor, FlagCtor, NumbersCtor, TextCtor, RowCtor, belongs}
+use Rattle.match_model.specs.Constructors.{MCtor, MSet, SingleCtor, PointCtor, LaterCtor, OtherTextCtor, WildCtor, OrCtor, VariantCtor, FlagCtor, NumbersCtor, TextCtor, RowCtor}
 use Rattle.match_model.specs.Contexts.{Context}
 use Rattle.match_model.specs.Keys.{Decision}
 use Rattle.match_model.specs.Lists.{Every, Among}
@@ -11,7 +11,7 @@ use Rattle.match_model.specs.Matrices.{MColumn, MRow}
 use Rattle.match_model.specs.Places.{MStep}
 use Rattle.match_model.specs.Rows.{Head, first_ctor, choices_of}
 use Rattle.match_model.specs.Steps.{Replacement, with_head, with_others, expand_head, replacements_at, replaced_at, row_replaced, rows_at}
-use Rattle.match_model.specs.WellTyped.{is_written, IsTyped, IsHeadTyped, AreHeadsTyped}
+use Rattle.match_model.specs.WellTyped.{IsTyped, IsHeadTyped, AreHeadsTyped}
 use Rattle.constructor_sets.specs.Present.{is_sharp_head}
 use Rattle.keyed_rows.proofs.Lists.{every-to}
 use Rattle.keyed_rows.proofs.Parting.{among-every, among-map}

@@ -1,4 +1,4 @@
-// The steps of a matrix at a column, after each of which the rows are in order. Rows that a step keeps are in order
+// The steps of a matrix at a column, after each of which the rows are in order again. Rows that a step keeps are in order
 // still; only rows whose or-patterns are taken apart are sorted.
 ghost use Rattle.std.specs.Prelude.{◌<◌, length, IfOk};
 ghost use Rattle.pat_context.specs.Views.{plain_ctor};

@@ -1,13 +1,10 @@
-use Rattle.std.proofs.Common.{◌≡◌, ◌<◌, ◌+◌, ◌∙◌, ℕ, length, slice_get, Some, sym, ap, subst, arith}
+use Rattle.std.proofs.Common.{◌≡◌, ◌+◌, ◌∙◌, length, sym, ap, subst, arith}
 use Rattle.std.proofs.lemmas.List.{length-map}
 use Rattle.std.specs.List.{All}
 use Rattle.match_model.specs.FewestBranches.{AreBranches}
-use Rattle.match_model.specs.Lowering.{ctors_at, all_wild_at}
-use Rattle.match_model.specs.Matrices.{MRow}
-use Rattle.match_model.specs.Steps.{expand_head, rows_at}
+use Rattle.match_model.specs.Lowering.{ctors_at}
 use Rattle.pat_context.specs.Views.{plain_ctor}
 use Rattle.constructor_sets.specs.Columns.{plain_ctors}
-use Rattle.keyed_matrix.specs.Steps.{AreLonger}
 use Rattle.keyed_matrix.specs.Views.{plain_column, plain_columns, plain_rows}
 use Rattle.keyed_steps.proofs.Standing.{column-at}
 use Rattle.decision_tree.proofs.CountingCases.{more_missing, no-branches, found-branches}

@@ -1,4 +1,4 @@
-use Rattle.std.proofs.Common.{◌≡◌, ◌<◌, ◌+◌, ◌∙◌, false, true, drop, get_or, length, sym, subst, arith, IsTrue}
+use Rattle.std.proofs.Common.{◌≡◌, ◌<◌, ◌+◌, ◌∙◌, false, drop, get_or, length, sym, subst, arith, IsTrue}
 use Rattle.std.proofs.lemmas.List.{length-map}
 use Rattle.match_model.specs.FewestBranches.{is_asked}
 use Rattle.keyed_matrix.specs.Views.{plain_column, plain_columns, plain_head, plain_row, plain_rows}

@@ -1,4 +1,4 @@
-use Rattle.std.proofs.Common.{◌≡◌, [], reverse, sym, subst}
+use Rattle.std.proofs.Common.{reverse, sym, subst}
 use Rattle.pattern_arena.specs.Trees.{plain_match}
 use Rattle.pattern_arena.proofs.Held.{arms_made}
 use Rattle.keyed_matrix.specs.Deciding.{table_decides}

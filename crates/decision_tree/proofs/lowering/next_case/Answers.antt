@@ -1,4 +1,4 @@
-use Rattle.std.proofs.Common.{◌≡◌, ◌∙◌, reverse, subst, refl, sym, ap, map, length, arith}
+use Rattle.std.proofs.Common.{◌∙◌, reverse, subst, refl, sym, ap, map, length, arith}
 use Rattle.indexmap.proofs.ReorderLemmas.{map-reverse}
 use Rattle.pat_context.specs.Places.{steps_of}
 use Rattle.pat_context.specs.Views.{plain_ctor, plain_place}

@@ -1,4 +1,4 @@
-use Rattle.std.proofs.Common.{◌∷◌, ◌++◌, ◌∙◌, [], reverse, subst, sym, ap, map}
+use Rattle.std.proofs.Common.{◌∷◌, ◌++◌, ◌∙◌, [], reverse, subst, sym, ap}
 use Rattle.constructor_sets.specs.Columns.{plain_ctors}
 use Rattle.keyed_matrix.specs.Deciding.{table_decides}
 use Rattle.tree_eval.specs.Nodes.{plain_branch}

@@ -1,4 +1,4 @@
-use Rattle.std.proofs.Common.{◌≡◌, ◌<◌, ◌∙◌, length, slice_get, Some, refl, sym, ap, subst, arith}
+use Rattle.std.proofs.Common.{◌∙◌, refl, sym, ap, subst, arith}
 use Rattle.std.proofs.lemmas.List.{length-map}
 use Rattle.match_model.specs.Lists.{Ordered}
 use Rattle.match_model.specs.RowOrder.{AreInOrder}
@@ -6,7 +6,7 @@ use Rattle.match_model.specs.Steps.{expand_head, rows_at}
 use Rattle.keyed_matrix.specs.Deciding.{table_decides}
 use Rattle.keyed_matrix.specs.Steps.{AreLonger}
 use Rattle.keyed_matrix.specs.Turns.{IsOneFirst}
-use Rattle.keyed_matrix.specs.Views.{plain_column, plain_columns, plain_rows}
+use Rattle.keyed_matrix.specs.Views.{plain_column, plain_rows}
 use Rattle.decision_tree.specs.Matrices.{matrix_columns, matrix_rows}
 use Rattle.decision_tree.proofs.Reading.{read-map}
 use Rattle.decision_tree.proofs.Stepping.{longer-good, expanded-first, expanded-ready, expanded-parted}

@@ -1,4 +1,4 @@
-use Rattle.std.proofs.Common.{[], subst}
+use Rattle.std.proofs.Common.{subst}
 use Rattle.match_model.specs.DecisionTrees.{VoidTree}
 use Rattle.match_model.specs.SharedTrees.{Walks}
 use Rattle.tree_eval.specs.Nodes.{tree_nodes}
