@@ -1,5 +1,6 @@
 pub mod Answered
 pub mod Entries
+pub mod Forms
 pub mod Fronts
 pub mod Going
 pub mod Judged

@@ -38,11 +38,7 @@ pub(crate) struct Answer {
 }
 
 /// What the command has for a file of which these bytes were taken.
-pub(crate) fn answer_to(
-    alloc: Global,
-    command: Command,
-    source: &[u8],
-) -> Result<Answer, NoMemory>
+pub(crate) fn answer_to(alloc: Global, command: Command, source: &[u8]) -> Result<Answer, NoMemory>
     ensures answers { IfOk result (λ a. (bytes : List ℕ) → source.now ≡ taken bytes
         → Answers command bytes a.text.items a.status) }
     ensures verdict { IfOk result (λ a. IsVerdict a.status) }
@@ -75,11 +71,7 @@ fn judged(alloc: Global, command: Command, source: &[u8]) -> Result<Answer, NoMe
 }
 
 // The answer to the tokens of a source: the answer to the file that they spell, or else their fault.
-fn answer_to_tokens(
-    alloc: Global,
-    command: Command,
-    tokens: Vec<Token>,
-) -> Result<Answer, NoMemory>
+fn answer_to_tokens(alloc: Global, command: Command, tokens: Vec<Token>) -> Result<Answer, NoMemory>
     requires few { length tokens.items ≤ longest_source }
     requires lexed { (source : List ℕ) × HasTokens source (tokens_view tokens.items) }
     ensures answers { IfOk result (λ a. IsAnswerToTokens command (tokens_view tokens.items) a.text.items a.status) }

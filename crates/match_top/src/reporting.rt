@@ -137,7 +137,8 @@ fn refusal_of(number: u64, fault: &Fault) -> Refusal
 fn add_refused(so_far: Progress, name: &str, refusal: &Refusal) -> Result<Progress, NoMemory>
     requires { IsRule refusal.now.rule }
     ensures { (command : Command) → (items : List ItemTree) → (fs : List NumberedFunction)
-        → (f : NumberedFunction) → ReportsOn command items fs so_far → IsEntry command items f (RefusedFunction name.now refusal.now)
+        → (f : NumberedFunction) → ReportsOn command items fs so_far
+        → IsEntry command items f (RefusedFunction name.now refusal.now)
         → IfOk result (ReportsOn command items (fs ++ f ∷ [])) }
 {
     let Progress { text, .. } = so_far;
@@ -181,7 +182,8 @@ fn add_judged(
 // Adds a function with what is reported of it.
 fn add_report(so_far: Progress, report: &FnReport<'_>) -> Result<Progress, NoMemory>
     ensures { (command : Command) → (items : List ItemTree) → (fs : List NumberedFunction)
-        → (f : NumberedFunction) → ReportsOn command items fs so_far → IsEntry command items f (JudgedFunction (report_view report.now))
+        → (f : NumberedFunction) → ReportsOn command items fs so_far
+        → IsEntry command items f (JudgedFunction (report_view report.now))
         → IfOk result (ReportsOn command items (fs ++ f ∷ [])) }
 {
     let Progress { text, clean } = so_far;

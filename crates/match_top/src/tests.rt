@@ -210,7 +210,8 @@ fn sources_are_answered_as_far_as_the_sink_takes_them(rt: HostRuntime) -> Result
     Ok(())
 }
 
-const TREE_OF_TWO: &str = "{\"functions\":[{\"exhaustive\":false,\"name\":\"f\",\"overlaps\":[],\"tree\":[\
+const TREE_OF_TWO: &str =
+    "{\"functions\":[{\"exhaustive\":false,\"name\":\"f\",\"overlaps\":[],\"tree\":[\
     [\"switch\",\"$\",[[[\"variant\",\"E::A\"],1],[[\"variant\",\"E::B\"],2],[[\"else\"],3]]],\
     [\"take\",0,[]],[\"take\",1,[]],[\"miss\"]],\"unreachable\":[],\
     \"witnesses\":[{\"text\":\"E::C\",\"tree\":[\"node\",\"E::C\",[]]}]}]}\n";

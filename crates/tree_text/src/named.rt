@@ -20,7 +20,10 @@ pub enum NamedNode<'a> {
         no: u64,
     },
     /// Takes the arm, counted from 0.
-    Take { arm: u32, binds: &'a [Bind] },
+    Take {
+        arm: u32,
+        binds: &'a [Bind],
+    },
     /// No arm is left.
     Miss,
     /// There is no value to match.

@@ -19,15 +19,13 @@ use no_memory::NoMemory;
 use pat_context::Place;
 use std::alloc::{AllocError, Global};
 use tree_eval::Bind;
-use witness_text::{form_name, push_comma, push_flag, push_one_text, push_quoted, push_range, FormName};
+use witness_text::{
+    FormName, form_name, push_comma, push_flag, push_one_text, push_quoted, push_range,
+};
 
 /// Adds the nodes of a tree to a report, in brackets and with commas between them; a node's number is its index. The only
 /// error is want of memory; the text may then end within the tree.
-pub fn push_tree(
-    alloc: Global,
-    text: &mut String,
-    nodes: &[NamedNode<'_>],
-) -> Result<(), NoMemory>
+pub fn push_tree(alloc: Global, text: &mut String, nodes: &[NamedNode<'_>]) -> Result<(), NoMemory>
     ensures { OnOk result (string_bytes text.new
         ≡ string_bytes text.old ++ compact_text (tree_data (map node_view nodes.now))) }
 {
@@ -36,11 +34,7 @@ pub fn push_tree(
 }
 
 // Adds the nodes with commas between them, and the bracket that closes them.
-fn push_nodes(
-    alloc: Global,
-    text: &mut String,
-    nodes: &[NamedNode<'_>],
-) -> Result<(), AllocError>
+fn push_nodes(alloc: Global, text: &mut String, nodes: &[NamedNode<'_>]) -> Result<(), AllocError>
     ensures { OnOk result (string_bytes text.new
         ≡ string_bytes text.old ++ items_text false (items_of (map node_data (map node_view nodes.now)))) }
 {
@@ -108,12 +102,7 @@ fn push_ask(
 }
 
 // Adds an arm that is taken.
-fn push_take(
-    alloc: Global,
-    text: &mut String,
-    arm: u32,
-    binds: &[Bind],
-) -> Result<(), AllocError>
+fn push_take(alloc: Global, text: &mut String, arm: u32, binds: &[Bind]) -> Result<(), AllocError>
     ensures { OnOk result (string_bytes text.new
         ≡ string_bytes text.old ++ compact_text (node_data (OfTake arm (map plain_bind binds.now)))) }
 {
@@ -161,11 +150,7 @@ fn push_branches(
 }
 
 // Adds a case with the number where it goes on.
-fn push_branch(
-    alloc: Global,
-    text: &mut String,
-    branch: &NamedBranch<'_>,
-) -> Result<(), AllocError>
+fn push_branch(alloc: Global, text: &mut String, branch: &NamedBranch<'_>) -> Result<(), AllocError>
     ensures { OnOk result (string_bytes text.new
         ≡ string_bytes text.old ++ compact_text (branch_data (branch_view branch.now))) }
 {

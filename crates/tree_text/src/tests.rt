@@ -13,7 +13,8 @@ const GUARD: &str = "[[\"switch\",\"$\",[[[\"flag\",true],1],[[\"else\"],2]]],[\
 [\"take\",1,[[\"y\",\"move\",\"$\"]]]]";
 
 // Every other case and node, every step of a place, and every way to bind.
-const FORMS: &str = "[[\"switch\",\"$*.1[0][-1]\",[[[\"variant\",\"E::r#in\"],1],[[\"range\",null,\"-5\"],2],\
+const FORMS: &str =
+    "[[\"switch\",\"$*.1[0][-1]\",[[[\"variant\",\"E::r#in\"],1],[[\"range\",null,\"-5\"],2],\
 [[\"text\",\"a\\\"\"],2],[[\"length\",0],2],[[\"longer\",1,2],2]]],\
 [\"ask\",0,[[\"in\",\"ref\",\"$[1..-2]\"],[\"x\",\"ref mut\",\"$\"]],2],[\"miss\"],[\"void\"]]";
 

@@ -1,14 +1,17 @@
 -- The type of the part that a step enters.
-use Rattle.std.proofs.Common.{◌≡◌, ◌∙◌, ap, sym, refl, ℕ, zero, suc, ◌<◌, ◌≤◌, Bool, true, false, List, [], ◌∷◌, length, Option, Some, None, slice_get, ◌+◌, arith, ◌⊎◌, inl, inr}
+use Rattle.std.proofs.Common.{◌≡◌, ◌∙◌, ap, sym, refl, ℕ, zero, suc, ◌<◌, ◌≤◌, Bool, true, false, List, [], ◌∷◌, length, Option, Some, None, slice_get, get_or, drop, ◌+◌, arith, ◌⊎◌, inl, inr}
 use Rattle.std.specs.Prelude.{option_map, ◌&&◌, nat_lt, nat_le}
 use Rattle.std.proofs.lemmas.Bool.Decides.{nat_tests}
-use Rattle.match_model.specs.Types.{MOwner, DeclaredItem, OptionOwner, ResultOwner, MType, BoolType, CharType, StrType, NeverType, IntType, OpaqueType, TupleType, PointType, SliceType, ArrayType, NamedType, MTypes, no_types, more_types, types_list}
-use Rattle.match_model.specs.Constructors.{LongerShape, MShape, RowCtor, PointCtor, MSet, SingleSet, PointSet, FlagSet, TextSet, OpaqueSet, NothingSet, VariantSet, NumberSet, RowSet, MCtor, SingleCtor, VariantCtor, belongs}
-use Rattle.match_model.specs.Numbers.{MRange, numbers_of}
-use Rattle.match_model.specs.Declarations.{MVariant, MItem, StructItem, EnumItem, OtherItem, MProgram, node_types, item_types, variants_of, variant_types, form_types, some_variants, result_variants, none_variant, item_variants}
-use Rattle.match_model.specs.OfType.{node_ctor, type_entered, type_at_place}
-use Rattle.match_model.specs.Places.{MStep, ThroughStep, FieldStep, FrontStep, BackStep, MiddleStep}
-use Rattle.match_model.specs.RustTypes.{count_of_types, type_or, part_type, rust_set, number_set, item_set, enum_set, rust_arity, rust_sub, rust_context}
+use Rattle.match_model.specs.Types.{DeclaredItem, OptionOwner, ResultOwner, MType, BoolType, CharType, StrType, NeverType, IntType, OpaqueType, TupleType, PointType, SliceType, ArrayType, NamedType, MTypes, no_types, more_types, types_list}
+use Rattle.match_model.specs.Constructors.{LongerShape, MShape, RowCtor, PointCtor, MSet, SingleSet, PointSet, FlagSet, TextSet, OpaqueSet, NothingSet, VariantSet, NumberSet, RowSet, belongs}
+use Rattle.match_model.specs.Declarations.{MVariant, MItem, StructItem, EnumItem, OtherItem, MProgram, node_types, variant_types, some_variants, result_variants, none_variant, item_variants}
+use Rattle.match_model.specs.OfType.{node_ctor, type_at_place}
+use Rattle.match_model.specs.Places.{MStep, ThroughStep, FieldStep, FrontStep, BackStep}
+use Rattle.match_model.specs.RustTypes.{count_of_types, type_or, part_type, rust_set, item_set, rust_arity, rust_sub, rust_context}
+use Rattle.std.proofs.lemmas.List.{drop_all}
+use Rattle.std.proofs.Math.Seq.{drop-cons}
+use Rattle.pat_context.specs.declared.place.Step.{Step}
+use Rattle.pat_context.specs.Views.{plain_place, plain_step}
 use Rattle.type_table.specs.Tables.{part_of}
 use Rattle.witness_names.specs.Lookups.{behind_step, item_behind, pointed}
 
@@ -198,3 +201,27 @@ first_step program t u s steps e = ap (λ o. elim o [ None ↦ None | Some w ↦
 pub no_step : (program : MProgram) (t : MType) (s : MStep) (steps : List MStep) → behind_step program t s ≡ None →
     type_at_place (rust_context program) t (s ∷ steps) ≡ None
 no_step program t s steps e = ap (λ o. elim o [ None ↦ None | Some w ↦ type_at_place (rust_context program) w steps ]) e
+
+-- the same where the place is gone along up to a step
+pub step_on : (program : MProgram) (t u : MType) (all : Option MType) (steps : List Step) (i : ℕ) (d : Step) → i < length steps →
+    Some u ≡ behind_step program t (plain_step (get_or steps i d)) →
+    type_at_place (rust_context program) t (plain_place (drop i steps)) ≡ all →
+    type_at_place (rust_context program) u (plain_place (drop (i + 1) steps)) ≡ all
+step_on program t u all steps i d h e k =
+    let next : suc i ≡ i + 1 = omega arith in
+    let first : drop i steps ≡ get_or steps i d ∷ drop (suc i) steps = drop-cons steps i d h in
+    ap (λ n. type_at_place (rust_context program) u (plain_place (drop n steps))) (sym next)
+    ∙ sym (first_step program t u (plain_step (get_or steps i d)) (plain_place (drop (suc i) steps)) (sym e))
+    ∙ ap (λ l. type_at_place (rust_context program) t (plain_place l)) (sym first) ∙ k
+
+pub step_off : (program : MProgram) (t : MType) (all : Option MType) (steps : List Step) (i : ℕ) (d : Step) → i < length steps →
+    None ≡ behind_step program t (plain_step (get_or steps i d)) →
+    type_at_place (rust_context program) t (plain_place (drop i steps)) ≡ all → None ≡ all
+step_off program t all steps i d h e k =
+    let first : drop i steps ≡ get_or steps i d ∷ drop (suc i) steps = drop-cons steps i d h in
+    sym (no_step program t (plain_step (get_or steps i d)) (plain_place (drop (suc i) steps)) (sym e))
+    ∙ ap (λ l. type_at_place (rust_context program) t (plain_place l)) (sym first) ∙ k
+
+pub steps_end : (program : MProgram) (t : MType) (all : Option MType) (steps : List Step) (i : ℕ) → length steps ≤ i →
+    type_at_place (rust_context program) t (plain_place (drop i steps)) ≡ all → Some t ≡ all
+steps_end program t all steps i h k = ap (λ l. type_at_place (rust_context program) t (plain_place l)) (sym (drop_all i steps h)) ∙ k

@@ -3,3 +3,4 @@ pub mod Entered
 pub mod NamedCases
 pub mod PartLists
 mod Examples
+mod ExamplesTrees

@@ -4,7 +4,6 @@ use Rattle.std.specs.Prelude.{◌||◌, option_map}
 use Rattle.match_model.specs.Declarations.{MVariant, MProgram}
 use Rattle.match_model.specs.Trees.{MCase, VariantCase, FlagCase, SpanCase, TextCase, LengthCase, LongerCase, ElseCase, MBranch}
 use Rattle.match_model.specs.Types.{MType}
-use Rattle.tree_text.specs.Trees.{BranchTree}
 use Rattle.witness_text.specs.Trees.{NameTree}
 use Rattle.type_names.specs.declared.meanings.FormKind.{FormKind}
 use Rattle.witness_names.specs.Named.{form_name}

@@ -88,13 +88,7 @@ fn item_type(table: &TypeTable, ty: TyId, others: u64) -> Option<TyId>
 {
     match table.kind(ty) {
         TyKind::Slice(item) => Some(item),
-        TyKind::Array(item, len) => {
-            if others < len {
-                Some(item)
-            } else {
-                None
-            }
-        }
+        TyKind::Array(item, len) => { if others < len { Some(item) } else { None } }
         _ => None,
     }
 }

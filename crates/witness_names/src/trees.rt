@@ -73,12 +73,7 @@ fn name_node<'t>(
 }
 
 // The type at the place of a switch, where one of the cases is a variant and so wants it.
-fn type_of_cases(
-    table: &TypeTable,
-    ty: TyId,
-    place: &Place,
-    cases: &[(Case, u64)],
-) -> Option<TyId>
+fn type_of_cases(table: &TypeTable, ty: TyId, place: &Place, cases: &[(Case, u64)]) -> Option<TyId>
     requires of { IsOf table.now ty }
     ensures of { IfSome result (IsOf table.now) }
     ensures names { map (named_branch (table_program table.now) (option_map (table_type table.now) result))

@@ -9,4 +9,4 @@ abbrev pub invariant-loop-step : goal.invariant-loop-step
 invariant-loop-step l =
     IsOf l.table l.at
     × (type_at_place (rust_context (table_program l.table)) (table_type l.table l.at) (plain_place (drop l.step-index l.steps))
-    ≡ type_at_place (rust_context (table_program l.table)) (table_type l.table l.ty) (plain_place l.steps))
+    ≡ type_at_place (rust_context (table_program l.table)) (table_type l.table l.fn.ty) (plain_place l.steps))
