@@ -45,7 +45,7 @@ use Rattle.match_top.specs.declared.source.Source.{Source}
 use Rattle.match_top.specs.declared.words.Command.{Command}
 use Rattle.match_top.specs.declared.words.Command.TheVariants.{Check, Trees}
 use Rattle.match_top.specs.Reports.{numbered, shown_entry, named_tree, IsShownTree, IsEntry, is_judged}
-use Rattle.match_top.specs.Reporting.{items_in, setting_in, IsFineFunction, IsMatchOf, IsVerdictFor, IsTreeFor}
+use Rattle.match_top.specs.Reporting.{items_in, setting_in, IsFineFunction, IsMatchOf, IsVerdictFor, IsTreeFor, IsFoundOn}
 use Rattle.match_top.proofs.Entries.{contains_at}
 
 -- each arm of a function that breaks no rule is sound
@@ -94,11 +94,10 @@ named_each p t [] = refl
 named_each p t (w ∷ ws) = ap (λ (us : List WitnessTree). named_witness p t (plain_witness w) ∷ us) (named_each p t ws)
 
 -- the tree of the match is that of the function
-pub tree_for : {E : Type 0} → TreeOfTableMatch → (x : Source) (f : FunctionTree) (m : MDeMatch TyId) (r : Result Tree E) → IsMatchOf x f m
-    → IfOk r (λ t. IsMatchTree (table_context x.table.now) (TableValue x.table.now) m (tree_nodes t))
-    → IfOk r (λ t. IsTreeFor Trees x f (Some t))
-tree_for law x f m (Ok t) h lowered = (t, refl, law x.table.now (setting_in x) f m (tree_nodes t) h lowered)
-tree_for law x f m (Err e) h lowered = tt
+pub tree_for : TreeOfTableMatch → (command : Command) (x : Source) (f : FunctionTree) (m : MDeMatch TyId) (t : Tree) → command ≡ Trees
+    → IsMatchOf x f m → IsMatchTree (table_context x.table.now) (TableValue x.table.now) m (tree_nodes t) → IsTreeFor command x f (Some t)
+tree_for law command x f m t is h tree =
+    subst (λ (c : Command). IsTreeFor c x f (Some t)) (sym is) (t, refl, law x.table.now (setting_in x) f m (tree_nodes t) h tree)
 
 -- the names of the nodes of a tree, if there is one, over the types of the table
 abbrev pub table_named : Source → TyId → Option Tree → Option (List NodeTree)
@@ -106,47 +105,46 @@ table_named x ty tree =
     option_map (λ t. map (named_node (table_program x.table.now) (table_type x.table.now ty)) (tree_nodes t)) tree
 
 -- what was made of the function's tree is shown of it
-shown_tree : (command : Command) (x : Source) (f : FunctionTree) (m : MDeMatch TyId) (made : Option Tree) (tree : Option (List NodeTree))
-    → table_program x.table.now ≡ program (setting_in x) → table_type x.table.now m.type ≡ scrutinee_type (setting_in x) f
-    → IsTreeFor command x f made → tree ≡ table_named x m.type made → IsShownTree command (setting_in x) f tree
-shown_tree Check x f m made tree program_is type_is is named = named ∙ ap (table_named x m.type) is
-shown_tree Trees x f m made tree program_is type_is is named = (
+shown_tree : (command : Command) (x : Source) (f : FunctionTree) (ty : TyId) (made : Option Tree) (tree : Option (List NodeTree))
+    → table_program x.table.now ≡ program (setting_in x) → table_type x.table.now ty ≡ scrutinee_type (setting_in x) f
+    → IsTreeFor command x f made → tree ≡ table_named x ty made → IsShownTree command (setting_in x) f tree
+shown_tree Check x f ty made tree program_is type_is is named = named ∙ ap (table_named x ty) is
+shown_tree Trees x f ty made tree program_is type_is is named = (
   tree_nodes is.0,
   is.2,
-  named ∙ ap (table_named x m.type) is.1
-      ∙ ap (λ (p : MProgram). Some (map (named_node p (table_type x.table.now m.type)) (tree_nodes is.0))) program_is
+  named ∙ ap (table_named x ty) is.1
+      ∙ ap (λ (p : MProgram). Some (map (named_node p (table_type x.table.now ty)) (tree_nodes is.0))) program_is
       ∙ ap (λ (t : MType). Some (map (named_node (program (setting_in x)) t) (tree_nodes is.0))) type_is,
 )
 
 -- a report on a function that shows what was found of it is its entry
-pub judged_entry : (command : Command) (x : Source) (number : ℕ) (f : FunctionTree) (m : MDeMatch TyId) (j : Judgement) (made : Option Tree)
+pub judged_entry : (command : Command) (x : Source) (number : ℕ) (f : FunctionTree) (ty : TyId) (j : Judgement) (made : Option Tree)
     (name : List ℕ) (tree : Option (List NodeTree)) (us : List Unreachable) (vs : List WitnessTree)
-    → IsFineFunction x number f → IsMatchOf x f m → IsVerdictFor x f j → IsTreeFor command x f made → name ≡ f.name
-    → tree ≡ table_named x m.type made → us ≡ map shown_entry (plain_entries j.unreachable.items)
-    → vs ≡ map (λ (w : Witness). named_witness (table_program x.table.now) (table_type x.table.now m.type) (plain_witness w)) j.witnesses.items
+    → IsFoundOn command x number f ty j made → name ≡ f.name → tree ≡ table_named x ty made
+    → us ≡ map shown_entry (plain_entries j.unreachable.items)
+    → vs ≡ map (λ (w : Witness). named_witness (table_program x.table.now) (table_type x.table.now ty) (plain_witness w)) j.witnesses.items
     → IsEntry command (items_in x) (numbered number f)
     (JudgedFunction (record { name = name; exhaustive = j.exhaustive; tree = tree; unreachable = us; witnesses = vs }))
-judged_entry command x number f m j made name tree us vs fine is_match verdict is_tree name_is tree_named unreachable witnesses =
+judged_entry command x number f ty j made name tree us vs found name_is tree_named unreachable witnesses =
     let s = setting_in x in
     let es = plain_entries j.unreachable.items in
     let ws = map plain_witness j.witnesses.items in
-    let program_is : table_program x.table.now ≡ program s = fine.sound.table_is.program in
-    let type_is : table_type x.table.now m.type ≡ scrutinee_type s f = is_match.shown.type_is in
+    let program_is : table_program x.table.now ≡ program s = found.fine.sound.table_is.program in
     let shown : us ≡ map shown_entry (map by_offset es) = unreachable ∙ shown_by_offset es in
     let named : vs ≡ map (named_witness (program s) (scrutinee_type s f)) ws =
-    witnesses ∙ named_each (table_program x.table.now) (table_type x.table.now m.type) j.witnesses.items
-    ∙ ap (λ (p : MProgram). map (named_witness p (table_type x.table.now m.type)) ws) program_is
-    ∙ ap (λ (t : MType). map (named_witness (program s) t) ws) type_is in
+    witnesses ∙ named_each (table_program x.table.now) (table_type x.table.now ty) j.witnesses.items
+    ∙ ap (λ (p : MProgram). map (named_witness p (table_type x.table.now ty)) ws) program_is
+    ∙ ap (λ (t : MType). map (named_witness (program s) t) ws) found.type_is in
     let entry : List ℕ → List Unreachable → List WitnessTree → ReportEntry =
     λ n es vs. JudgedFunction (record { name = n; exhaustive = j.exhaustive; tree = tree; unreachable = es; witnesses = vs }) in
     is_judged (record {
-      fine = fine.fine;
+      fine = found.fine.fine;
       exhaustive = j.exhaustive;
       unreachable = map by_offset es;
       witnesses = ws;
-      verdict = verdict;
+      verdict = found.verdict;
       tree = tree;
-      tree_is = shown_tree command x f m made tree program_is type_is is_tree tree_named;
+      tree_is = shown_tree command x f ty made tree program_is found.type_is found.tree_is tree_named;
       shows =
           ap (λ (n : List ℕ). entry n us vs) name_is
           ∙ ap (λ (es : List Unreachable). entry f.name es vs) shown

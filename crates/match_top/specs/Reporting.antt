@@ -11,12 +11,12 @@ use Rattle.match_model.specs.ArenaPatterns.{MDeMatch}
 use Rattle.pattern_laws.specs.JudgedLaws.{by_offset}
 use Rattle.pattern_laws.specs.TableLaws.{IsTableMatch}
 use Rattle.pattern_laws.specs.TreeLaws.{IsTreeOn}
-use Rattle.pattern_rules.specs.Faults.{BreaksNone, function_of}
+use Rattle.pattern_rules.specs.Faults.{BreaksNone, function_of, scrutinee_type}
 use Rattle.pattern_rules.specs.Settings.{Setting}
 use Rattle.pattern_rules.specs.Verdicts.{IsVerdictOn}
 use Rattle.tree_eval.specs.Nodes.{tree_nodes}
 use Rattle.tree_eval.specs.declared.tree.Tree.{Tree}
-use Rattle.type_table.specs.Tables.{IsTableOf}
+use Rattle.type_table.specs.Tables.{IsTableOf, table_type}
 use Rattle.type_table.specs.declared.table.TyId.{TyId}
 use Rattle.verdict_json.specs.Report.{ReportEntry}
 use Rattle.verdict_json.specs.Writing.{HasEntries}
@@ -71,6 +71,15 @@ IsVerdictFor x f j =
 abbrev pub IsTreeFor : Command → Source → FunctionTree → Option Tree → Type 0
 IsTreeFor Check x f tree = tree ≡ None
 IsTreeFor Trees x f tree = (t : Tree) × (tree ≡ Some t) × IsTreeOn (setting_in x) f (tree_nodes t)
+
+-- what was found, and the tree that was made, are those of the function, the item with this number, which breaks no rule; its
+-- scrutinee's type has this number in the table
+pub record IsFoundOn (command : Command) (x : Source) (number : ℕ) (f : FunctionTree) (ty : TyId) (j : Judgement)
+    (tree : Option Tree) : Type 0 where
+  pub fine : IsFineFunction x number f
+  pub type_is : table_type x.table.now ty ≡ scrutinee_type (setting_in x) f
+  pub verdict : IsVerdictFor x f j
+  pub tree_is : IsTreeFor command x f tree
 
 -- the text has the entries of these functions of the items
 pub record ReportsOn (command : Command) (items : List ItemTree) (fs : List NumberedFunction) (p : Progress) : Type 0 where

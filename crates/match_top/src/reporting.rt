@@ -1,17 +1,18 @@
 // The report on a file: an entry for each function, written as soon as it is judged.
-ghost use Rattle.std.specs.Prelude.{◌≡◌, ◌<◌, ◌^◌, ◌&&◌, ◌++◌, ◌∷◌, [], List, Some, map, length, slice_get, sum_by, IfOk};
+ghost use Rattle.std.specs.Prelude.{◌≡◌, ◌<◌, ◌^◌, ◌&&◌, ◌++◌, ◌∷◌, [], ℕ, List, Some, map, length, slice_get, sum_by, IfOk};
 ghost use Rattle.decl_syntax.specs.Counts.{kind_arms};
 ghost use Rattle.decl_syntax.specs.Functions.{function_view};
 ghost use Rattle.decl_syntax.specs.Items.{ItemTree, item_view, kind_view};
 ghost use Rattle.match_model.specs.declared.Width.TheVariants.{Endless};
 ghost use Rattle.type_table.specs.Faults.{BreaksNone};
+ghost use Rattle.type_table.specs.Tables.{IsOf};
 ghost use Rattle.verdict_json.specs.Report.{JudgedFunction, RefusedFunction};
 ghost use Rattle.verdict_json.specs.Rules.{IsRule};
 ghost use Rattle.verdict_json.specs.Trees.{report_view};
 ghost use Rattle.match_top.specs.Reports.{NumberedFunction, numbered, function_at, functions_of};
 ghost use Rattle.match_top.specs.Reports.{IsEntry, IsReported, refusal_of, status_of};
 ghost use Rattle.match_top.specs.declared.words.Command.{Command};
-ghost use Rattle.match_top.specs.Reporting.{IsSound, StandsAt, IsFineFunction, ReportsOn, items_in};
+ghost use Rattle.match_top.specs.Reporting.{IsSound, StandsAt, IsFineFunction, IsFoundOn, ReportsOn, items_in};
 
 use crate::judging::{match_of, shown_entries, verdict_on};
 use crate::source::Source;
@@ -24,8 +25,11 @@ use pattern_arena::Placer;
 use pattern_check::function::{Fault, first_fault};
 use pattern_rules::Edition;
 use std::alloc::Global;
+use tree_eval::Tree;
+use type_table::TyId;
 use verdict_json::{FnReport, Refusal, ReportText};
 use witness_names::name_witnesses;
+use witnesses::Judgement;
 
 /// The report on a file as it is written, and whether every function is judged and every match is exhaustive.
 #[derive(Debug, Drop)]
@@ -39,6 +43,13 @@ pub(crate) struct Reported {
 struct Progress {
     text: ReportText,
     clean: bool,
+}
+
+// What is found of a function: the engine's verdict, and its decision tree where it was asked for.
+#[derive(Debug, Drop)]
+struct Found {
+    judgement: Judgement,
+    tree: Option<Tree>,
 }
 
 /// The report on a file of which no item breaks a rule on declarations, with trees where the command asks for them.
@@ -56,11 +67,11 @@ pub(crate) fn report_on(
 }
 
 // The entries of the functions among the items.
-fn all_entries(
+fn all_entries<'f>(
     alloc: Global,
     command: Command,
-    source: &Source<'_>,
-    items: &[Item],
+    source: &Source<'f>,
+    items: &'f [Item],
 ) -> Result<Progress, NoMemory>
     requires sound { IsSound source.now }
     requires items { map item_view items.now ≡ items_in source.now }
@@ -78,13 +89,13 @@ fn all_entries(
 }
 
 // Adds the entry of the item with this number, if it is a function.
-fn add_item(
+fn add_item<'f>(
     alloc: Global,
     command: Command,
-    source: &Source<'_>,
+    source: &Source<'f>,
     so_far: Progress,
     number: u64,
-    item: &Item,
+    item: &'f Item,
 ) -> Result<Progress, NoMemory>
     requires sound { IsSound source.now }
     requires there { slice_get (items_in source.now) number ≡ Some (item_view item.now) }
@@ -101,13 +112,13 @@ fn add_item(
 }
 
 // Adds the entry of a function, the item with this number: its first broken rule, or what is found of it.
-fn add_function(
+fn add_function<'f>(
     alloc: Global,
     command: Command,
-    source: &Source<'_>,
+    source: &Source<'f>,
     so_far: Progress,
     number: u64,
-    f: &FnItem,
+    f: &'f FnItem,
 ) -> Result<Progress, NoMemory>
     requires sound { IsSound source.now }
     requires there { StandsAt (items_in source.now) number (function_view f.now) }
@@ -148,13 +159,13 @@ fn add_refused(so_far: Progress, name: &str, refusal: &Refusal) -> Result<Progre
 
 // Adds a function that breaks no rule, with what is found of it, and its tree where the command asks for it. Its match goes
 // with its arena before the next function.
-fn add_judged(
+fn add_judged<'f>(
     alloc: Global,
     command: Command,
-    source: &Source<'_>,
+    source: &Source<'f>,
     so_far: Progress,
     number: u64,
-    f: &FnItem,
+    f: &'f FnItem,
 ) -> Result<Progress, NoMemory>
     requires fine { IsFineFunction source.now number (function_view f.now) }
     requires few { length f.now.arms.items < 2 ^ 32 }
@@ -164,14 +175,35 @@ fn add_judged(
     let arena = Bump::new(alloc);
     let placer = Placer::new(&arena);
     let m = match_of(alloc, source, &placer, number, f)?;
-    let found = verdict_on(alloc, source, &m)?;
-    let tree = tree_of(alloc, command, source, &arena, &m)?;
-    let unreachable = shown_entries(alloc, &found.unreachable)?;
-    let witnesses = name_witnesses(alloc, source.table, m.ty, &found.witnesses)?;
-    let tree = named_tree(alloc, source.table, m.ty, &tree)?;
+    let found = Found {
+        judgement: verdict_on(alloc, source, &m)?,
+        tree: tree_of(alloc, command, source, &arena, &m)?,
+    };
+    add_found(alloc, source, so_far, f, m.ty, &found)
+}
+
+// Adds a function with what is found of it, over a scrutinee of this type.
+fn add_found<'r>(
+    alloc: Global,
+    source: &Source<'r>,
+    so_far: Progress,
+    f: &'r FnItem,
+    ty: TyId,
+    found: &'r Found,
+) -> Result<Progress, NoMemory>
+    requires sound { IsSound source.now }
+    requires of { IsOf source.now.table.now ty }
+    ensures { (command : Command) → (number : ℕ) → (fs : List NumberedFunction)
+        → ReportsOn command (items_in source.now) fs so_far
+        → IsFoundOn command source.now number (function_view f.now) ty found.now.judgement found.now.tree
+        → IfOk result (ReportsOn command (items_in source.now) (fs ++ numbered number (function_view f.now) ∷ [])) }
+{
+    let unreachable = shown_entries(alloc, &found.judgement.unreachable)?;
+    let witnesses = name_witnesses(alloc, source.table, ty, &found.judgement.witnesses)?;
+    let tree = named_tree(alloc, source.table, ty, &found.tree)?;
     let report = FnReport {
         name: f.name.as_str(),
-        exhaustive: found.exhaustive,
+        exhaustive: found.judgement.exhaustive,
         unreachable,
         tree,
         witnesses,

@@ -12,4 +12,5 @@ returns-in-Ok-clause-answers c =
 pub returns-in-Err-Rule-clause-answers : goal.returns-in-Err-Rule-clause-answers
 returns-in-Err-Rule-clause-answers c =
     let fault : HasFault c.args.source.now c.in-Err-Rule.rule c.in-Err-Rule.at = search rules in
-    fault_answer c.args.command c.args.source.now _ _ _ fault c.refused_at.ensures.answers
+    let refused = rw (c.in-Err-Rule.rule-is, c.in-Err-Rule.at-is) at c.refused_at.ensures.answers in
+    fault_answer c.args.command c.args.source.now _ _ _ fault refused
