@@ -7,7 +7,7 @@ NAMES = {
     20: "unknown-name", 21: "name-is-no-binding", 22: "wrong-type", 23: "wrong-count", 24: "unknown-field",
     25: "field-written-twice", 26: "field-missing", 27: "rest-twice", 28: "literal-out-of-range", 29: "range-empty",
     30: "name-bound-twice", 31: "alternatives-differ", 32: "mode-written", 33: "open-range-in-slice",
-    34: "deref-needs-reference", 35: "unsupported-pattern", 36: "endless-type",
+    34: "deref-needs-reference", 35: "unsupported-pattern", 36: "endless-type", 40: "value-syntax", 41: "value-type", 42: "unknown-function",
 }
 
 

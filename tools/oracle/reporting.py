@@ -1,5 +1,6 @@
-"""The bytes that `check FILE` and `trees FILE` write."""
+"""The bytes that `check FILE`, `trees FILE` and `eval FILE FN VALUE ANSWERS` write."""
 import json
+import unicodedata
 
 from declarations import Declarations
 from enumerating import cross_check
@@ -9,6 +10,8 @@ from lexing import KEYWORDS, lex
 from lowering import Lowering, numbered
 from parsing import parse
 from patterns import check_match
+from selecting import Selection
+from values import Meaning, spelled, text_of
 import syntax as s
 
 GREATEST_FILE = 16_777_216
@@ -90,10 +93,14 @@ class WitnessWriter:
 
     def node(self, ty, witness):
         parts = [self.inner(*pair) for pair in zip(self.types(ty, witness[1]), witness[2])]
+        return self.with_parts(ty, witness[1], parts)
+
+    def with_parts(self, ty, number, parts):
+        """A tuple, struct or variant by its number, with its parts as texts."""
         if ty[0] == "tuple":
             return "(" + ", ".join(parts) + (",)" if len(parts) == 1 else ")")
-        variant = self.declarations.variants(ty)[witness[1]]
-        name = self.name(ty, witness[1])
+        variant = self.declarations.variants(ty)[number]
+        name = self.name(ty, number)
         if variant.kind == "unit":
             return name
         if variant.kind == "tuple":
@@ -145,6 +152,17 @@ def entry(declarations, number, twice, trees):
     return found
 
 
+def declared(data):
+    """The declarations of a file of these bytes; its first fault is raised."""
+    if len(data) > GREATEST_FILE:
+        raise Fault(7)
+    declarations = Declarations(parse(lex(data)))
+    fault = declarations.fault()
+    if fault is not None:
+        raise fault
+    return declarations
+
+
 def check(data, twice=None, trees=False):
     """What `check` writes for a file of these bytes, and its status; with `trees` what `trees` writes.
 
@@ -152,19 +170,45 @@ def check(data, twice=None, trees=False):
     values for it.
     """
     try:
-        if len(data) > GREATEST_FILE:
-            raise Fault(7)
-        items = parse(lex(data))
-        declarations = Declarations(items)
-        fault = declarations.fault()
-        if fault is not None:
-            raise fault
+        declarations = declared(data)
     except Fault as fault:
         return output({"refused": fault.tree()}), REFUSED
-    functions = [number for number, item in enumerate(items) if isinstance(item.kind, s.Function)]
+    functions = [number for number, item in enumerate(declarations.items) if isinstance(item.kind, s.Function)]
     entries = [entry(declarations, number, twice, trees) for number in functions]
     status = CLEAN if all(it.get("exhaustive") for it in entries) else FOUND
     return output({"functions": entries}), status
+
+
+def evaluate(data, name, text, answers):
+    """What `eval FILE FN VALUE ANSWERS` writes for a file of these bytes, and its status; the answers are truth values."""
+    try:
+        declarations = declared(data)
+        number = function_named(declarations, name)
+        match = check_match(declarations, number, True)
+        value = Meaning(declarations).of(spelled(text), match.type, match.sure)
+    except Fault as fault:
+        return output({"refused": fault.tree()}), REFUSED
+    writer = WitnessWriter(declarations)
+
+    def shown(bindings):
+        return [{"mode": mode, "name": name, "value": text_of(writer, quoted, ty, it)} for name, mode, ty, it in bindings]
+
+    asked, ending, arm, bindings = Selection(declarations).select(match, value, answers)
+    outcome = {
+        "arm": arm,
+        "asked": [{"arm": arm, "bindings": shown(held)} for arm, held in asked],
+        "bindings": None if bindings is None else shown(bindings),
+        "outcome": ending,
+    }
+    return output(outcome), CLEAN if ending == "took" else FOUND
+
+
+def function_named(declarations, name):
+    """The number of the first function of this name, in the composed form."""
+    for number, item in enumerate(declarations.items):
+        if isinstance(item.kind, s.Function) and item.kind.name == unicodedata.normalize("NFC", name):
+            return number
+    raise Fault(42)
 
 
 def output(tree):
