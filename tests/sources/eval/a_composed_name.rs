@@ -1,0 +1,1 @@
+fn café(x: bool) { match x { _ => 1 } }

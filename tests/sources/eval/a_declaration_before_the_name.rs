@@ -1,0 +1,2 @@
+struct S(T);
+fn f(x: u8) { match x { _ => 1 } }

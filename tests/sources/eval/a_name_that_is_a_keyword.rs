@@ -1,0 +1,1 @@
+fn r#match(x: bool) { match x { r#in => 1 } }

@@ -1,0 +1,1 @@
+fn f(x:(u8,(bool,bool))){match x{(y @ 0|y,(b,_)|(_,b)) if g()=>1,_=>2}}

@@ -1,0 +1,1 @@
+fn f(x: &mut (u8, char)) { match x { (a, b) => 1 } }

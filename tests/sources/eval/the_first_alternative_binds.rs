@@ -1,0 +1,1 @@
+fn f(x:(bool,bool)){match x{(y,true)|(true,y)=>1,_=>2}}
