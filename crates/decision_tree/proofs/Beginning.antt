@@ -90,6 +90,7 @@ module _ {T : Type 0} (IsType : T → Type 0) (cx : Context T) (V : T → Bool �
       column = o.column;
       there = o.there;
       ready = o.ready;
+      scope = o.scope;
       chosen = o.chosen;
       expanded = o.expanded;
       some = o.some;

@@ -16,11 +16,13 @@ use Rattle.keyed_rows.specs.Parting.{RowParted}
 use Rattle.keyed_steps.specs.Good.{IsGood}
 use Rattle.keyed_matrix.specs.First.{first_row}
 use Rattle.tree_laws.proofs.Matches.{first-good, arms-good}
+use Rattle.decision_tree.specs.Known.{IsInScope}
 use Rattle.decision_tree.specs.Matrices.{matrix_columns, matrix_rows}
 use Rattle.decision_tree.specs.Waiting.{IsTurn, Makes}
 use Rattle.decision_tree.specs.declared.frames.Frame.{Frame}
 use Rattle.decision_tree.specs.declared.frames.Matrix.{Matrix}
 use Rattle.decision_tree.specs.declared.frames.Turn.TheVariants.{Lower}
+use Rattle.decision_tree.proofs.Scoped.{first-in-scope}
 
 module _ {T : Type 0} (decides : ℕ → Decision) where
   -- a row comes before those of later arms
@@ -67,6 +69,8 @@ module _ {T : Type 0} (IsType : T → Type 0) (cx : Context T) (V : T → Bool �
             parted = subst (Ordered (RowParted decides)) (sym rs) (first-parted decides 0 m.arms);
           },
           (leads, empty),
+          subst (λ x. IsInScope cx m x (matrix_rows e)) (sym cs)
+              (subst (IsInScope cx m (first_matrix m).columns) (sym rs) (first-in-scope cx m)),
         )
       where
         leads : (t : MTree) → Makes IsType cx V decides m (matrix_columns e) (matrix_rows e) t →

@@ -29,7 +29,7 @@ use Rattle.tree_eval.specs.declared.tree.Bind.{Bind}
 use Rattle.tree_eval.specs.declared.tree.Case.{Case}
 use Rattle.tree_eval.proofs.Keeping.{keep-cases}
 use Rattle.decision_tree.specs.declared.frames.Frame.{Frame}
-use Rattle.decision_tree.specs.declared.frames.Frame.TheVariants.{Guard, Switch}
+use Rattle.decision_tree.specs.declared.frames.Frame.TheVariants.{Guard, Switch, Note}
 use Rattle.decision_tree.specs.declared.frames.Looked.{Looked}
 use Rattle.decision_tree.specs.declared.frames.Matrix.{Matrix}
 use Rattle.decision_tree.specs.declared.frames.Turn.TheVariants.{Finished, Done}
@@ -107,6 +107,8 @@ module _ {T : Type 0} (IsType : T → Type 0) (cx : Context T) (V : T → Bool �
       (ds, r, qs, λ t k. b t (l t k), w, g, e, f, a)
   leads-more (Switch x case ∷ frames) now columns cs rows rs l (ds, qs, b, whole, base, front, behind, branches, k, n, a) =
       (ds, qs, λ t k. b t (l t k), whole, base, front, behind, branches, k, n, a)
+  leads-more (Note x ∷ frames) now columns cs rows rs l (ds, qs, b, e, s, a) =
+      (ds, qs, λ t k. b t (l t k), e, s, a)
 
   module _ (i : ℕ) (c : MColumn T) (columns : List (MColumn T)) (rows : List (MRow T)) (all : List MCtor) where
     abbrev Cases : List MCtor → MBranches → Type 0
@@ -219,6 +221,7 @@ module _ {T : Type 0} (IsType : T → Type 0) (cx : Context T) (V : T → Bool �
         column = k.column;
         there = k.there;
         ready = k.ready;
+        scope = k.scope;
         chosen = k.chosen;
         expanded = k.expanded;
         some = k.some;
@@ -259,6 +262,7 @@ module _ {T : Type 0} (IsType : T → Type 0) (cx : Context T) (V : T → Bool �
             column = k.column;
             there = k.there;
             ready = k.ready;
+            scope = k.scope;
             chosen = k.chosen;
             expanded = k.expanded;
             some = k.some;
@@ -346,6 +350,7 @@ module _ {T : Type 0} (IsType : T → Type 0) (cx : Context T) (V : T → Bool �
           column = k.column;
           there = k.there;
           ready = k.ready;
+          scope = k.scope;
           chosen = k.chosen;
           expanded = k.expanded;
           some = k.some;

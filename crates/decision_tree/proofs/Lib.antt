@@ -1,6 +1,15 @@
 mod OneFirst
 mod Going
 mod Beginning
+pub mod Based
+pub mod LoneRows
+pub mod Pinned
+pub mod Telling
+pub mod Scoped
+pub mod KnownTrees
+pub mod SameKnown
+pub mod ByArm
+pub mod LonePart
 mod Reading
 mod TypedRows
 mod CountingCases
@@ -11,3 +20,4 @@ mod Looking
 mod Turning
 mod Empty
 mod StillInOrder
+mod Knowing

@@ -40,6 +40,7 @@ use Rattle.decision_tree.specs.declared.frames.Frame.TheVariants.{Guard, Switch}
 use Rattle.decision_tree.specs.declared.frames.Looked.{Looked}
 use Rattle.decision_tree.specs.declared.frames.Matrix.{Matrix}
 use Rattle.decision_tree.specs.declared.frames.Turn.TheVariants.{Finished}
+use Rattle.decision_tree.specs.Known.{IsInScope}
 use Rattle.decision_tree.specs.Matrices.{matrix_columns, matrix_rows, IsGoodMatrix, IsReadyMatrix, IsPieceAt, IsEntered, IsDropped, IsExpanded}
 use Rattle.decision_tree.specs.Waiting.{Leads, Awaits, IsLeft, IsOpened, IsTurn}
 use Rattle.decision_tree.proofs.Beginning.{dropped-leads, opened-leads}
@@ -194,10 +195,10 @@ module _ {T : Type 0} (IsType : T → Type 0) (cx : Context T) (V : T → Bool �
   -- the column is opened, or a switch begins
   pub opened : (frames : List (Frame T)) (now : List MTree) (i : ℕ) (e x : Matrix T) (switchless : Bool)
       (f : IsFewest cx V (matrix_columns e) (matrix_rows e) i) → IsExpanded decides i e x →
-      IsReadyMatrix IsType cx decides i x → all_wild_at i (matrix_rows x) ≡ false →
-      is_switchless (cx.set_of f.column.type) ≡ switchless → Waits frames now (matrix_columns e) (matrix_rows e) →
+      IsReadyMatrix IsType cx decides i x → IsInScope cx m (matrix_columns x) (matrix_rows x) →
+      all_wild_at i (matrix_rows x) ≡ false → is_switchless (cx.set_of f.column.type) ≡ switchless → Waits frames now (matrix_columns e) (matrix_rows e) →
       IsOpened IsType cx V decides m frames now i switchless x
-  opened frames now i e x switchless f k ready w kind a =
+  opened frames now i e x switchless f k ready scope w kind a =
       let over = expanded-at cx decides i e x f.column f.there k in
       record {
         column = f.column;
@@ -206,6 +207,7 @@ module _ {T : Type 0} (IsType : T → Type 0) (cx : Context T) (V : T → Bool �
         chosen = subst (λ cs. IsFewest cx V cs (matrix_rows e) i) (sym over.0) f;
         expanded = over.1;
         ready = ready;
+        scope = scope;
         some = w;
         kind = kind;
         awaits = subst (λ cs. Waits frames now cs (matrix_rows e)) (sym over.0) a;

@@ -26,10 +26,12 @@ use Rattle.tree_eval.specs.Nodes.{plain_bind, plain_branch, plain_case}
 use Rattle.tree_eval.specs.Tables.{IsFinished}
 use Rattle.decision_tree.specs.declared.frames.Looked.{Looked}
 use Rattle.decision_tree.specs.declared.frames.Frame.{Frame}
-use Rattle.decision_tree.specs.declared.frames.Frame.TheVariants.{Guard, Switch}
+use Rattle.decision_tree.specs.declared.frames.Frame.TheVariants.{Guard, Switch, Note}
 use Rattle.decision_tree.specs.declared.frames.Matrix.{Matrix}
 use Rattle.decision_tree.specs.declared.frames.Turn.{Turn}
 use Rattle.decision_tree.specs.declared.frames.Turn.TheVariants.{Lower, Finished, Done}
+use Rattle.decision_tree.specs.Known.{IsInScope, known_matrix}
+use Rattle.decision_tree.specs.KnownViews.{plain_known_matrix}
 use Rattle.decision_tree.specs.Matrices.{matrix_columns, matrix_rows, IsGoodMatrix, IsReadyMatrix}
 
 -- the test says whether it is so
@@ -57,6 +59,7 @@ module _ {T : Type 0} (IsType : T → Type 0) (cx : Context T) (V : T → Bool �
     pub column : MColumn T
     pub there : slice_get (matrix_columns e) i ≡ Some column
     pub ready : IsReadyMatrix IsType cx decides i e
+    pub scope : IsInScope cx m (matrix_columns e) (matrix_rows e)
     pub chosen : IsFewest cx V (matrix_columns e) rows i
     pub expanded : AreInOrder decides (rows_at expand_head column.place i rows) (matrix_rows e)
     pub some : all_wild_at i (matrix_rows e) ≡ false
@@ -120,6 +123,9 @@ module _ {T : Type 0} (IsType : T → Type 0) (cx : Context T) (V : T → Bool �
       × (IsElseNext l.matrix l.column k.column k.pieces (plain_case case) cs rs front behind branches
       ⊎ IsPieceNext l.matrix l.column k.column k.pieces (plain_case case) cs rs front behind branches)
       × Awaits frames base (matrix_columns l.matrix) whole
+  Awaits (Note matrix ∷ frames) now columns rows =
+      (cs : List (MColumn T)) × (rs : List (MRow T)) × Leads columns rows cs rs
+      × (plain_known_matrix matrix ≡ known_matrix cs rs) × IsInScope cx m cs rs × Awaits frames now cs rs
 
   -- cases of a switch are done, and the others are to come
   abbrev pub IsLeft : List (Frame T) → (now : List MTree) → Matrix T → (i : ℕ) → (todo : List MCtor) →
@@ -143,13 +149,16 @@ module _ {T : Type 0} (IsType : T → Type 0) (cx : Context T) (V : T → Bool �
     pub chosen : IsFewest cx V (matrix_columns e) rows i
     pub expanded : AreInOrder decides (rows_at expand_head column.place i rows) (matrix_rows e)
     pub ready : IsReadyMatrix IsType cx decides i e
+    pub scope : IsInScope cx m (matrix_columns e) (matrix_rows e)
     pub some : all_wild_at i (matrix_rows e) ≡ false
     pub kind : is_switchless (cx.set_of column.type) ≡ switchless
     pub awaits : Awaits frames now (matrix_columns e) rows
 
   -- what is done next keeps to that
   abbrev pub IsTurn : List (Frame T) → (now : List MTree) → Turn T → Type 0
-  IsTurn frames now (Lower e) = IsGoodMatrix IsType cx decides e × Awaits frames now (matrix_columns e) (matrix_rows e)
+  IsTurn frames now (Lower e) =
+      IsGoodMatrix IsType cx decides e × Awaits frames now (matrix_columns e) (matrix_rows e)
+      × IsInScope cx m (matrix_columns e) (matrix_rows e)
   IsTurn frames now (Finished index) =
       (columns : List (MColumn T)) × (rows : List (MRow T)) × (t : MTree) × (before : List MTree)
       × IsBuilt before × Makes columns rows t × Awaits frames before columns rows × IsFinished before t index now

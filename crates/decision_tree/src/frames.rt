@@ -1,4 +1,5 @@
 // Matrices, and what waits for the trees of others.
+use crate::known::KnownMatrix;
 use keyed_matrix::{KeyedColumn, KeyedRow};
 use pat_context::Ctor;
 use tree_eval::{Bind, Case};
@@ -29,6 +30,8 @@ pub(crate) enum Frame<'a, T: Copy> {
     Guard { arm: u32, binds: Vec<Bind> },
     // A switch waits for the tree of the case.
     Switch { looked: Looked<'a, T>, case: Case },
+    // The tree is known from then on, by what tells its rows.
+    Note { matrix: KnownMatrix<'a> },
 }
 
 // What is done next.

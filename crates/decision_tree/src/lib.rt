@@ -10,10 +10,13 @@
 mod binds;
 mod branches;
 mod frames;
+mod known;
 mod leaves;
+mod lone;
 mod lowering;
 mod pieces;
 mod steps;
+mod tells;
 mod top;
 
 pub use top::lower;

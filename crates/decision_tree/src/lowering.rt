@@ -1,16 +1,20 @@
 // The tree of rows. What waits for the trees of other rows stands in a list, so that nothing calls itself.
-ghost use Rattle.std.specs.Prelude.{◌≡◌, ◌<◌, ◌^◌, ℕ, [], reverse, length, get_or, true, false, IfOk};
+ghost use Rattle.std.specs.Prelude.{◌≡◌, ◌<◌, ◌^◌, ℕ, [], reverse, length, get_or, nat_eq, true, false, IfOk, OnOk};
+ghost use Rattle.std.specs.List.{flat_map, IsDistinct};
 ghost use Rattle.match_model.specs.DecisionTrees.{MTree, all_wild};
 ghost use Rattle.match_model.specs.FewestBranches.{IsFewest};
 ghost use Rattle.match_model.specs.Matrices.{first_matrix};
 ghost use Rattle.match_model.specs.Numbering.{match_decisions};
-ghost use Rattle.match_model.specs.WellTyped.{IsWellTyped};
+ghost use Rattle.match_model.specs.WellTyped.{IsWellTyped, uids_in};
 ghost use Rattle.pattern_arena.specs.Trees.{plain_match};
 ghost use Rattle.keyed_matrix.specs.Deciding.{table_decides};
 ghost use Rattle.keyed_matrix.specs.Views.{plain_row};
 ghost use Rattle.keyed_matrix.specs.declared.rows.KeyedRow.{KeyedRow};
 ghost use Rattle.tree_eval.specs.Tables.{IsFinished};
 ghost use Rattle.tree_eval.specs.Trees.{table_trees};
+ghost use Rattle.decision_tree.specs.Known.{IsInScope};
+ghost use Rattle.decision_tree.specs.KnownTrees.{AreKnown, Keeps};
+ghost use Rattle.decision_tree.specs.KnownViews.{known_entries};
 ghost use Rattle.decision_tree.specs.Matrices.{matrix_columns, matrix_rows, IsGoodMatrix};
 ghost use Rattle.decision_tree.specs.Waiting.{Root, Tells, IsBare, Makes, Awaits, IsLeftOf, IsOpened, IsTurn};
 ghost use Rattle.decision_tree.specs.declared.frames.Turn.TheVariants.{Finished};
@@ -18,9 +22,12 @@ ghost use Rattle.decision_tree.specs.declared.frames.Turn.TheVariants.{Finished}
 use crate::binds::{place_by, row_binds};
 use crate::branches::place_of;
 use crate::frames::{Frame, Looked, Matrix, Turn};
+use crate::known::{KnownTrees, find_known, none_known, note_known};
 use crate::leaves::is_leaf;
+use crate::lone::lone;
 use crate::pieces::{case_of, is_switchless};
 use crate::steps::{dropped, entered, expanded};
+use crate::tells::known_matrix;
 use bumpalo::Bump;
 use constructor_sets::{present, split_column};
 use keyed_matrix::{Decisions, are_wild, ctors_at, first_column, first_rows};
@@ -45,8 +52,9 @@ fn finish_none<'a, C: PatCx>(
     requires none { m.rows.items ≡ [] }
     requires awaits { Awaits (C.is_type cx.now) (C.context cx.now) (C.is_value cx.now) (table_decides decisions.now) root
         (reverse frames.now.items) (table_trees table.old) (matrix_columns m) (matrix_rows m) }
-    ensures { IfOk result (λ t. IsTurn (C.is_type cx.now) (C.context cx.now) (C.is_value cx.now)
+    ensures turn { IfOk result (λ t. IsTurn (C.is_type cx.now) (C.context cx.now) (C.is_value cx.now)
         (table_decides decisions.now) root (reverse frames.now.items) (table_trees table.new) t) }
+    ensures keeps { OnOk result (Keeps (table_trees table.old) (table_trees table.new)) }
 {
     tables_are_built(table);
     if bare {
@@ -73,8 +81,10 @@ fn finish_row<'a, C: PatCx>(
     requires good { IsGoodMatrix (C.is_type cx.now) (C.context cx.now) (table_decides decisions.now) m }
     requires awaits { Awaits (C.is_type cx.now) (C.context cx.now) (C.is_value cx.now) (table_decides decisions.now) root
         (reverse frames.old.items) (table_trees table.old) (matrix_columns m) (matrix_rows m) }
-    ensures { IfOk result (λ t. IsTurn (C.is_type cx.now) (C.context cx.now) (C.is_value cx.now)
+    requires scope { IsInScope (C.context cx.now) root (matrix_columns m) (matrix_rows m) }
+    ensures turn { IfOk result (λ t. IsTurn (C.is_type cx.now) (C.context cx.now) (C.is_value cx.now)
         (table_decides decisions.now) root (reverse frames.new.items) (table_trees table.new) t) }
+    ensures keeps { OnOk result (Keeps (table_trees table.old) (table_trees table.new)) }
 {
     tables_are_built(table);
     let Matrix { columns, rows } = m;
@@ -106,8 +116,9 @@ fn next_case<'a, C: PatCx>(
     ghost root: { Root C.Ty }
     requires { IsLeftOf (C.is_type cx.now) (C.context cx.now) (C.is_value cx.now) (table_decides decisions.now) root
         (reverse frames.old.items) (table_trees table.old) looked }
-    ensures { IfOk result (λ t. IsTurn (C.is_type cx.now) (C.context cx.now) (C.is_value cx.now)
+    ensures turn { IfOk result (λ t. IsTurn (C.is_type cx.now) (C.context cx.now) (C.is_value cx.now)
         (table_decides decisions.now) root (reverse frames.new.items) (table_trees table.new) t) }
+    ensures keeps { OnOk result (Keeps (table_trees table.old) (table_trees table.new)) }
 {
     let mut looked = looked;
     match looked.pieces.pop() {
@@ -143,8 +154,9 @@ fn begin_switch<'a, C: PatCx>(
     ghost root: { Root C.Ty }
     requires { IsOpened (C.is_type cx.now) (C.context cx.now) (C.is_value cx.now) (table_decides decisions.now) root
         (reverse frames.old.items) (table_trees table.old) i false e }
-    ensures { IfOk result (λ t. IsTurn (C.is_type cx.now) (C.context cx.now) (C.is_value cx.now)
+    ensures turn { IfOk result (λ t. IsTurn (C.is_type cx.now) (C.context cx.now) (C.is_value cx.now)
         (table_decides decisions.now) root (reverse frames.new.items) (table_trees table.new) t) }
+    ensures keeps { OnOk result (Keeps (table_trees table.old) (table_trees table.new)) }
 {
     tables_are_built(table);
     let ctors = ctors_at(alloc, &e.rows, i)?;
@@ -206,8 +218,10 @@ fn look_at<'a, C: PatCx>(
     requires good { IsGoodMatrix (C.is_type cx.now) (C.context cx.now) (table_decides decisions.now) m }
     requires awaits { Awaits (C.is_type cx.now) (C.context cx.now) (C.is_value cx.now) (table_decides decisions.now) root
         (reverse frames.old.items) (table_trees table.old) (matrix_columns m) (matrix_rows m) }
-    ensures { IfOk result (λ t. IsTurn (C.is_type cx.now) (C.context cx.now) (C.is_value cx.now)
+    requires scope { IsInScope (C.context cx.now) root (matrix_columns m) (matrix_rows m) }
+    ensures turn { IfOk result (λ t. IsTurn (C.is_type cx.now) (C.context cx.now) (C.is_value cx.now)
         (table_decides decisions.now) root (reverse frames.new.items) (table_trees table.new) t) }
+    ensures keeps { OnOk result (Keeps (table_trees table.old) (table_trees table.new)) }
 {
     let e = expanded(alloc, cx, decisions, m, i)?;
     if are_wild(&e.rows, i) {
@@ -222,13 +236,84 @@ fn look_at<'a, C: PatCx>(
     }
 }
 
-// Lowers the rows by one rule.
+// Looks at the place with the fewest branches.
+fn look_next<'a, C: PatCx>(
+    alloc: Global,
+    arena: &'a Bump<Global>,
+    cx: &C,
+    decisions: &Decisions,
+    frames: &mut Vec<Frame<'a, C::Ty>>,
+    table: &mut NodeTable,
+    m: Matrix<'a, C::Ty>,
+) -> Result<Turn<'a, C::Ty>, NoMemory>
+    ghost root: { Root C.Ty }
+    requires some { 0 < length m.rows.items }
+    requires open { (d : KeyedRow C.Ty) → all_wild (plain_row (get_or m.rows.items 0 d)) ≡ false }
+    requires good { IsGoodMatrix (C.is_type cx.now) (C.context cx.now) (table_decides decisions.now) m }
+    requires awaits { Awaits (C.is_type cx.now) (C.context cx.now) (C.is_value cx.now) (table_decides decisions.now) root
+        (reverse frames.old.items) (table_trees table.old) (matrix_columns m) (matrix_rows m) }
+    requires scope { IsInScope (C.context cx.now) root (matrix_columns m) (matrix_rows m) }
+    ensures turn { IfOk result (λ t. IsTurn (C.is_type cx.now) (C.context cx.now) (C.is_value cx.now)
+        (table_decides decisions.now) root (reverse frames.new.items) (table_trees table.new) t) }
+    ensures keeps { OnOk result (Keeps (table_trees table.old) (table_trees table.new)) }
+{
+    let i = place_of(alloc, cx, &m.columns, &m.rows)?;
+    look_at(alloc, arena, cx, decisions, frames, table, m, i)
+}
+
+// Takes the tree of the rows where it is known; else the rows are lowered, and it is known from then on.
+fn look_up<'a, C: PatCx>(
+    alloc: Global,
+    arena: &'a Bump<Global>,
+    cx: &C,
+    decisions: &Decisions,
+    known: &KnownTrees<'a>,
+    frames: &mut Vec<Frame<'a, C::Ty>>,
+    table: &mut NodeTable,
+    m: Matrix<'a, C::Ty>,
+) -> Result<Turn<'a, C::Ty>, NoMemory>
+    ghost root: { Root C.Ty }
+    requires some { 0 < length m.rows.items }
+    requires open { (d : KeyedRow C.Ty) → all_wild (plain_row (get_or m.rows.items 0 d)) ≡ false }
+    requires good { IsGoodMatrix (C.is_type cx.now) (C.context cx.now) (table_decides decisions.now) m }
+    requires awaits { Awaits (C.is_type cx.now) (C.context cx.now) (C.is_value cx.now) (table_decides decisions.now) root
+        (reverse frames.old.items) (table_trees table.old) (matrix_columns m) (matrix_rows m) }
+    requires scope { IsInScope (C.context cx.now) root (matrix_columns m) (matrix_rows m) }
+    requires known { AreKnown (C.context cx.now) (C.is_value cx.now) (table_decides decisions.now)
+        (IsBare (C.is_value cx.now) root) root (table_trees table.old) (known_entries known.now) }
+    requires uids { IsDistinct nat_eq (flat_map (λ a. uids_in a.pat) root.arms) }
+    ensures turn { IfOk result (λ t. IsTurn (C.is_type cx.now) (C.context cx.now) (C.is_value cx.now)
+        (table_decides decisions.now) root (reverse frames.new.items) (table_trees table.new) t) }
+    ensures keeps { OnOk result (Keeps (table_trees table.old) (table_trees table.new)) }
+{
+    tables_are_built(table);
+    let Matrix { columns, rows } = m;
+    let rows = lone(alloc, rows);
+    let matrix = known_matrix(alloc, &columns, &rows)?;
+    if let Some(index) = find_known(known, &matrix) {
+        return Ok(Turn::Finished(index));
+    }
+    frames.push(Frame::Note { matrix })?;
+    look_next(
+        alloc,
+        arena,
+        cx,
+        decisions,
+        frames,
+        table,
+        Matrix { columns, rows },
+    )
+}
+
+// Lowers the rows by one rule. A row that stands alone and of which no or-pattern was taken apart is not noted: where its
+// or-patterns are, what is left of them is.
 fn lower_one<'a, C: PatCx>(
     alloc: Global,
     arena: &'a Bump<Global>,
     cx: &C,
     decisions: &Decisions,
     bare: bool,
+    known: &KnownTrees<'a>,
     frames: &mut Vec<Frame<'a, C::Ty>>,
     table: &mut NodeTable,
     m: Matrix<'a, C::Ty>,
@@ -238,8 +323,13 @@ fn lower_one<'a, C: PatCx>(
     requires good { IsGoodMatrix (C.is_type cx.now) (C.context cx.now) (table_decides decisions.now) m }
     requires awaits { Awaits (C.is_type cx.now) (C.context cx.now) (C.is_value cx.now) (table_decides decisions.now) root
         (reverse frames.old.items) (table_trees table.old) (matrix_columns m) (matrix_rows m) }
-    ensures { IfOk result (λ t. IsTurn (C.is_type cx.now) (C.context cx.now) (C.is_value cx.now)
+    requires scope { IsInScope (C.context cx.now) root (matrix_columns m) (matrix_rows m) }
+    requires known { AreKnown (C.context cx.now) (C.is_value cx.now) (table_decides decisions.now)
+        (IsBare (C.is_value cx.now) root) root (table_trees table.old) (known_entries known.now) }
+    requires uids { IsDistinct nat_eq (flat_map (λ a. uids_in a.pat) root.arms) }
+    ensures turn { IfOk result (λ t. IsTurn (C.is_type cx.now) (C.context cx.now) (C.is_value cx.now)
         (table_decides decisions.now) root (reverse frames.new.items) (table_trees table.new) t) }
+    ensures keeps { OnOk result (Keeps (table_trees table.old) (table_trees table.new)) }
 {
     if m.rows.is_empty() {
         return finish_none(cx, decisions, bare, frames, table, m);
@@ -247,8 +337,10 @@ fn lower_one<'a, C: PatCx>(
     if is_leaf(&m.rows[0]) {
         return finish_row(alloc, cx, decisions, frames, table, m);
     }
-    let i = place_of(alloc, cx, &m.columns, &m.rows)?;
-    look_at(alloc, arena, cx, decisions, frames, table, m, i)
+    if m.rows.len() == 1 && m.rows[0].chosen.is_empty() {
+        return look_next(alloc, arena, cx, decisions, frames, table, m);
+    }
+    look_up(alloc, arena, cx, decisions, known, frames, table, m)
 }
 
 // Goes on where the tree with the index was waited for.
@@ -257,15 +349,20 @@ fn resume<'a, C: PatCx>(
     arena: &'a Bump<Global>,
     cx: &C,
     decisions: &Decisions,
+    known: &mut KnownTrees<'a>,
     frames: &mut Vec<Frame<'a, C::Ty>>,
     table: &mut NodeTable,
     index: u64,
 ) -> Result<Turn<'a, C::Ty>, NoMemory>
     ghost root: { Root C.Ty }
-    requires { IsTurn (C.is_type cx.now) (C.context cx.now) (C.is_value cx.now) (table_decides decisions.now) root
+    requires turn { IsTurn (C.is_type cx.now) (C.context cx.now) (C.is_value cx.now) (table_decides decisions.now) root
         (reverse frames.old.items) (table_trees table.old) (Finished index) }
-    ensures { IfOk result (λ t. IsTurn (C.is_type cx.now) (C.context cx.now) (C.is_value cx.now)
+    requires known { AreKnown (C.context cx.now) (C.is_value cx.now) (table_decides decisions.now)
+        (IsBare (C.is_value cx.now) root) root (table_trees table.old) (known_entries known.old) }
+    ensures turn { IfOk result (λ t. IsTurn (C.is_type cx.now) (C.context cx.now) (C.is_value cx.now)
         (table_decides decisions.now) root (reverse frames.new.items) (table_trees table.new) t) }
+    ensures known { OnOk result (AreKnown (C.context cx.now) (C.is_value cx.now) (table_decides decisions.now)
+        (IsBare (C.is_value cx.now) root) root (table_trees table.new) (known_entries known.new)) }
 {
     match frames.pop() {
         None => Ok(Turn::Done(index)),
@@ -273,10 +370,15 @@ fn resume<'a, C: PatCx>(
             let asked = table.ask(arm, binds, index)?;
             Ok(Turn::Finished(asked))
         }
+        Some(Frame::Note { matrix }) => {
+            note_known(known, matrix, index)?;
+            Ok(Turn::Finished(index))
+        }
         Some(Frame::Switch { looked, case }) => {
             let mut looked = looked;
             looked.cases.push((case, index))?;
-            next_case(alloc, arena, cx, decisions, frames, table, looked)
+            let turn = next_case(alloc, arena, cx, decisions, frames, table, looked)?;
+            Ok(turn)
         }
     }
 }
@@ -288,6 +390,7 @@ fn step<'a, C: PatCx>(
     cx: &C,
     decisions: &Decisions,
     bare: bool,
+    known: &mut KnownTrees<'a>,
     frames: &mut Vec<Frame<'a, C::Ty>>,
     table: &mut NodeTable,
     turn: Turn<'a, C::Ty>,
@@ -296,16 +399,21 @@ fn step<'a, C: PatCx>(
     requires bare { Tells bare (IsBare (C.is_value cx.now) root) }
     requires turn { IsTurn (C.is_type cx.now) (C.context cx.now) (C.is_value cx.now) (table_decides decisions.now) root
         (reverse frames.old.items) (table_trees table.old) turn }
-    ensures { IfOk result (λ t. IsTurn (C.is_type cx.now) (C.context cx.now) (C.is_value cx.now)
+    requires known { AreKnown (C.context cx.now) (C.is_value cx.now) (table_decides decisions.now)
+        (IsBare (C.is_value cx.now) root) root (table_trees table.old) (known_entries known.old) }
+    requires uids { IsDistinct nat_eq (flat_map (λ a. uids_in a.pat) root.arms) }
+    ensures turn { IfOk result (λ t. IsTurn (C.is_type cx.now) (C.context cx.now) (C.is_value cx.now)
         (table_decides decisions.now) root (reverse frames.new.items) (table_trees table.new) t) }
+    ensures known { OnOk result (AreKnown (C.context cx.now) (C.is_value cx.now) (table_decides decisions.now)
+        (IsBare (C.is_value cx.now) root) root (table_trees table.new) (known_entries known.new)) }
 {
     match turn {
         Turn::Lower(m) => {
-            let new = lower_one(alloc, arena, cx, decisions, bare, frames, table, m)?;
+            let new = lower_one(alloc, arena, cx, decisions, bare, known, frames, table, m)?;
             Ok(new)
         }
         Turn::Finished(index) => {
-            let new = resume(alloc, arena, cx, decisions, frames, table, index)?;
+            let new = resume(alloc, arena, cx, decisions, known, frames, table, index)?;
             Ok(new)
         }
         Turn::Done(index) => Ok(Turn::Done(index)),
@@ -349,13 +457,24 @@ pub(crate) fn lower_match<'a, C: PatCx>(
         × IsFinished [] t i (table_trees table.new)) }
 {
     let first = first_matrix(alloc, m)?;
+    let mut known = none_known(alloc);
     let mut frames = Vec::new(alloc);
     let mut turn = Turn::Lower(first);
     for _step in 0..usize::MAX {
         match turn {
             Turn::Done(index) => return Ok(index),
             other => {
-                turn = step(alloc, arena, cx, decisions, bare, &mut frames, table, other)?;
+                turn = step(
+                    alloc,
+                    arena,
+                    cx,
+                    decisions,
+                    bare,
+                    &mut known,
+                    &mut frames,
+                    table,
+                    other,
+                )?;
             }
         }
     }

@@ -11,6 +11,7 @@ use Rattle.decision_tree.specs.declared.frames.Frame.TheVariants.{Switch}
 use Rattle.decision_tree.specs.declared.frames.Looked.{Looked}
 use Rattle.decision_tree.specs.Matrices.{matrix_columns, matrix_rows}
 use Rattle.decision_tree.specs.Waiting.{Awaits}
+use Rattle.decision_tree.proofs.Knowing.{dropped-scope}
 use Rattle.decision_tree.proofs.Beginning.{left-begun, else-begun}
 use Rattle.decision_tree.proofs.Looking.{within, read, longer, is-type, sharp, dropped-at}
 use Rattle.decision_tree.proofs.Turning.{last-first, found-at}
@@ -73,8 +74,8 @@ present-requires-clause-heads g c =
 pub dropped-requires-clause-within : goal.dropped-requires-clause-within
 dropped-requires-clause-within g c = within c.args.e c.args.i c.requires.1.1.column c.requires.1.1.there
 
-pub returns-then-found : goal.returns-then-found
-returns-then-found g c =
+pub returns-then-found-clause-turn : goal.returns-then-found-clause-turn
+returns-then-found-clause-turn g c =
     let cx = c.args.cx.now in
     let IsType = g.C.PatCx.is_type cx in
     let context = g.C.PatCx.context cx in
@@ -102,6 +103,7 @@ returns-then-found g c =
           (else-begun IsType context V decides g.root frames now l o (plain_ctors f.gaps.items) f.missing found c.tables_are_built.ensures
           (ap (map plain_branch) c.new.ensures.items) c.if-found.true Else (matrix_columns next) (matrix_rows next) refl over.0
           over.1),
+      dropped-scope IsType context V decides g.root i e next o.scope c.in_ok-next.ensures.dropped,
     )
 
 pub next_case-requires : goal.next_case-requires

@@ -1,5 +1,5 @@
 use Rattle.std.proofs.Common.{◌≡◌, ◌∷◌, ◌∙◌, true, reverse, subst, refl, sym, ap, map, length}
-use Rattle.match_model.specs.DecisionTrees.{all_wild, row_binds}
+use Rattle.match_model.specs.DecisionTrees.{TakeTree, all_wild, row_binds}
 use Rattle.keyed_matrix.specs.Deciding.{table_decides}
 use Rattle.keyed_matrix.specs.Views.{plain_columns, plain_row, plain_rows}
 use Rattle.tree_eval.specs.Nodes.{plain_bind}
@@ -8,6 +8,8 @@ use Rattle.decision_tree.specs.declared.frames.Frame.TheVariants.{Guard}
 use Rattle.decision_tree.specs.declared.frames.Matrix.{Matrix}
 use Rattle.decision_tree.specs.Matrices.{matrix_columns, matrix_rows}
 use Rattle.decision_tree.specs.Waiting.{Awaits}
+use Rattle.decision_tree.proofs.Knowing.{rest-scope}
+use Rattle.decision_tree.proofs.KnownTrees.{keeps-walk}
 use Rattle.decision_tree.proofs.Going.{taken}
 use Rattle.decision_tree.proofs.Turning.{taken-off, last-first, good-rest, first-as-many, guard-begun}
 use Rattle.decision_tree.proofs.lowering.finish_row.Goals as goal
@@ -23,8 +25,8 @@ row_binds-requires g c =
     ∙ first-as-many (g.C.PatCx.is_type cx) (g.C.PatCx.context cx) (g.C.PatCx.is_value cx) (table_decides c.args.decisions.now)
     g.root m row c.remove-row.new.self.items front c.requires.1.1.1.1.0
 
-pub returns-then-row : goal.returns-then-row
-returns-then-row g c =
+pub returns-then-row-clause-turn : goal.returns-then-row-clause-turn
+returns-then-row-clause-turn g c =
     let cx = c.args.cx.now in
     let IsType = g.C.PatCx.is_type cx in
     let context = g.C.PatCx.context cx in
@@ -45,11 +47,12 @@ returns-then-row g c =
           (guard-begun IsType context V decides g.root frames now row.arm binds columns (plain_row row) (matrix_rows next)
           (subst (λ r. all_wild (plain_row r) ≡ true) (sym c.remove-row.ensures.value) (c.requires.1.1.1.0 row)) c.if-row.true refl
           (subst (λ cs. map plain_bind binds.items ≡ row_binds (plain_columns cs) (plain_row row)) c.deref.ensures.value
-          c.in_ok-binds.ensures) (subst (Awaits IsType context V decides g.root frames now columns) front c.requires.1.1.1.1.1)),
+          c.in_ok-binds.ensures) (subst (Awaits IsType context V decides g.root frames now columns) front c.requires.1.1.1.1.1.0)),
+      rest-scope IsType context V decides g.root m next (plain_row row) refl front c.requires.1.1.1.1.1.1,
     )
 
-pub returns : goal.returns
-returns g c =
+pub returns-clause-turn : goal.returns-clause-turn
+returns-clause-turn g c =
     let cx = c.args.cx.now in
     let IsType = g.C.PatCx.is_type cx in
     let context = g.C.PatCx.context cx in
@@ -68,5 +71,10 @@ returns g c =
     c.in_ok-index.index (subst (λ r. all_wild (plain_row r) ≡ true) (sym c.remove-row.ensures.value) (c.requires.1.1.1.0 row))
     c.if-row.false
     (subst (λ cs. map plain_bind binds.items ≡ row_binds (plain_columns cs) (plain_row row)) c.deref.ensures.value
-    c.in_ok-binds.ensures) c.tables_are_built.ensures (subst (Awaits IsType context V decides g.root frames now columns) front c.requires.1.1.1.1.1)
+    c.in_ok-binds.ensures) c.tables_are_built.ensures (subst (Awaits IsType context V decides g.root frames now columns) front c.requires.1.1.1.1.1.0)
     c.in_ok-index.ensures.finished
+
+pub returns-clause-keeps : goal.returns-clause-keeps
+returns-clause-keeps g c =
+    keeps-walk (table_trees c.args.table.now) (table_trees c.take.new.self)
+    (TakeTree c.remove-row.result.arm (map plain_bind c.in_ok-binds.binds.items)) c.in_ok-index.ensures.finished.walk

@@ -5,6 +5,7 @@ use Rattle.keyed_matrix.specs.Deciding.{table_decides}
 use Rattle.keyed_matrix.specs.Steps.{AreLonger}
 use Rattle.keyed_matrix.specs.Views.{plain_rows}
 use Rattle.tree_eval.specs.Trees.{table_trees}
+use Rattle.decision_tree.proofs.Knowing.{dropped-scope, expanded-scope}
 use Rattle.decision_tree.proofs.Looking.{within, read, longer, is-type, expanded-there}
 use Rattle.decision_tree.proofs.Turning.{dropped-turn, opened}
 use Rattle.decision_tree.proofs.lowering.look_at.Goals as goal
@@ -44,8 +45,8 @@ dropped-requires-clause-within g c =
     let there = expanded-there context decides i m e f.column f.there c.in_ok-e.ensures.expanded in
     within e i f.column there
 
-pub returns-then-are_wild : goal.returns-then-are_wild
-returns-then-are_wild g c =
+pub returns-then-are_wild-clause-turn : goal.returns-then-are_wild-clause-turn
+returns-then-are_wild-clause-turn g c =
     let cx = c.args.cx.now in
     let IsType = g.C.PatCx.is_type cx in
     let context = g.C.PatCx.context cx in
@@ -62,7 +63,10 @@ returns-then-are_wild g c =
       c.in_ok-next.ensures.good,
       dropped-turn IsType context V decides g.root frames now i m e c.in_ok-next.next f c.in_ok-e.ensures.expanded
           (ap (λ rs. all_wild_at i (plain_rows rs)) (sym c.deref.ensures.value) ∙ sym c.are_wild.ensures ∙ c.if-are_wild.true)
-          c.in_ok-next.ensures.dropped c.requires.1.1.1.1,
+          c.in_ok-next.ensures.dropped c.requires.1.1.1.1.0,
+      dropped-scope IsType context V decides g.root i e c.in_ok-next.next
+          (expanded-scope IsType context V decides g.root i m e c.requires.1.1.1.1.1 c.in_ok-e.ensures.expanded)
+          c.in_ok-next.ensures.dropped,
     )
 
 pub index-requires : goal.index-requires
@@ -118,9 +122,10 @@ open_column-requires g c κs inside =
       (
         inside.1,
         opened IsType context V decides g.root frames now i m e true f c.in_ok-e.ensures.expanded c.in_ok-e.ensures.ready
+            (expanded-scope IsType context V decides g.root i m e c.requires.1.1.1.1.1 c.in_ok-e.ensures.expanded)
             (ap (λ rs. all_wild_at i (plain_rows rs)) (sym c.deref.ensures.value) ∙ sym c.are_wild.ensures ∙ c.if-are_wild.false)
             (ap (λ d. is_switchless (context.set_of d.type)) (sym (read e i f.column there c.index.result.now c.index.ensures))
-            ∙ ap is_switchless (sym c.set-set.ensures) ∙ sym c.is_switchless.ensures ∙ c.if-is_switchless.true) c.requires.1.1.1.1,
+            ∙ ap is_switchless (sym c.set-set.ensures) ∙ sym c.is_switchless.ensures ∙ c.if-is_switchless.true) c.requires.1.1.1.1.0,
       ),
     )
 
@@ -143,8 +148,9 @@ begin_switch-requires g c κs inside =
       (
         inside.1,
         opened IsType context V decides g.root frames now i m e false f c.in_ok-e.ensures.expanded c.in_ok-e.ensures.ready
+            (expanded-scope IsType context V decides g.root i m e c.requires.1.1.1.1.1 c.in_ok-e.ensures.expanded)
             (ap (λ rs. all_wild_at i (plain_rows rs)) (sym c.deref.ensures.value) ∙ sym c.are_wild.ensures ∙ c.if-are_wild.false)
             (ap (λ d. is_switchless (context.set_of d.type)) (sym (read e i f.column there c.index.result.now c.index.ensures))
-            ∙ ap is_switchless (sym c.set-set.ensures) ∙ sym c.is_switchless.ensures ∙ c.if-is_switchless.false) c.requires.1.1.1.1,
+            ∙ ap is_switchless (sym c.set-set.ensures) ∙ sym c.is_switchless.ensures ∙ c.if-is_switchless.false) c.requires.1.1.1.1.0,
       ),
     )

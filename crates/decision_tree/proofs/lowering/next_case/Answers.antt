@@ -11,6 +11,7 @@ use Rattle.decision_tree.specs.declared.frames.Frame.TheVariants.{Switch}
 use Rattle.decision_tree.specs.declared.frames.Looked.{Looked}
 use Rattle.decision_tree.specs.Matrices.{matrix_columns, matrix_rows}
 use Rattle.decision_tree.specs.Waiting.{Awaits}
+use Rattle.decision_tree.proofs.Knowing.{entered-scope, switch-keeps}
 use Rattle.decision_tree.proofs.Going.{switch-done, piece-begun}
 use Rattle.decision_tree.proofs.Looking.{read, entered-at}
 use Rattle.decision_tree.proofs.Turning.{last-first, left-last, left-none, left-within, left-below, piece-there}
@@ -32,8 +33,8 @@ entered-requires-clause-piece g c =
     piece-there IsType context V decides g.root frames now l.matrix l.column (plain_ctors new) (plain_ctor piece) cases
     (left-last IsType context V decides g.root frames now l.matrix l.column l.pieces.items new piece cases c.in-Some.ensures.items c.requires.1.1)
 
-pub returns-in-Some : goal.returns-in-Some
-returns-in-Some g c =
+pub returns-in-Some-clause-turn : goal.returns-in-Some-clause-turn
+returns-in-Some-clause-turn g c =
     let cx = c.args.cx.now in
     let IsType = g.C.PatCx.is_type cx in
     let context = g.C.PatCx.context cx in
@@ -55,6 +56,11 @@ returns-in-Some g c =
           (left-last IsType context V decides g.root frames now old.matrix old.column old.pieces.items c.pop.new.self.items piece cases
           c.in-Some.ensures.items c.requires.1.1) refl c.in_ok-case-in-Some.ensures
           (λ d there. entered-at context decides old.column old.matrix next d there p c.in_ok-next-in-Some.ensures.entered)),
+      entered-scope IsType context V decides g.root (g.met.C.PatCx.parts cx) (g.met.C.PatCx.values cx) old.column old.matrix
+          next p c.requires.1.1.5.scope c.requires.1.1.5.ready
+          (piece-there IsType context V decides g.root frames now old.matrix old.column (plain_ctors c.pop.new.self.items) p cases
+          (left-last IsType context V decides g.root frames now old.matrix old.column old.pieces.items c.pop.new.self.items piece cases
+          c.in-Some.ensures.items c.requires.1.1)) c.in_ok-next-in-Some.ensures.entered,
     )
 
 pub index-requires : goal.index-requires
@@ -88,8 +94,8 @@ switch-requires g c =
     (sym (ap (map plain_branch) c.reverse.ensures.items ∙ map-reverse plain_branch l.cases.items))
     (left-below IsType context V decides g.root frames now l.matrix l.column (plain_ctors l.pieces.items) (map plain_branch l.cases.items) c.requires.1.1)
 
-pub returns : goal.returns
-returns g c =
+pub returns-clause-turn : goal.returns-clause-turn
+returns-clause-turn g c =
     let cx = c.args.cx.now in
     let IsType = g.C.PatCx.is_type cx in
     let context = g.C.PatCx.context cx in
@@ -107,5 +113,25 @@ returns g c =
     (omega (arith, l.pieces.ok.0, c.in-None.ensures.cases.0)) c.requires.1.1)
     (λ d there. ap plain_place c.in_ok-place-in-None.ensures
     ∙ ap (λ q. q.place) (read l.matrix l.column d there c.index.result.now c.index.ensures))
+    (subst (λ bs. FinishesSwitch now place bs index new)
+    (ap (map plain_branch) c.reverse.ensures.items ∙ map-reverse plain_branch l.cases.items) c.in_ok-index-in-None.ensures.finished)
+
+pub returns-clause-keeps : goal.returns-clause-keeps
+returns-clause-keeps g c =
+    let cx = c.args.cx.now in
+    let IsType = g.C.PatCx.is_type cx in
+    let context = g.C.PatCx.context cx in
+    let V = g.C.PatCx.is_value cx in
+    let decides = table_decides c.args.decisions.now in
+    let frames = reverse c.args.frames.now.items in
+    let now = table_trees c.args.table.now in
+    let l = c.args.looked in
+    let cases = map plain_branch l.cases.items in
+    let place = plain_place (steps_of c.in_ok-place-in-None.place) in
+    let index = c.in_ok-index-in-None.index in
+    let new = table_trees c.switch.new.self in
+    switch-keeps IsType context V decides g.root frames now new l.matrix l.column cases place index
+    (left-none IsType context V decides g.root frames now l.matrix l.column l.pieces.items cases
+    (omega (arith, l.pieces.ok.0, c.in-None.ensures.cases.0)) c.requires.1.1)
     (subst (λ bs. FinishesSwitch now place bs index new)
     (ap (map plain_branch) c.reverse.ensures.items ∙ map-reverse plain_branch l.cases.items) c.in_ok-index-in-None.ensures.finished)

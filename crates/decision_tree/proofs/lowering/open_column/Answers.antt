@@ -7,6 +7,7 @@ use Rattle.keyed_matrix.specs.Steps.{AreLonger}
 use Rattle.keyed_matrix.specs.Views.{plain_rows}
 use Rattle.tree_eval.specs.Trees.{table_trees}
 use Rattle.decision_tree.specs.Matrices.{matrix_rows}
+use Rattle.decision_tree.proofs.Knowing.{entered-scope}
 use Rattle.decision_tree.proofs.Looking.{within, read, longer, is-type, heads, first-are, some-piece}
 use Rattle.decision_tree.proofs.Turning.{listed-at, opened-turn}
 use Rattle.decision_tree.proofs.lowering.open_column.Goals as goal
@@ -142,4 +143,13 @@ returns g c =
       opened-turn IsType context V decides g.root frames now i e c.in_ok-next.next p o
           (first-are (context.set_of o.column.type) (ctors_at i (matrix_rows e)) items c.index-3.result.now o.kind listed
           c.index-3.ensures) c.in_ok-next.ensures.entered,
+      entered-scope IsType context V decides g.root (g.met.C.PatCx.parts cx) values i e c.in_ok-next.next p o.scope o.ready
+          (record {
+            column = o.column;
+            there = o.there;
+            pieces = p ∷ [];
+            are = first-are (context.set_of o.column.type) (ctors_at i (matrix_rows e)) items c.index-3.result.now o.kind
+                listed c.index-3.ensures;
+            among = inl refl;
+          }) c.in_ok-next.ensures.entered,
     )

@@ -1,11 +1,14 @@
-use Rattle.std.proofs.Common.{◌∷◌, ◌++◌, ◌∙◌, [], reverse, subst, sym, ap}
+use Rattle.std.proofs.Common.{◌∷◌, ◌++◌, ◌∙◌, [], map, reverse, subst, sym, ap}
 use Rattle.constructor_sets.specs.Columns.{plain_ctors}
 use Rattle.keyed_matrix.specs.Deciding.{table_decides}
-use Rattle.tree_eval.specs.Nodes.{plain_branch}
+use Rattle.tree_eval.specs.Nodes.{plain_bind, plain_branch}
 use Rattle.tree_eval.specs.Trees.{table_trees}
-use Rattle.decision_tree.specs.declared.frames.Frame.TheVariants.{Guard, Switch}
+use Rattle.decision_tree.specs.declared.frames.Frame.TheVariants.{Guard, Switch, Note}
 use Rattle.decision_tree.specs.declared.frames.Turn.TheVariants.{Finished}
-use Rattle.decision_tree.specs.Waiting.{IsLeft, IsTurn}
+use Rattle.decision_tree.specs.KnownViews.{known_entries, plain_known_matrix}
+use Rattle.decision_tree.specs.Waiting.{IsBare, IsLeft, IsTurn}
+use Rattle.decision_tree.proofs.Knowing.{note-resumed, ask-keeps}
+use Rattle.decision_tree.proofs.KnownTrees.{known-after, known-more}
 use Rattle.decision_tree.proofs.Turning.{last-first, map-snoc, guard-resumed, switch-resumed}
 use Rattle.decision_tree.proofs.lowering.resume.Goals as goal
 
@@ -30,12 +33,12 @@ next_case-requires g c κs inside =
         subst (IsLeft IsType context V decides g.root (reverse new) now l.matrix l.column (plain_ctors l.pieces.items))
             (sym (map-snoc plain_branch l.cases.items c.push.new.self.items (case, index) c.in_ok-push-in-Some-Switch.ensures.items))
             (switch-resumed IsType context V decides g.root (reverse new) now l case index
-            (subst (λ fs. IsTurn IsType context V decides g.root fs now (Finished index)) popped c.requires.1.1)),
+            (subst (λ fs. IsTurn IsType context V decides g.root fs now (Finished index)) popped c.requires.1.1.0)),
       ),
     )
 
-pub returns-in_ok-asked-in-Some-Guard : goal.returns-in_ok-asked-in-Some-Guard
-returns-in_ok-asked-in-Some-Guard g c =
+pub returns-in_ok-asked-in-Some-Guard-clause-turn : goal.returns-in_ok-asked-in-Some-Guard-clause-turn
+returns-in_ok-asked-in-Some-Guard-clause-turn g c =
     let cx = c.args.cx.now in
     let IsType = g.C.PatCx.is_type cx in
     let context = g.C.PatCx.context cx in
@@ -50,4 +53,68 @@ returns-in_ok-asked-in-Some-Guard g c =
     let popped = last-first new c.args.frames.now.items (Guard arm binds)
     (c.in-Some-Guard.ensures.items ∙ ap (λ f. new ++ f ∷ []) c.in-Some-Guard.field-0-is) in
     guard-resumed IsType context V decides g.root (reverse new) now (table_trees c.ask.new.self) arm binds index c.in_ok-asked-in-Some-Guard.asked
-    (subst (λ fs. IsTurn IsType context V decides g.root fs now (Finished index)) popped c.requires.1.1) c.in_ok-asked-in-Some-Guard.ensures.finished
+    (subst (λ fs. IsTurn IsType context V decides g.root fs now (Finished index)) popped c.requires.1.1.0) c.in_ok-asked-in-Some-Guard.ensures.finished
+
+pub returns-in_ok-asked-in-Some-Guard-clause-known : goal.returns-in_ok-asked-in-Some-Guard-clause-known
+returns-in_ok-asked-in-Some-Guard-clause-known g c =
+    let cx = c.args.cx.now in
+    let IsType = g.C.PatCx.is_type cx in
+    let context = g.C.PatCx.context cx in
+    let V = g.C.PatCx.is_value cx in
+    let decides = table_decides c.args.decisions.now in
+    let frames = reverse c.args.frames.now.items in
+    let now = table_trees c.args.table.now in
+    let new = c.pop.new.self.items in
+    let arm = c.in-Some-Guard.arm in
+    let binds = c.in-Some-Guard.binds in
+    let index = c.args.index in
+    let popped = last-first new c.args.frames.now.items (Guard arm binds)
+    (c.in-Some-Guard.ensures.items ∙ ap (λ f. new ++ f ∷ []) c.in-Some-Guard.field-0-is) in
+    known-after context V decides (IsBare V g.root) g.root now (table_trees c.ask.new.self) (known_entries c.args.known.now)
+    (ask-keeps IsType context V decides g.root (reverse new) now (table_trees c.ask.new.self) arm binds (map plain_bind binds.items)
+    index c.in_ok-asked-in-Some-Guard.asked
+    (subst (λ fs. IsTurn IsType context V decides g.root fs now (Finished index)) popped c.requires.1.1.0)
+    c.in_ok-asked-in-Some-Guard.ensures.finished) c.requires.1.1.1
+
+pub returns-in_ok-note_known-in-Some-Note-clause-turn : goal.returns-in_ok-note_known-in-Some-Note-clause-turn
+returns-in_ok-note_known-in-Some-Note-clause-turn g c =
+    let cx = c.args.cx.now in
+    let IsType = g.C.PatCx.is_type cx in
+    let context = g.C.PatCx.context cx in
+    let V = g.C.PatCx.is_value cx in
+    let decides = table_decides c.args.decisions.now in
+    let now = table_trees c.args.table.now in
+    let new = c.pop.new.self.items in
+    let matrix = c.in-Some-Note.matrix in
+    let index = c.args.index in
+    let popped = last-first new c.args.frames.now.items (Note matrix)
+    (c.in-Some-Note.ensures.items ∙ ap (λ f. new ++ f ∷ []) c.in-Some-Note.field-0-is) in
+    (note-resumed IsType context V decides g.root (reverse new) now matrix index
+    (subst (λ fs. IsTurn IsType context V decides g.root fs now (Finished index)) popped c.requires.1.1.0)).0
+
+pub returns-in_ok-note_known-in-Some-Note-clause-known : goal.returns-in_ok-note_known-in-Some-Note-clause-known
+returns-in_ok-note_known-in-Some-Note-clause-known g c =
+    let cx = c.args.cx.now in
+    let IsType = g.C.PatCx.is_type cx in
+    let context = g.C.PatCx.context cx in
+    let V = g.C.PatCx.is_value cx in
+    let decides = table_decides c.args.decisions.now in
+    let now = table_trees c.args.table.now in
+    let new = c.pop.new.self.items in
+    let matrix = c.in-Some-Note.matrix in
+    let index = c.args.index in
+    let popped = last-first new c.args.frames.now.items (Note matrix)
+    (c.in-Some-Note.ensures.items ∙ ap (λ f. new ++ f ∷ []) c.in-Some-Note.field-0-is) in
+    known-more context V decides (IsBare V g.root) g.root now (known_entries c.args.known.now)
+    (known_entries c.note_known.new.known) (plain_known_matrix matrix) index c.requires.1.1.1
+    (note-resumed IsType context V decides g.root (reverse new) now matrix index
+    (subst (λ fs. IsTurn IsType context V decides g.root fs now (Finished index)) popped c.requires.1.1.0)).1
+    c.in_ok-note_known-in-Some-Note.ensures
+
+pub returns-in_ok-turn-in-Some-Switch-clause-known : goal.returns-in_ok-turn-in-Some-Switch-clause-known
+returns-in_ok-turn-in-Some-Switch-clause-known g c =
+    let context = g.C.PatCx.context c.args.cx.now in
+    let V = g.C.PatCx.is_value c.args.cx.now in
+    known-after context V (table_decides c.args.decisions.now) (IsBare V g.root) g.root (table_trees c.args.table.now)
+    (table_trees c.next_case.new.table) (known_entries c.args.known.now) c.in_ok-turn-in-Some-Switch.ensures.keeps
+    c.requires.1.1.1

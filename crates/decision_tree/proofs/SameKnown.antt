@@ -1,0 +1,130 @@
+-- What the derived test finds equal tells the same matrix; what is among known trees.
+use Rattle.std.proofs.Common.{◌≡◌, ◌⊎◌, inl, inr, ℕ, Bool, true, false, if◌then◌else◌, cond, List, [], ◌∷◌, map, Option, Some, None, refl, sym, ap, ◌∙◌, rules, nat_eq}
+use Rattle.std.proofs.lemmas.Slice.Eq.{bytes_eq-Decides}
+use Rattle.std.specs.Cmp.Lexicographic.{pointwise}
+use Rattle.indexmap.specs.IndexMap.{insert_entry}
+use Rattle.match_model.specs.Lists.{Among}
+use Rattle.pat_context.specs.declared.place.Step.{Step}
+use Rattle.pat_context.specs.contracts.place.StepPartialEq.TheImpl as step_eq
+use Rattle.std.specs.Map.{lookup}
+use Rattle.std.specs.Option.{option_eq}
+use Rattle.pat_context.specs.Views.{plain_step, is_sure}
+use Rattle.tree_eval.proofs.Pointwise.{both, nat-same, pointwise-map}
+use Rattle.decision_tree.specs.declared.known.KnownColumn.{KnownColumn}
+use Rattle.decision_tree.specs.declared.known.KnownName.{KnownName}
+use Rattle.decision_tree.specs.declared.known.KnownRow.{KnownRow}
+use Rattle.decision_tree.specs.declared.known.KnownMatrix.{KnownMatrix}
+use Rattle.decision_tree.specs.contracts.known.KnownColumnPartialEq.TheImpl as column_eq
+use Rattle.decision_tree.specs.contracts.known.KnownNamePartialEq.TheImpl as name_eq
+use Rattle.decision_tree.specs.contracts.known.KnownRowPartialEq.TheImpl as row_eq
+use Rattle.decision_tree.specs.contracts.known.KnownMatrixPartialEq.TheImpl as matrix_eq
+use Rattle.decision_tree.specs.KnownViews.{plain_known_column, side_place, plain_name, plain_known_row, plain_known_matrix}
+
+same-step : (a b : Step) → step_eq.ghosts.eq a b ≡ true → plain_step a ≡ plain_step b
+same-step a b h = let e : a ≡ b = search (rules, h) in ap plain_step e
+
+same-place : (a b : List Step) → pointwise (λ x y. step_eq.ghosts.eq x y) a b ≡ true → map plain_step a ≡ map plain_step b
+same-place a b h = pointwise-map (λ x y. step_eq.ghosts.eq x y) plain_step a b same-step h
+
+-- lists that are equal item by item are one, where equal items are
+pointwise-same : {A : Type 0} (E : A → A → Bool) → ((x y : A) → E x y ≡ true → x ≡ y) → (xs ys : List A) →
+    pointwise E xs ys ≡ true → xs ≡ ys
+pointwise-same E k [] [] h = refl
+pointwise-same E k [] (y ∷ ys) h = cc
+pointwise-same E k (x ∷ xs) [] h = cc
+pointwise-same E k (x ∷ xs) (y ∷ ys) h =
+    let b = both (E x y) (pointwise E xs ys) h in
+    let here : x ≡ y = k x y b.0 in
+    let rest : xs ≡ ys = pointwise-same E k xs ys b.1 in
+    ap (λ z. z ∷ xs) here ∙ ap (λ zs. y ∷ zs) rest
+
+same-column : (a b : KnownColumn) → column_eq.ghosts.eq a b ≡ true → plain_known_column a ≡ plain_known_column b
+same-column a b h =
+    let k = both _ _ h in
+    let place : map plain_step a.place.now ≡ map plain_step b.place.now = same-place a.place.now b.place.now k.0 in
+    let sure : a.validity ≡ b.validity = search (rules, k.1) in
+    λ i. record { place = place i; sure = (ap is_sure sure) i }
+
+same-name : (a b : KnownName) → name_eq.ghosts.eq a b ≡ true → plain_name a ≡ plain_name b
+same-name a b h =
+    let k = both _ _ h in
+    let l = both _ _ k.1 in
+    let n = both _ _ l.1 in
+    let name : a.name.now ≡ b.name.now = (bytes_eq-Decides a.name.now b.name.now).0 k.0 in
+    let mode : a.mode ≡ b.mode = search (rules, l.0) in
+    let place : map plain_step a.place.now ≡ map plain_step b.place.now = same-place a.place.now b.place.now n.0 in
+    let sides : a.sides ≡ b.sides = search (rules, n.1) in
+    λ i. record { name = name i; mode = mode i; place = side_place (place i) (sides i) }
+
+same-head : (x y : Option ℕ) → option_eq nat_eq x y ≡ true → x ≡ y
+same-head None None h = refl
+same-head None (Some y) h = cc
+same-head (Some x) None h = cc
+same-head (Some x) (Some y) h = ap Some (nat-same x y h)
+
+same-row : (a b : KnownRow) → row_eq.ghosts.eq a b ≡ true → plain_known_row a ≡ plain_known_row b
+same-row a b h =
+    let k = both _ _ h in
+    let l = both _ _ k.1 in
+    let n = both _ _ l.1 in
+    let o = both _ _ n.1 in
+    let heads : a.heads.items ≡ b.heads.items = pointwise-same (option_eq nat_eq) same-head a.heads.items b.heads.items
+    k.0 in
+    let arm : a.arm ≡ b.arm = nat-same a.arm b.arm l.0 in
+    let guarded : a.guarded ≡ b.guarded = search (rules, n.0) in
+    let chosen : a.chosen.items ≡ b.chosen.items = pointwise-same nat_eq nat-same a.chosen.items b.chosen.items o.0 in
+    let caught : map plain_name a.caught.items ≡ map plain_name b.caught.items = pointwise-map
+    (λ x y. name_eq.ghosts.eq x y) plain_name a.caught.items b.caught.items same-name o.1 in
+    λ i. record { heads = heads i; arm = arm i; guarded = guarded i; chosen = chosen i; caught = caught i }
+
+pub same-matrix : (a b : KnownMatrix) → matrix_eq.ghosts.eq a b ≡ true → plain_known_matrix a ≡ plain_known_matrix b
+same-matrix a b h =
+    let k = both _ _ h in
+    let columns : map plain_known_column a.columns.items ≡ map plain_known_column b.columns.items = pointwise-map
+    (λ x y. column_eq.ghosts.eq x y) plain_known_column a.columns.items b.columns.items same-column k.0 in
+    let rows : map plain_known_row a.rows.items ≡ map plain_known_row b.rows.items = pointwise-map
+    (λ x y. row_eq.ghosts.eq x y) plain_known_row a.rows.items b.rows.items same-row k.1 in
+    λ i. record { columns = columns i; rows = rows i }
+
+module _ {K M V : Type 0} (f : K → M) where
+  abbrev shown : K × V → M × V
+  shown e = (f e.0, e.1)
+
+  -- what is found under a test is among the entries
+  pub found-among : (test : K → Bool) (key : M) (es : List (K × V)) (v : V) → ((k : K) → test k ≡ true → f k ≡ key) →
+      lookup test es ≡ Some v → Among (key, v) (map shown es)
+  found-among test key [] v h e = cc
+  found-among test key (x ∷ es) v h e = go (test x.0) refl e (found-among test key es v h)
+    where
+      some-same : (a b : V) → Some a ≡ Some b → a ≡ b
+      some-same a b e = cc
+
+      go : (b : Bool) → test x.0 ≡ b → cond b (Some x.1) (lookup test es) ≡ Some v →
+          (lookup test es ≡ Some v → Among (key, v) (map shown es)) →
+          ((key, v) ≡ shown x) ⊎ Among (key, v) (map shown es)
+      go true t e ih =
+          let same : x.1 ≡ v = some-same x.1 v e in
+          let told : f x.0 ≡ key = h x.0 t in
+          inl (sym (λ i. (told i, same i)))
+      go false t e ih = inr (ih e)
+
+  -- what is among them after one was put in was there before, or is that one
+  pub noted-among : (eq : K → K → Bool) (k : K) (v : V) (es : List (K × V)) →
+      ((l : K) → eq k l ≡ true → f k ≡ f l) → (x : M × V) → Among x (map shown (insert_entry eq es k v)) →
+      Among x (map shown es) ⊎ (x ≡ (f k, v))
+  noted-among eq k v [] h x (inl e) = inr e
+  noted-among eq k v [] h x (inr j) = elim j [ ]
+  noted-among eq k v (e ∷ es) h x i = go (eq k e.0) refl (noted-among eq k v es h x) i
+    where
+      onward : Among x (map shown es) ⊎ (x ≡ (f k, v)) → Among x (map shown (e ∷ es)) ⊎ (x ≡ (f k, v))
+      onward (inl j) = inl (inr j)
+      onward (inr j) = inr j
+
+      go : (b : Bool) → eq k e.0 ≡ b →
+          (Among x (map shown (insert_entry eq es k v)) → Among x (map shown es) ⊎ (x ≡ (f k, v))) →
+          Among x (map shown (if b then (e.0, v) ∷ es else e ∷ insert_entry eq es k v)) →
+          Among x (map shown (e ∷ es)) ⊎ (x ≡ (f k, v))
+      go true t ih (inl j) = inr (j ∙ sym (ap (λ z. (z, v)) (h e.0 t)))
+      go true t ih (inr j) = inl (inr j)
+      go false t ih (inl j) = inl (inl j)
+      go false t ih (inr j) = onward (ih j)

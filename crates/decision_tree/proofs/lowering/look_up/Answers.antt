@@ -1,0 +1,75 @@
+use Rattle.std.proofs.Common.{◌∙◌, reverse, subst, refl, sym}
+use Rattle.keyed_matrix.specs.Deciding.{table_decides}
+use Rattle.keyed_matrix.specs.Views.{plain_columns, plain_rows}
+use Rattle.tree_eval.specs.Trees.{table_trees}
+use Rattle.decision_tree.specs.declared.frames.Frame.TheVariants.{Note}
+use Rattle.decision_tree.specs.declared.frames.Matrix.{Matrix}
+use Rattle.decision_tree.specs.Known.{known_matrix}
+use Rattle.decision_tree.specs.KnownViews.{plain_known_matrix, known_entries}
+use Rattle.decision_tree.specs.Matrices.{matrix_columns, matrix_rows}
+use Rattle.decision_tree.specs.Waiting.{Awaits}
+use Rattle.decision_tree.proofs.Knowing.{by-arm, lone-open, lone-some, lone-scope, lone-matrix, lone-waits, known-turn, note-begun}
+use Rattle.decision_tree.proofs.Turning.{last-first}
+use Rattle.decision_tree.proofs.lowering.look_up.Goals as goal
+
+pub lone-rows-requires : goal.lone-rows-requires
+lone-rows-requires g c =
+    by-arm (table_decides c.args.decisions.now) (matrix_rows c.args.m) c.requires.1.1.1.1.0.parted
+
+pub returns-in-Some-clause-turn : goal.returns-in-Some-clause-turn
+returns-in-Some-clause-turn g c =
+    let cx = c.args.cx.now in
+    let IsType = g.C.PatCx.is_type cx in
+    let context = g.C.PatCx.context cx in
+    let V = g.C.PatCx.is_value cx in
+    let decides = table_decides c.args.decisions.now in
+    let frames = reverse c.args.frames.now.items in
+    let now = table_trees c.args.table.now in
+    let m = c.args.m in
+    let next : Matrix g.row.C-Ty.Denot = record { columns = m.columns; rows = c.lone-rows.result } in
+    known-turn IsType context V decides g.root frames now next (known_entries c.args.known.now)
+    (plain_known_matrix c.in_ok-matrix.matrix) c.in-Some.index c.tables_are_built.ensures c.requires.1.1.1.1.1.1.1.1
+    (lone-scope IsType context V decides g.root m next refl c.lone-rows.ensures c.requires.1.1.1.1.1.1.0)
+    c.requires.1.1.1.1.1.1.1.0
+    (c.in_ok-matrix.ensures ∙ (λ k. known_matrix (plain_columns (c.deref.ensures.value k)) (plain_rows (c.deref-2.ensures.value k))))
+    c.in-Some.ensures
+    (lone-waits IsType context V decides g.root (g.met.C.PatCx.parts cx) (g.met.C.PatCx.values cx) frames now m next refl
+    c.lone-rows.ensures c.requires.1.1.1.1.0 c.requires.1.1.1.1.1.0)
+
+pub look_next-requires : goal.look_next-requires
+look_next-requires g c κs inside =
+    let cx = c.args.cx.now in
+    let IsType = g.C.PatCx.is_type cx in
+    let context = g.C.PatCx.context cx in
+    let V = g.C.PatCx.is_value cx in
+    let decides = table_decides c.args.decisions.now in
+    let frames = reverse c.args.frames.now.items in
+    let now = table_trees c.args.table.now in
+    let m = c.args.m in
+    let next : Matrix g.row.C-Ty.Denot = record { columns = m.columns; rows = c.lone-rows.result } in
+    let matrix = c.in_ok-matrix.matrix in
+    let scope = lone-scope IsType context V decides g.root m next refl c.lone-rows.ensures c.requires.1.1.1.1.1.1.0 in (
+      inside.0,
+      (
+        inside.1,
+        (
+          lone-some m.rows.items next.rows.items c.lone-rows.ensures c.requires.1.1.0,
+          (
+            lone-open m.rows.items next.rows.items c.lone-rows.ensures c.requires.1.1.1.0 c.requires.1.1.0,
+            (
+              lone-matrix IsType context V decides g.root m next refl c.lone-rows.ensures c.requires.1.1.1.1.0,
+              (
+                subst (λ fs. Awaits IsType context V decides g.root fs now (matrix_columns next) (matrix_rows next))
+                    (sym (last-first c.args.frames.now.items c.push.new.self.items (Note matrix) c.in_ok-push.ensures.items))
+                    (note-begun IsType context V decides g.root frames now next matrix scope
+                    (c.in_ok-matrix.ensures ∙ (λ k. known_matrix (plain_columns (c.deref.ensures.value k))
+                    (plain_rows (c.deref-2.ensures.value k))))
+                    (lone-waits IsType context V decides g.root (g.met.C.PatCx.parts cx) (g.met.C.PatCx.values cx) frames now m next refl
+                    c.lone-rows.ensures c.requires.1.1.1.1.0 c.requires.1.1.1.1.1.0)),
+                scope,
+              ),
+            ),
+          ),
+        ),
+      ),
+    )

@@ -1,0 +1,41 @@
+-- What tells matrices, and which trees are known, as the definitions have them.
+use Rattle.std.specs.Prelude.{ℕ, List, [], ◌∷◌, ◌++◌, map, Option, Some, None}
+use Rattle.match_model.specs.Places.{MStep, MiddleStep}
+use Rattle.match_model.specs.Trees.{MBind}
+use Rattle.pat_context.specs.Views.{plain_place, is_sure}
+use Rattle.decision_tree.specs.declared.known.KnownColumn.{KnownColumn}
+use Rattle.decision_tree.specs.declared.known.KnownName.{KnownName}
+use Rattle.decision_tree.specs.declared.known.KnownRow.{KnownRow}
+use Rattle.decision_tree.specs.declared.known.KnownMatrix.{KnownMatrix}
+use Rattle.decision_tree.specs.declared.known.KnownTrees.{KnownTrees}
+use Rattle.decision_tree.specs.Known.{MKnownColumn, MKnownRow, MKnownMatrix}
+
+abbrev pub plain_known_column : KnownColumn → MKnownColumn
+plain_known_column c = record { place = plain_place c.place.now; sure = is_sure c.validity }
+
+-- the place of what a name holds that leaves so many items out at each end, or none
+abbrev pub side_place : List MStep → Option (ℕ × ℕ) → List MStep
+side_place place None = place
+side_place place (Some s) = place ++ MiddleStep s.0 s.1 ∷ []
+
+abbrev pub plain_name : KnownName → MBind
+plain_name n = record { name = n.name.now; mode = n.mode; place = side_place (plain_place n.place.now) n.sides }
+
+abbrev pub plain_known_row : KnownRow → MKnownRow
+plain_known_row r = record {
+  heads = r.heads.items;
+  arm = r.arm;
+  guarded = r.guarded;
+  chosen = r.chosen.items;
+  caught = map plain_name r.caught.items;
+}
+
+abbrev pub plain_known_matrix : KnownMatrix → MKnownMatrix
+plain_known_matrix m = record {
+  columns = map plain_known_column m.columns.items;
+  rows = map plain_known_row m.rows.items;
+}
+
+-- the matrices with the indices of their trees
+abbrev pub known_entries : KnownTrees → List (MKnownMatrix × ℕ)
+known_entries k = map (λ e. (plain_known_matrix e.0, e.1)) k.of.entries

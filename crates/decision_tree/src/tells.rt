@@ -1,0 +1,124 @@
+// What tells a matrix from the others of a match.
+ghost use Rattle.std.specs.Prelude.{◌≡◌, map, IfOk};
+ghost use Rattle.match_model.specs.Matrices.{bind_at};
+ghost use Rattle.keyed_matrix.specs.Views.{plain_caught, plain_columns, plain_head, plain_heads, plain_row};
+ghost use Rattle.keyed_matrix.specs.Views.{plain_rows};
+ghost use Rattle.decision_tree.specs.Known.{head_uid, known_column, known_row, known_matrix};
+ghost use Rattle.decision_tree.specs.KnownViews.{plain_known_column, plain_name, plain_known_row, plain_known_matrix};
+
+use crate::known::{KnownColumn, KnownMatrix, KnownName, KnownRow};
+use keyed_matrix::{Caught, KeyedColumn, KeyedRow};
+use no_memory::NoMemory;
+use pattern_arena::{DePat, Part};
+use std::alloc::Global;
+
+// The uid of the head's pattern.
+fn head_uid<'a, T: Copy>(head: &Option<&'a DePat<'a, T>>) -> Option<u64>
+    ensures { result ≡ head_uid (plain_head head.now) }
+{
+    match head {
+        None => None,
+        Some(p) => Some(p.uid),
+    }
+}
+
+// The uids of the heads' patterns.
+fn head_uids<'a, T: Copy>(
+    alloc: Global,
+    heads: &[Option<&'a DePat<'a, T>>],
+) -> Result<Vec<Option<u64>>, NoMemory>
+    ensures { IfOk result (λ v. v.items ≡ map head_uid (plain_heads heads.now)) }
+{
+    let mut uids = Vec::with_capacity(alloc, heads.len())?;
+    for head in heads {
+        uids.push(head_uid(head))?;
+    }
+    Ok(uids)
+}
+
+// What tells the name.
+fn known_name<'a>(caught: &Caught<'a>) -> KnownName<'a>
+    ensures { plain_name result ≡ plain_caught caught.now }
+{
+    let sides = match caught.bound.part {
+        Part::Whole => None,
+        Part::Middle { front, back } => Some((front, back)),
+    };
+    KnownName {
+        name: caught.bound.name,
+        mode: caught.bound.mode,
+        place: caught.place,
+        sides,
+    }
+}
+
+// What tells the names.
+fn known_names<'a>(alloc: Global, caught: &[Caught<'a>]) -> Result<Vec<KnownName<'a>>, NoMemory>
+    ensures { IfOk result (λ v. map plain_name v.items ≡ map plain_caught caught.now) }
+{
+    let mut names = Vec::with_capacity(alloc, caught.len())?;
+    for one in caught {
+        names.push(known_name(one))?;
+    }
+    Ok(names)
+}
+
+// What tells the row.
+fn known_row<'a, T: Copy>(alloc: Global, row: &KeyedRow<'a, T>) -> Result<KnownRow<'a>, NoMemory>
+    ensures { IfOk result (λ k. plain_known_row k ≡ known_row (plain_row row.now)) }
+{
+    let heads = head_uids(alloc, &row.heads)?;
+    let chosen = copied(alloc, row.chosen.as_slice())?;
+    let caught = known_names(alloc, &row.caught)?;
+    Ok(KnownRow {
+        heads,
+        arm: row.arm,
+        guarded: row.guarded,
+        chosen,
+        caught,
+    })
+}
+
+// The same numbers.
+fn copied(alloc: Global, numbers: &[u64]) -> Result<Vec<u64>, NoMemory>
+    ensures { IfOk result (λ v. v.items ≡ numbers.now) }
+{
+    let mut all = Vec::with_capacity(alloc, numbers.len())?;
+    for number in numbers {
+        all.push(*number)?;
+    }
+    Ok(all)
+}
+
+// What tells the columns.
+fn known_columns<'a, T: Copy>(
+    alloc: Global,
+    columns: &[KeyedColumn<'a, T>],
+) -> Result<Vec<KnownColumn<'a>>, NoMemory>
+    ensures { IfOk result (λ v. map plain_known_column v.items ≡ map known_column (plain_columns columns.now)) }
+{
+    let mut all = Vec::with_capacity(alloc, columns.len())?;
+    for column in columns {
+        all.push(KnownColumn {
+            place: column.place,
+            validity: column.validity,
+        })?;
+    }
+    Ok(all)
+}
+
+// What tells the matrix of the columns and rows.
+pub(crate) fn known_matrix<'a, T: Copy>(
+    alloc: Global,
+    columns: &[KeyedColumn<'a, T>],
+    rows: &[KeyedRow<'a, T>],
+) -> Result<KnownMatrix<'a>, NoMemory>
+    ensures { IfOk result (λ k. plain_known_matrix k ≡ known_matrix (plain_columns columns.now) (plain_rows rows.now)) }
+{
+    let columns = known_columns(alloc, columns)?;
+    let mut all = Vec::with_capacity(alloc, rows.len())?;
+    for row in rows {
+        all.push(known_row(alloc, row)?)?;
+    }
+    Ok(KnownMatrix { columns, rows: all })
+}
