@@ -1,0 +1,10 @@
+pub mod Characters
+pub mod Encoded
+pub mod Lexed
+pub mod LexedLiterals
+pub mod LexedNames
+pub mod LexedNumbers
+pub mod Lists
+pub mod ReadBack
+pub mod Texts
+pub mod ValueLaws
