@@ -21,3 +21,4 @@ mod Turning
 mod Empty
 mod StillInOrder
 mod Knowing
+mod Asking

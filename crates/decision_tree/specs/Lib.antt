@@ -5,3 +5,4 @@ pub mod Lone
 pub mod Known
 pub mod KnownTrees
 pub mod KnownViews
+pub mod Asking

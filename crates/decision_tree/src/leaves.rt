@@ -1,8 +1,9 @@
 // Rows that have only wildcards and names left.
-ghost use Rattle.std.specs.Prelude.{◌≡◌};
+ghost use Rattle.std.specs.Prelude.{◌≡◌, ◌≤◌, length};
 ghost use Rattle.match_model.specs.DecisionTrees.{all_wild};
 ghost use Rattle.match_model.specs.Rows.{is_wild};
-ghost use Rattle.keyed_matrix.specs.Views.{plain_head, plain_row};
+ghost use Rattle.keyed_matrix.specs.Views.{plain_head, plain_row, plain_rows};
+ghost use Rattle.decision_tree.specs.Asking.{asks_guard, AreAsked};
 
 use keyed_matrix::KeyedRow;
 use pat_context::Ctor;
@@ -31,4 +32,24 @@ pub(crate) fn is_leaf<'a, T: Copy>(row: &KeyedRow<'a, T>) -> bool
         }
     }
     true
+}
+
+// Tells whether the row has only wildcards and names left, and a guard.
+fn asks_guard<'a, T: Copy>(row: &KeyedRow<'a, T>) -> bool
+    ensures { result ≡ asks_guard (plain_row row.now) }
+{
+    row.guarded && is_leaf(row)
+}
+
+// How many of the rows in front have only wildcards and names left, and a guard.
+pub(crate) fn count_asked<'a, T: Copy>(rows: &[KeyedRow<'a, T>]) -> usize
+    ensures within { result ≤ length rows.now }
+    ensures asked { AreAsked result (plain_rows rows.now) }
+{
+    for i in 0..rows.len() {
+        if !asks_guard(&rows[i]) {
+            return i;
+        }
+    }
+    rows.len()
 }

@@ -1,17 +1,19 @@
 // The tree of rows. What waits for the trees of other rows stands in a list, so that nothing calls itself.
-ghost use Rattle.std.specs.Prelude.{◌≡◌, ◌<◌, ◌^◌, ℕ, [], reverse, length, get_or, nat_eq, true, false, IfOk, OnOk};
+ghost use Rattle.std.specs.Prelude.{◌≡◌, ◌<◌, ◌≤◌, ◌^◌, ℕ, [], reverse, drop, length, get_or, Some, slice_get};
+ghost use Rattle.std.specs.Prelude.{nat_eq, true, false, IfOk, OnOk};
 ghost use Rattle.std.specs.List.{flat_map, IsDistinct};
 ghost use Rattle.match_model.specs.DecisionTrees.{MTree, all_wild};
 ghost use Rattle.match_model.specs.FewestBranches.{IsFewest};
-ghost use Rattle.match_model.specs.Matrices.{first_matrix};
+ghost use Rattle.match_model.specs.Matrices.{MRow, first_matrix};
 ghost use Rattle.match_model.specs.Numbering.{match_decisions};
 ghost use Rattle.match_model.specs.WellTyped.{IsWellTyped, uids_in};
 ghost use Rattle.pattern_arena.specs.Trees.{plain_match};
 ghost use Rattle.keyed_matrix.specs.Deciding.{table_decides};
-ghost use Rattle.keyed_matrix.specs.Views.{plain_row};
+ghost use Rattle.keyed_matrix.specs.Views.{plain_columns, plain_row, plain_rows};
 ghost use Rattle.keyed_matrix.specs.declared.rows.KeyedRow.{KeyedRow};
 ghost use Rattle.tree_eval.specs.Tables.{IsFinished};
 ghost use Rattle.tree_eval.specs.Trees.{table_trees};
+ghost use Rattle.decision_tree.specs.Asking.{AreAsked};
 ghost use Rattle.decision_tree.specs.Known.{IsInScope};
 ghost use Rattle.decision_tree.specs.KnownTrees.{AreKnown, Keeps};
 ghost use Rattle.decision_tree.specs.KnownViews.{known_entries};
@@ -23,14 +25,16 @@ use crate::binds::{place_by, row_binds};
 use crate::branches::place_of;
 use crate::frames::{Frame, Looked, Matrix, Turn};
 use crate::known::{KnownTrees, find_known, none_known, note_known};
-use crate::leaves::is_leaf;
+use crate::leaves::{count_asked, is_leaf};
 use crate::lone::lone;
 use crate::pieces::{case_of, is_switchless};
 use crate::steps::{dropped, entered, expanded};
 use crate::tells::known_matrix;
 use bumpalo::Bump;
 use constructor_sets::{present, split_column};
-use keyed_matrix::{Decisions, are_wild, ctors_at, first_column, first_rows};
+use keyed_matrix::{
+    Decisions, KeyedColumn, KeyedRow, are_wild, ctors_at, first_column, first_rows,
+};
 use no_memory::NoMemory;
 use pat_context::PatCx;
 use pattern_arena::CheckedMatch;
@@ -66,6 +70,68 @@ fn finish_none<'a, C: PatCx>(
     }
 }
 
+// Has the guards of so many rows in front, which have only wildcards and names left, asked one after the other: each waits
+// for the tree of the rows behind it.
+fn push_guards<'a, C: PatCx>(
+    alloc: Global,
+    cx: &C,
+    decisions: &Decisions,
+    frames: &mut Vec<Frame<'a, C::Ty>>,
+    table: &NodeTable,
+    columns: &[KeyedColumn<'a, C::Ty>],
+    rows: &[KeyedRow<'a, C::Ty>],
+    count: usize,
+) -> Result<(), NoMemory>
+    ghost root: { Root C.Ty }
+    requires within { count ≤ length rows.now }
+    requires asked { AreAsked count (plain_rows rows.now) }
+    requires as_many { (k : ℕ) (r : MRow C.Ty) → slice_get (plain_rows rows.now) k ≡ Some r
+        → length columns.now ≡ length r.heads }
+    requires awaits { Awaits (C.is_type cx.now) (C.context cx.now) (C.is_value cx.now) (table_decides decisions.now) root
+        (reverse frames.old.items) (table_trees table.now) (plain_columns columns.now) (plain_rows rows.now) }
+    ensures { OnOk result (Awaits (C.is_type cx.now) (C.context cx.now) (C.is_value cx.now)
+        (table_decides decisions.now) root (reverse frames.new.items) (table_trees table.now)
+        (plain_columns columns.now) (plain_rows (drop count rows.now))) }
+{
+    for i in 0..count {
+        let row = &rows[i];
+        let binds = row_binds(alloc, columns, row)?;
+        frames.push(Frame::Guard {
+            arm: row.arm,
+            binds,
+        })?;
+    }
+    Ok(())
+}
+
+// Where the first row has only wildcards and names left, and a guard.
+fn ask_rows<'a, C: PatCx>(
+    alloc: Global,
+    cx: &C,
+    decisions: &Decisions,
+    frames: &mut Vec<Frame<'a, C::Ty>>,
+    table: &NodeTable,
+    m: Matrix<'a, C::Ty>,
+) -> Result<Turn<'a, C::Ty>, NoMemory>
+    ghost root: { Root C.Ty }
+    requires good { IsGoodMatrix (C.is_type cx.now) (C.context cx.now) (table_decides decisions.now) m }
+    requires awaits { Awaits (C.is_type cx.now) (C.context cx.now) (C.is_value cx.now) (table_decides decisions.now) root
+        (reverse frames.old.items) (table_trees table.now) (matrix_columns m) (matrix_rows m) }
+    requires scope { IsInScope (C.context cx.now) root (matrix_columns m) (matrix_rows m) }
+    ensures { IfOk result (λ t. IsTurn (C.is_type cx.now) (C.context cx.now) (C.is_value cx.now)
+        (table_decides decisions.now) root (reverse frames.new.items) (table_trees table.now) t) }
+{
+    let Matrix { columns, rows } = m;
+    let mut rows = rows;
+    let count = count_asked(&rows);
+    push_guards(alloc, cx, decisions, frames, table, &columns, &rows, count)?;
+    let rest = rows.split_off(count)?;
+    Ok(Turn::Lower(Matrix {
+        columns,
+        rows: rest,
+    }))
+}
+
 // Where the first row has only wildcards and names left.
 fn finish_row<'a, C: PatCx>(
     alloc: Global,
@@ -87,17 +153,11 @@ fn finish_row<'a, C: PatCx>(
     ensures keeps { OnOk result (Keeps (table_trees table.old) (table_trees table.new)) }
 {
     tables_are_built(table);
-    let Matrix { columns, rows } = m;
-    let mut rows = rows;
-    let row = rows.remove(0);
-    let binds = row_binds(alloc, &columns, &row)?;
+    let row = &m.rows[0];
     if row.guarded {
-        frames.push(Frame::Guard {
-            arm: row.arm,
-            binds,
-        })?;
-        Ok(Turn::Lower(Matrix { columns, rows }))
+        ask_rows(alloc, cx, decisions, frames, table, m)
     } else {
+        let binds = row_binds(alloc, &m.columns, row)?;
         let index = table.take(row.arm, binds)?;
         Ok(Turn::Finished(index))
     }
