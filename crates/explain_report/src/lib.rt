@@ -1,0 +1,18 @@
+//! Reads the JSON of a report into plain records.
+//!
+//! A report is what the checker writes of a source: the functions with what was found of each, or the rule by which the file is
+//! refused. `specs/Reading.antt` says of each JSON value which record it is, if any; [`report_of`] gives exactly that one, or
+//! says that the value is no report. Keys that a report does not have are passed over. The records borrow their texts from the
+//! JSON value.
+#![tactic(auto)]
+
+mod fields;
+mod judged;
+mod lists;
+mod records;
+mod report;
+#[cfg(test)]
+mod tests;
+
+pub use records::{Function, Judged, Overlap, ReadFault, Refused, Report, Unreached, Verdict};
+pub use report::report_of;

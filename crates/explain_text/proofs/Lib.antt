@@ -1,0 +1,7 @@
+pub mod Adding
+pub mod Mapped
+pub mod Sorted
+pub mod ShownLemmas
+pub mod FrameLemmas
+pub mod Inside
+pub mod Whole

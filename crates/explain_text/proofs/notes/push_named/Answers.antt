@@ -1,0 +1,8 @@
+use Rattle.explain_text.specs.Notes.{quoted_text}
+use Rattle.explain_text.proofs.Adding.{three_added}
+use Rattle.explain_text.proofs.notes.push_named.Goals as goal
+
+pub returns : goal.returns
+unfolding quoted_text
+returns c =
+    three_added _ _ _ _ _ _ _ c.in_ok-push_str.ensures.bytes c.in_ok-push_str-2.ensures.bytes c.in_ok-push_str-3.ensures.bytes
