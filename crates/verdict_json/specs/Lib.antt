@@ -3,3 +3,5 @@ pub mod Report
 pub mod Rules
 pub mod Trees
 pub mod Writing
+pub mod OutcomeTrees
+pub mod Outcomes

@@ -4,10 +4,12 @@
 //! one text, so that no entry but the one that is being written lies in memory as a whole. Each text is the text that
 //! `serde_json` gives for the value that `specs/Report.antt` states, byte for byte: `report_text` for the entries that
 //! were added, in their order, and `refusal_text` for a refusal that stands alone. Witnesses are written by `witness_text`,
-//! decision trees by `tree_text`.
+//! decision trees by `tree_text`. What a match does with one value (`OutcomeText`) has an output of its own, which
+//! `specs/Outcomes.antt` states.
 #![tactic(auto)]
 
 mod entry;
+mod outcome;
 mod refusal;
 mod report;
 mod rules;
@@ -15,6 +17,7 @@ mod rules;
 mod tests;
 
 pub use entry::Unreachable;
+pub use outcome::{AskedText, EndingText, HeldText, OutcomeText, outcome_bytes};
 pub use refusal::{Refusal, refusal_bytes};
 pub use report::{FnReport, ReportText};
 pub use rules::rule_name;

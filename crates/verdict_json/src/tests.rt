@@ -1,5 +1,9 @@
 // The texts as the specification of the output gives them.
-use crate::{FnReport, Refusal, ReportText, Unreachable, refusal_bytes, rule_name};
+use crate::{
+    AskedText, EndingText, FnReport, HeldText, OutcomeText, Refusal, ReportText, Unreachable,
+    outcome_bytes, refusal_bytes, rule_name,
+};
+use match_model::Mode;
 use std::alloc::Global;
 use std::test::Fail;
 use witness_text::{FormName, NamedWitness};
@@ -126,5 +130,45 @@ fn refusals(rt: HostRuntime) -> Result<(), Fail> {
     };
     assert_eq!(rt; refusal_bytes(alloc, &placed)?.as_slice(), ALL_PLACES);
     assert!(rt; rule_name(8).is_none());
+    Ok(())
+}
+
+const TOOK: &[u8] = b"{\"arm\":1,\"asked\":[\
+{\"arm\":0,\"bindings\":[{\"mode\":\"ref mut\",\"name\":\"x\",\"value\":\"\\\"a\\\"\"}]}],\
+\"bindings\":[{\"mode\":\"move\",\"name\":\"y\",\"value\":\"true\"}],\"outcome\":\"took\"}\n";
+
+const MISSED: &[u8] = b"{\"arm\":null,\"asked\":[],\"bindings\":null,\"outcome\":\"missed\"}\n";
+
+fn held(alloc: Global, name: &str, mode: Mode, value: &str) -> Result<Vec<HeldText>, Fail> {
+    let mut all = Vec::new(alloc);
+    all.push(HeldText {
+        name: String::from_str(alloc, name)?,
+        mode,
+        value: String::from_str(alloc, value)?,
+    })?;
+    Ok(all)
+}
+
+#[test]
+fn outcomes(rt: HostRuntime) -> Result<(), Fail> {
+    let alloc = rt.alloc();
+    let mut asked = Vec::new(alloc);
+    asked.push(AskedText {
+        arm: 0,
+        bindings: held(alloc, "x", Mode::RefMut, "\"a\"")?,
+    })?;
+    let took = OutcomeText {
+        asked,
+        ending: EndingText::Took {
+            arm: 1,
+            bindings: held(alloc, "y", Mode::Move, "true")?,
+        },
+    };
+    assert_eq!(rt; outcome_bytes(alloc, &took)?.as_slice(), TOOK);
+    let missed = OutcomeText {
+        asked: Vec::new(alloc),
+        ending: EndingText::Missed,
+    };
+    assert_eq!(rt; outcome_bytes(alloc, &missed)?.as_slice(), MISSED);
     Ok(())
 }

@@ -1,0 +1,6 @@
+pub mod Parts
+pub mod Held
+pub mod Runs
+pub mod Turns
+pub mod Laws
+pub mod Examples
