@@ -1,3 +1,4 @@
 pub mod Named
 pub mod Lookups
 pub mod NamedTrees
+pub mod NamedValues

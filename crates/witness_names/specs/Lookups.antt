@@ -5,15 +5,18 @@ use Rattle.match_model.specs.Declarations.{MField, MForm, UnitForm, TupleForm, B
 use Rattle.match_model.specs.OfType.{entered, type_entered}
 use Rattle.match_model.specs.Places.{MStep}
 use Rattle.match_model.specs.RustTypes.{rust_context, rust_set}
+use Rattle.match_model.specs.Values.{MValues}
 use Rattle.match_model.specs.Witness.{MWitness, RowOf, MWitnesses, no_witnesses}
 use Rattle.type_names.specs.declared.meanings.FormKind.{FormKind}
 use Rattle.type_names.specs.declared.meanings.FormKind.TheVariants as kinds
 use Rattle.type_table.specs.declared.table.TyId.{TyId}
 use Rattle.type_table.specs.declared.table.TypeTable.{TypeTable}
 use Rattle.type_table.specs.Tables.{table_type, type_variant}
+use Rattle.value_syntax.specs.Trees as written
 use Rattle.witness_text.specs.declared.named.FormName.{FormName}
 use Rattle.witness_text.specs.Trees.{NameTree, FieldTree, name_view}
 use Rattle.witness_names.specs.Named.{form_name, named_fields, named_parts, types_there}
+use Rattle.witness_names.specs.NamedValues.{written_fields, written_parts}
 
 -- how a form is written
 abbrev pub kind_of_form : MForm → FormKind
@@ -53,6 +56,12 @@ abbrev pub fields_there : MProgram → MType → (variant : ℕ) → MWitnesses 
 fields_there program t k ws =
     named_fields (brace_fields (type_variant program t k)) (named_parts program (types_there (node_types program t k))
     ws)
+
+-- the values as the fields of the type's variant with this number, if it is of brace form
+abbrev pub written_there : MProgram → MType → (variant : ℕ) → MValues → List written.FieldTree
+written_there program t k vs =
+    written_fields (brace_fields (type_variant program t k)) (written_parts program (types_there (node_types program t
+    k)) vs)
 
 -- what a caller sees of a form with its name
 abbrev pub form_view : FormKind × FormName → FormKind × NameTree

@@ -14,7 +14,7 @@ use type_table::{TyId, TyKind, TypeTable};
 use witness_text::NamedWitness;
 
 // The character with this number, if there is one.
-fn character(number: &Num) -> Option<char>
+pub(crate) fn character(number: &Num) -> Option<char>
     ensures { result ≡ char_end (At (num_value number.now)) }
 {
     if number.negative {
