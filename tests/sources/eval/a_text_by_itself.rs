@@ -1,0 +1,1 @@
+fn f(x:&str){match *x{t=>1}}

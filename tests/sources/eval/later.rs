@@ -1,0 +1,1 @@
+#[non_exhaustive] enum E{A} fn f(x:E){match x{E::A=>1,e=>2}}

@@ -1,0 +1,1 @@
+fn café(x:u8){match x{_=>1}}

@@ -1,0 +1,1 @@
+fn r#match(x:u8){match x{r#if=>1}}

@@ -1,0 +1,1 @@
+struct S(T); fn f(x:u8){match x{_=>1}}
