@@ -8,7 +8,7 @@ const SOURCE: &str =
 #[test]
 fn functions_and_arms(rt: HostRuntime) {
     let functions = function_places(rt.alloc(), SOURCE.as_bytes()).expect(&rt, "memory");
-    assert!(rt; functions.as_slice() == [10, 58]);
+    assert!(rt; functions.as_slice() == [10, 58].as_slice());
     let arms = arm_places(rt.alloc(), SOURCE.as_bytes()).expect(&rt, "memory");
-    assert!(rt; arms.as_slice() == [36, 46, 91]);
+    assert!(rt; arms.as_slice() == [36, 46, 91].as_slice());
 }
