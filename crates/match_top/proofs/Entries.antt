@@ -72,7 +72,7 @@ functions_push n (x ∷ items) i =
     shifted n m = omega arith
 
 -- the functions of a front that is one item longer
-functions_more : (items : List Item) (i : ℕ) (x : Item) → i < length items → x ≡ get_or items i x
+pub functions_more : (items : List Item) (i : ℕ) (x : Item) → i < length items → x ≡ get_or items i x
     → functions_from 0 (map item_view (take (i + 1) items)) ≡ functions_from 0 (map item_view (take i items)) ++ function_at i (kind_view x.kind)
 functions_more items i x lt is =
     let front : map item_view (take (i + 1) items) ≡ map item_view (take i items) ++ item_view x ∷ [] =

@@ -8,57 +8,57 @@ use Rattle.match_model.specs.declared.Width.TheVariants.{Endless}
 use Rattle.type_table.specs.Faults.{Breaks, IsFirstFault}
 use Rattle.type_table.specs.Faults as faults
 use Rattle.verdict_json.specs.Rules.{IsRule}
-use Rattle.match_top.specs.Answers.{IsRefusedIn, IsRefusedAt, IsAnswerToItems, IsAnswerToTokens, IsJudged, longest_source}
-use Rattle.match_top.specs.Reports.{IsReported}
+use Rattle.match_top.specs.Answers.{IsAnswerToItems, IsAnswerToTokens, IsJudged, IsDone, longest_source}
+use Rattle.match_top.specs.Refusals.{IsRefusedIn, IsRefusedAt}
 use Rattle.match_top.specs.declared.answering.Answer.{Answer}
-use Rattle.match_top.specs.declared.words.Command.{Command}
+use Rattle.match_top.specs.Words.{RequestForm}
 
 -- a source that does not lex is answered by its first fault
-pub fault_answer : {E : Type 0} (command : Command) (source : List ℕ) (rule place : ℕ) (r : Result Answer E) → HasFault source rule place → IfOk r (λ a. IsRefusedAt rule (Some place) a.text.items a.status)
-    → IfOk r (λ a. IsJudged command source a.text.items a.status)
+pub fault_answer : {E : Type 0} (request : RequestForm) (source : List ℕ) (rule place : ℕ) (r : Result Answer E) → HasFault source rule place → IfOk r (λ a. IsRefusedAt rule (Some place) a.text.items a.status)
+    → IfOk r (λ a. IsJudged request source a.text.items a.status)
 unfolding IsJudged
-fault_answer command source rule place (Ok a) f h = inl (record { rule = rule; place = place; fault = f; refused = h })
-fault_answer command source rule place (Err x) f h = tt
+fault_answer request source rule place (Ok a) f h = inl (record { rule = rule; place = place; fault = f; refused = h })
+fault_answer request source rule place (Err x) f h = tt
 
 -- one that has tokens by these
-pub tokens_answer : {E : Type 0} (command : Command) (source : List ℕ) (tokens : List Placed) (r : Result Answer E) → HasTokens source tokens → IfOk r (λ a. IsAnswerToTokens command tokens a.text.items a.status)
-    → IfOk r (λ a. IsJudged command source a.text.items a.status)
+pub tokens_answer : {E : Type 0} (request : RequestForm) (source : List ℕ) (tokens : List Placed) (r : Result Answer E) → HasTokens source tokens → IfOk r (λ a. IsAnswerToTokens request tokens a.text.items a.status)
+    → IfOk r (λ a. IsJudged request source a.text.items a.status)
 unfolding IsJudged
-tokens_answer command source tokens (Ok a) l h = inr (record { tokens = tokens; lexed = l; answered = h })
-tokens_answer command source tokens (Err x) l h = tt
+tokens_answer request source tokens (Ok a) l h = inr (record { tokens = tokens; lexed = l; answered = h })
+tokens_answer request source tokens (Err x) l h = tt
 
 -- tokens that spell a file are answered by its items
-pub file_answer : {E : Type 0} (command : Command) (tokens : List Placed) (items : List ItemTree) (r : Result Answer E) → IsFile (units tokens) items → IfOk r (λ a. IsAnswerToItems command items a.text.items a.status)
-    → IfOk r (λ a. IsAnswerToTokens command tokens a.text.items a.status)
+pub file_answer : {E : Type 0} (request : RequestForm) (tokens : List Placed) (items : List ItemTree) (r : Result Answer E) → IsFile (units tokens) items → IfOk r (λ a. IsAnswerToItems request items a.text.items a.status)
+    → IfOk r (λ a. IsAnswerToTokens request tokens a.text.items a.status)
 unfolding IsAnswerToTokens
-file_answer command tokens items (Ok a) s h = inr (inr (record { items = items; spelled = s; answered = h }))
-file_answer command tokens items (Err x) s h = tt
+file_answer request tokens items (Ok a) s h = inr (inr (record { items = items; spelled = s; answered = h }))
+file_answer request tokens items (Err x) s h = tt
 
 -- others by their fault
-pub syntax_answer : {E : Type 0} (command : Command) (tokens : List Placed) (number place : ℕ) (r : Result Answer E) → IsSyntaxFault (units tokens) number place
-    → IfOk r (λ a. IsRefusedIn 6 (Some number) (Some place) a.text.items a.status) → IfOk r (λ a. IsAnswerToTokens command tokens a.text.items a.status)
+pub syntax_answer : {E : Type 0} (request : RequestForm) (tokens : List Placed) (number place : ℕ) (r : Result Answer E) → IsSyntaxFault (units tokens) number place
+    → IfOk r (λ a. IsRefusedIn 6 (Some number) (Some place) a.text.items a.status) → IfOk r (λ a. IsAnswerToTokens request tokens a.text.items a.status)
 unfolding IsAnswerToTokens
-syntax_answer command tokens number place (Ok a) f h = inl (record { number = number; place = place; fault = f; refused = h })
-syntax_answer command tokens number place (Err x) f h = tt
+syntax_answer request tokens number place (Ok a) f h = inl (record { number = number; place = place; fault = f; refused = h })
+syntax_answer request tokens number place (Err x) f h = tt
 
-pub width_answer : {E : Type 0} (command : Command) (tokens : List Placed) (number place : ℕ) (r : Result Answer E) → IsWideFault (units tokens) number place
-    → IfOk r (λ a. IsRefusedIn 9 (Some number) (Some place) a.text.items a.status) → IfOk r (λ a. IsAnswerToTokens command tokens a.text.items a.status)
+pub width_answer : {E : Type 0} (request : RequestForm) (tokens : List Placed) (number place : ℕ) (r : Result Answer E) → IsWideFault (units tokens) number place
+    → IfOk r (λ a. IsRefusedIn 9 (Some number) (Some place) a.text.items a.status) → IfOk r (λ a. IsAnswerToTokens request tokens a.text.items a.status)
 unfolding IsAnswerToTokens
-width_answer command tokens number place (Ok a) f h = inr (inl (record { number = number; place = place; fault = f; refused = h }))
-width_answer command tokens number place (Err x) f h = tt
+width_answer request tokens number place (Ok a) f h = inr (inl (record { number = number; place = place; fault = f; refused = h }))
+width_answer request tokens number place (Err x) f h = tt
 
 -- items of which one breaks a rule are answered by the first fault
-pub declaration_answer : {E : Type 0} (command : Command) (items : List ItemTree) (rule number place : ℕ) (r : Result Answer E) → IsFirstFault items Endless rule number place
-    → IfOk r (λ a. IsRefusedIn rule (Some number) (Some place) a.text.items a.status) → IfOk r (λ a. IsAnswerToItems command items a.text.items a.status)
+pub declaration_answer : {E : Type 0} (request : RequestForm) (items : List ItemTree) (rule number place : ℕ) (r : Result Answer E) → IsFirstFault items Endless rule number place
+    → IfOk r (λ a. IsRefusedIn rule (Some number) (Some place) a.text.items a.status) → IfOk r (λ a. IsAnswerToItems request items a.text.items a.status)
 unfolding IsAnswerToItems
-declaration_answer command items rule number place (Ok a) f h = inl (record { rule = rule; number = number; place = place; fault = f; refused = h })
-declaration_answer command items rule number place (Err x) f h = tt
+declaration_answer request items rule number place (Ok a) f h = inl (record { rule = rule; number = number; place = place; fault = f; refused = h })
+declaration_answer request items rule number place (Err x) f h = tt
 
--- others by their report
-pub report_answer : {E : Type 0} (command : Command) (items : List ItemTree) (r : Result Answer E) → IfOk r (λ a. IsReported command items a.text.items a.status) → IfOk r (λ a. IsAnswerToItems command items a.text.items a.status)
+-- others by what is asked
+pub done_answer : {E : Type 0} (request : RequestForm) (items : List ItemTree) (r : Result Answer E) → IfOk r (λ a. IsDone request items a.text.items a.status) → IfOk r (λ a. IsAnswerToItems request items a.text.items a.status)
 unfolding IsAnswerToItems
-report_answer command items (Ok a) h = inr h
-report_answer command items (Err x) h = tt
+done_answer request items (Ok a) h = inr h
+done_answer request items (Err x) h = tt
 
 -- a rule that an item breaks has a name
 pub has_name : (items : List ItemTree) (rule number place : ℕ) → IsFirstFault items Endless rule number place → IsRule rule

@@ -1,11 +1,16 @@
 pub mod Answered
 pub mod Entries
+pub mod Evaluated
 pub mod Forms
 pub mod Fronts
 pub mod Going
 pub mod Judged
 pub mod Matches
+pub mod Named
 pub mod OneAnswer
+pub mod OneOutcome
 pub mod RuleNames
+pub mod Selected
 pub mod SomeReport
+pub mod Told
 pub mod WithoutTrees

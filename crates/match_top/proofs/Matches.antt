@@ -20,7 +20,7 @@ use Rattle.pattern_laws.proofs.ParsedSound.{every_of}
 use Rattle.pattern_laws.specs.JudgedLaws.{by_offset}
 use Rattle.pattern_laws.specs.ParsedLaws.{ParsedArmsAreSound}
 use Rattle.pattern_laws.specs.TableLaws.{JudgedTableMatch}
-use Rattle.pattern_laws.specs.TreeLaws.{TreeOfTableMatch}
+use Rattle.pattern_laws.specs.TreeLaws.{IsTreeOn, TreeOfTableMatch}
 use Rattle.pattern_matrix.specs.SearchLaws.{IsJudged}
 use Rattle.pattern_rules.specs.ArenaForms.{all_within}
 use Rattle.pattern_rules.specs.Faults.{scrutinee_type}
@@ -94,10 +94,16 @@ named_each p t [] = refl
 named_each p t (w ∷ ws) = ap (λ (us : List WitnessTree). named_witness p t (plain_witness w) ∷ us) (named_each p t ws)
 
 -- the tree of the match is that of the function
-pub tree_for : TreeOfTableMatch → (command : Command) (x : Source) (f : FunctionTree) (m : MDeMatch TyId) (t : Tree) → command ≡ Trees
-    → IsMatchOf x f m → IsMatchTree (table_context x.table.now) (TableValue x.table.now) m (tree_nodes t) → IsTreeFor command x f (Some t)
-tree_for law command x f m t is h tree =
-    subst (λ (c : Command). IsTreeFor c x f (Some t)) (sym is) (t, refl, law x.table.now (setting_in x) f m (tree_nodes t) h tree)
+pub tree_on : {E : Type 0} → TreeOfTableMatch → (x : Source) (f : FunctionTree) (m : MDeMatch TyId) (r : Result Tree E) → IsMatchOf x f m
+    → IfOk r (λ t. IsMatchTree (table_context x.table.now) (TableValue x.table.now) m (tree_nodes t))
+    → IfOk r (λ t. IsTreeOn (setting_in x) f (tree_nodes t))
+tree_on law x f m (Ok t) h tree = law x.table.now (setting_in x) f m (tree_nodes t) h tree
+tree_on law x f m (Err e) h tree = tt
+
+-- it is shown where trees are asked for
+pub tree_for : (command : Command) (x : Source) (f : FunctionTree) (t : Tree) → command ≡ Trees → IsTreeOn (setting_in x) f (tree_nodes t)
+    → IsTreeFor command x f (Some t)
+tree_for command x f t is tree = subst (λ (c : Command). IsTreeFor c x f (Some t)) (sym is) (t, refl, tree)
 
 -- the names of the nodes of a tree, if there is one, over the types of the table
 abbrev pub table_named : Source → TyId → Option Tree → Option (List NodeTree)

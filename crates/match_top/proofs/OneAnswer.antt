@@ -9,7 +9,7 @@ use Rattle.decl_syntax.specs.Units.{units}
 use Rattle.decl_parser.specs.FileGrammar.{OneFile, FileOrFault}
 use Rattle.decl_parser.specs.FileGrammar as parser
 use Rattle.match_model.specs.declared.Width.TheVariants.{Endless}
-use Rattle.type_table.specs.Faults.{IsFirstFault}
+use Rattle.type_table.specs.Faults.{BreaksNone, IsFirstFault}
 use Rattle.match_model.specs.Unreachable.{Entry}
 use Rattle.match_model.specs.Witness.{MWitness}
 use Rattle.pattern_laws.specs.JudgedLaws.{VerdictIsOne}
@@ -19,18 +19,18 @@ use Rattle.pattern_rules.specs.Settings.{Setting}
 use Rattle.decl_syntax.specs.Functions.{FunctionTree}
 use Rattle.match_model.specs.Trees.{MNode}
 use Rattle.tree_text.specs.Trees.{NodeTree}
+use Rattle.value_syntax.specs.Laws.{OneWritten}
 use Rattle.verdict_json.specs.Report.{ReportEntry, JudgedFunction, RefusedFunction, report_text}
 use Rattle.match_top.specs.declared.statuses.Status.{Status}
 use Rattle.match_top.specs.declared.words.Command.{Command}
 use Rattle.match_top.specs.declared.words.Command.TheVariants.{Check, Trees}
-use Rattle.match_top.specs.Answers.{Answers, IsJudged, IsAnswerToTokens, IsAnswerToItems, IsRefusedIn, IsRefusedAt, IsRefusedBy, longest_source}
+use Rattle.match_top.specs.Answers.{Answers, IsJudged, IsAnswerToTokens, IsAnswerToItems, IsDone, longest_source}
+use Rattle.match_top.specs.Refusals.{IsRefusedIn, IsRefusedAt, IsRefusedBy}
+use Rattle.match_top.specs.Words.{RequestForm, ReportForm, OutcomeForm}
+use Rattle.match_top.proofs.OneOutcome.{Same, evaluated_same}
 use Rattle.match_top.specs.Reports.{NumberedFunction, setting_of, refusal_of, named_tree, IsShownTree, report_of, IsJudgedFunction, IsRefusedFunction}
 use Rattle.match_top.specs.Reports.{IsEntry, is_refused, is_judged, is_clean, IsReported, status_of}
 use Rattle.match_top.specs.Laws.{OneFirstFault}
-
--- the same text and the same status
-abbrev Same : (text other : List ℕ) → (status ending : Status) → Type 0
-Same text other status ending = (text ≡ other) × (status ≡ ending)
 
 -- a refusal tells the text and the status
 refused_same : (rule number place other elsewhere : ℕ) (t u : List ℕ) (s r : Status) → number ≡ other → place ≡ elsewhere
@@ -125,27 +125,38 @@ module _ (answer_is_one : AnswerIsOne) (one_verdict : VerdictIsOne) (one_tree : 
   same_entries items (f ∷ fs) (e ∷ es) (d ∷ ds) a b =
       ap (λ (x : ReportEntry). x ∷ es) (one_entry_of items f e d a.0 b.0) ∙ ap (λ (xs : List ReportEntry). d ∷ xs) (same_entries items fs es ds a.1 b.1)
 
-  -- ---- the answer
-
-  reported_same : (items : List ItemTree) (t u : List ℕ) (s r : Status) → IsReported command items t s → IsReported command items u r → Same t u s r
+  pub reported_same : (items : List ItemTree) (t u : List ℕ) (s r : Status) → IsReported command items t s → IsReported command items u r → Same t u s r
   reported_same items t u s r a b =
       let same : a.entries ≡ b.entries = same_entries items _ a.entries b.entries a.each b.each in
       (a.text_is ∙ ap report_text same ∙ sym b.text_is, a.status_is ∙ ap (λ (es : List ReportEntry). status_of (list_all is_clean es)) same ∙ sym b.status_is)
 
-  items_same : (items : List ItemTree) (t u : List ℕ) (s r : Status) → IsAnswerToItems command items t s → IsAnswerToItems command items u r → Same t u s r
+-- ---- the answer
+
+-- where what is asked is answered no item breaks a rule on declarations
+done_unbroken : (request : RequestForm) (items : List ItemTree) (t : List ℕ) (s : Status) → IsDone request items t s → BreaksNone items Endless
+done_unbroken (ReportForm command) items t s h = h.unbroken
+done_unbroken (OutcomeForm e) items t s h = h.0
+
+-- what all these laws tell of answers
+module _ (answer_is_one : AnswerIsOne) (one_verdict : VerdictIsOne) (one_tree : TreeOnIsOne) (one_written : OneWritten) (request : RequestForm) where
+  done_same : (r : RequestForm) (items : List ItemTree) (t u : List ℕ) (x y : Status) → IsDone r items t x → IsDone r items u y → Same t u x y
+  done_same (ReportForm command) items t u x y a b = reported_same answer_is_one one_verdict one_tree command items t u x y a b
+  done_same (OutcomeForm e) items t u x y a b = evaluated_same one_written answer_is_one e items t u x y a.1 b.1
+
+  items_same : (items : List ItemTree) (t u : List ℕ) (s r : Status) → IsAnswerToItems request items t s → IsAnswerToItems request items u r → Same t u s r
   unfolding IsAnswerToItems
   items_same items t u s r (inl a) (inl b) =
       let same = one_first_fault items a.rule a.number a.place b.rule b.number b.place a.fault b.fault in
       let there : IsRefusedIn a.rule (Some b.number) (Some b.place) u r =
       subst (λ (k : ℕ). IsRefusedIn k (Some b.number) (Some b.place) u r) (sym same.0) b.refused in
       refused_same a.rule a.number a.place b.number b.place t u s r same.1 same.2 a.refused there
-  items_same items t u s r (inl a) (inr b) = absurd (b.unbroken a.number a.rule a.fault.broken)
-  items_same items t u s r (inr a) (inl b) = absurd (a.unbroken b.number b.rule b.fault.broken)
-  items_same items t u s r (inr a) (inr b) = reported_same items t u s r a b
+  items_same items t u s r (inl a) (inr b) = absurd (done_unbroken request items u r b a.number a.rule a.fault.broken)
+  items_same items t u s r (inr a) (inl b) = absurd (done_unbroken request items t s a b.number b.rule b.fault.broken)
+  items_same items t u s r (inr a) (inr b) = done_same request items t u s r a b
 
   -- what the laws of the grammar tell of answers to tokens
   module _ (one_file : OneFile) (one_fault : parser.OneFault) (file_or_fault : FileOrFault) where
-    tokens_same : (tokens : List Placed) (t u : List ℕ) (s r : Status) → IsAnswerToTokens command tokens t s → IsAnswerToTokens command tokens u r → Same t u s r
+    tokens_same : (tokens : List Placed) (t u : List ℕ) (s r : Status) → IsAnswerToTokens request tokens t s → IsAnswerToTokens request tokens u r → Same t u s r
     unfolding IsAnswerToTokens
     tokens_same tokens t u s r (inl a) (inl b) =
         let same = (one_fault (units tokens) a.number a.place b.number b.place).0 a.fault b.fault in
@@ -161,11 +172,11 @@ module _ (answer_is_one : AnswerIsOne) (one_verdict : VerdictIsOne) (one_tree : 
     tokens_same tokens t u s r (inr (inr a)) (inr (inl b)) = absurd ((file_or_fault (units tokens) a.items a.spelled b.number b.place).1 b.fault)
     tokens_same tokens t u s r (inr (inr a)) (inr (inr b)) =
         let same : b.items ≡ a.items = one_file (units tokens) b.items a.items b.spelled a.spelled in
-        items_same a.items t u s r a.answered (subst (λ (items : List ItemTree). IsAnswerToItems command items u r) same b.answered)
+        items_same a.items t u s r a.answered (subst (λ (items : List ItemTree). IsAnswerToItems request items u r) same b.answered)
 
     -- and those of tokens of answers to a source
     module _ (one_tokens : OneTokenList) (one_lexing_fault : OneFault) (never_both : NeverBoth) where
-      judged_same : (source t u : List ℕ) (s r : Status) → IsJudged command source t s → IsJudged command source u r → Same t u s r
+      judged_same : (source t u : List ℕ) (s r : Status) → IsJudged request source t s → IsJudged request source u r → Same t u s r
       unfolding IsJudged
       judged_same source t u s r (inl a) (inl b) =
           let same = one_lexing_fault source a.rule a.place b.rule b.place a.fault b.fault in
@@ -176,12 +187,12 @@ module _ (answer_is_one : AnswerIsOne) (one_verdict : VerdictIsOne) (one_tree : 
       judged_same source t u s r (inr a) (inl b) = absurd (never_both source a.tokens b.rule b.place a.lexed b.fault)
       judged_same source t u s r (inr a) (inr b) =
           let same : b.tokens ≡ a.tokens = one_tokens source b.tokens a.tokens b.lexed a.lexed in
-          tokens_same a.tokens t u s r a.answered (subst (λ (tokens : List Placed). IsAnswerToTokens command tokens u r) same b.answered)
+          tokens_same a.tokens t u s r a.answered (subst (λ (tokens : List Placed). IsAnswerToTokens request tokens u r) same b.answered)
 
-      pub one_answer_of : (bytes t u : List ℕ) (s r : Status) → Answers command bytes t s → Answers command bytes u r → Same t u s r
+      pub one_answer_of : (bytes t u : List ℕ) (s r : Status) → Answers request bytes t s → Answers request bytes u r → Same t u s r
       unfolding Answers
       one_answer_of bytes t u s r a b = by (nat_lt longest_source (length bytes)) a b
         where
-          by : (long : Bool) → MatchBool long (IsRefusedBy 7 t s) (IsJudged command bytes t s) → MatchBool long (IsRefusedBy 7 u r) (IsJudged command bytes u r) → Same t u s r
+          by : (long : Bool) → MatchBool long (IsRefusedBy 7 t s) (IsJudged request bytes t s) → MatchBool long (IsRefusedBy 7 u r) (IsJudged request bytes u r) → Same t u s r
           by true x y = (x.0 ∙ sym y.0, x.1 ∙ sym y.1)
           by false x y = judged_same bytes t u s r x y

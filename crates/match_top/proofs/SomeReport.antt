@@ -37,7 +37,7 @@ front_or_behind n (Function name param deref arms) fs zero f there =
 front_or_behind n (Function name param deref arms) fs (suc k) f there = inr (k, there)
 
 -- a function is some item
-stands_behind : (n : ℕ) (items : List ItemTree) (k : ℕ) (f : NumberedFunction) → slice_get (functions_from n items) k ≡ Some f
+pub stands_behind : (n : ℕ) (items : List ItemTree) (k : ℕ) (f : NumberedFunction) → slice_get (functions_from n items) k ≡ Some f
     → (i : ℕ) × (f.number ≡ n + i) × StandsAt items i f.function
 stands_behind n [] k f there = absurd cc
 stands_behind n (x ∷ items) k f there = by (λ j later. stands_behind (n + 1) items j f later) (front_or_behind n x.kind (functions_from (n + 1) items) k f there)

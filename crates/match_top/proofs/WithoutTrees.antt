@@ -6,8 +6,10 @@ use Rattle.decl_syntax.specs.Items.{ItemTree}
 use Rattle.verdict_json.specs.Report.{ReportEntry, JudgedFunction, RefusedFunction, report_text}
 use Rattle.match_top.specs.declared.statuses.Status.{Status}
 use Rattle.match_top.specs.declared.words.Command.TheVariants.{Check, Trees}
-use Rattle.match_top.specs.Answers.{Answers, IsJudged, IsAnswerToTokens, IsAnswerToItems, IsRefusedBy, longest_source}
+use Rattle.match_top.specs.Answers.{Answers, IsJudged, IsAnswerToTokens, IsAnswerToItems, longest_source}
 use Rattle.match_top.specs.Laws.{EntriesAreWithoutTrees, AnswersAreWithoutTrees}
+use Rattle.match_top.specs.Refusals.{IsRefusedBy}
+use Rattle.match_top.specs.Words.{ReportForm}
 use Rattle.match_top.specs.Reports.{NumberedFunction, functions_of, without_tree, IsEntry, is_refused, is_judged, is_clean, status_of, IsReported}
 
 pub entry_without : EntriesAreWithoutTrees
@@ -40,8 +42,8 @@ all_clean : (es : List ReportEntry) → list_all is_clean (map without_tree es) 
 all_clean [] = refl
 all_clean (e ∷ es) = ap (λ b. b && list_all is_clean (map without_tree es)) (clean_without e) ∙ ap (λ b. is_clean e && b) (all_clean es)
 
-items_without : (items : List ItemTree) (text : List ℕ) (status : Status) → IsAnswerToItems Trees items text status
-    → (other : List ℕ) × IsAnswerToItems Check items other status
+items_without : (items : List ItemTree) (text : List ℕ) (status : Status) → IsAnswerToItems (ReportForm Trees) items text status
+    → (other : List ℕ) × IsAnswerToItems (ReportForm Check) items other status
 unfolding IsAnswerToItems
 items_without items text status (inl a) = (text, inl a)
 items_without items text status (inr a) = (
@@ -55,8 +57,8 @@ items_without items text status (inr a) = (
   }),
 )
 
-tokens_without : (tokens : List Placed) (text : List ℕ) (status : Status) → IsAnswerToTokens Trees tokens text status
-    → (other : List ℕ) × IsAnswerToTokens Check tokens other status
+tokens_without : (tokens : List Placed) (text : List ℕ) (status : Status) → IsAnswerToTokens (ReportForm Trees) tokens text status
+    → (other : List ℕ) × IsAnswerToTokens (ReportForm Check) tokens other status
 unfolding IsAnswerToTokens
 tokens_without tokens text status (inl a) = (text, inl a)
 tokens_without tokens text status (inr (inl a)) = (text, inr (inl a))
@@ -64,7 +66,7 @@ tokens_without tokens text status (inr (inr a)) =
     let there = items_without a.items text status a.answered in
     (there.0, inr (inr (record { items = a.items; spelled = a.spelled; answered = there.1 })))
 
-judged_without : (source text : List ℕ) (status : Status) → IsJudged Trees source text status → (other : List ℕ) × IsJudged Check source other status
+judged_without : (source text : List ℕ) (status : Status) → IsJudged (ReportForm Trees) source text status → (other : List ℕ) × IsJudged (ReportForm Check) source other status
 unfolding IsJudged
 judged_without source text status (inl a) = (text, inl a)
 judged_without source text status (inr a) =
@@ -75,7 +77,7 @@ pub answers_without : AnswersAreWithoutTrees
 unfolding Answers
 answers_without bytes text status h = by (nat_lt longest_source (length bytes)) h
   where
-    by : (long : Bool) → MatchBool long (IsRefusedBy 7 text status) (IsJudged Trees bytes text status)
-        → (other : List ℕ) × MatchBool long (IsRefusedBy 7 other status) (IsJudged Check bytes other status)
+    by : (long : Bool) → MatchBool long (IsRefusedBy 7 text status) (IsJudged (ReportForm Trees) bytes text status)
+        → (other : List ℕ) × MatchBool long (IsRefusedBy 7 other status) (IsJudged (ReportForm Check) bytes other status)
     by true x = (text, x)
     by false x = judged_without bytes text status x

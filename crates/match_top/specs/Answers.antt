@@ -1,16 +1,16 @@
 -- What is written for the bytes of a file, and the status that goes with it.
-use Rattle.std.specs.Prelude.{Option, Some, ◌≡◌, ◌⊎◌, ℕ, ◌+◌, List, None, take, length, nat_lt, MatchBool}
-use Rattle.verdict_json.specs.Refused.{refusal_text}
+use Rattle.std.specs.Prelude.{Some, ◌⊎◌, ℕ, ◌+◌, List, take, length, nat_lt, MatchBool}
 use Rattle.decl_lexer.specs.Lexing.{Placed, HasTokens, HasFault}
 use Rattle.decl_syntax.specs.Units.{units}
 use Rattle.decl_syntax.specs.Items.{ItemTree}
 use Rattle.decl_parser.specs.FileGrammar.{IsFile, IsSyntaxFault, IsWideFault}
 use Rattle.match_model.specs.declared.Width.TheVariants.{Endless}
-use Rattle.type_table.specs.Faults.{IsFirstFault}
+use Rattle.type_table.specs.Faults.{BreaksNone, IsFirstFault}
 use Rattle.match_top.specs.declared.statuses.Status.{Status}
-use Rattle.match_top.specs.declared.statuses.Status.TheVariants.{Refused}
-use Rattle.match_top.specs.declared.words.Command.{Command}
+use Rattle.match_top.specs.Outcomes.{IsEvaluated}
+use Rattle.match_top.specs.Refusals.{IsRefusedIn, IsRefusedAt, IsRefusedBy}
 use Rattle.match_top.specs.Reports.{IsReported}
+use Rattle.match_top.specs.Words.{RequestForm, ReportForm, OutcomeForm}
 
 -- the greatest length of a source, in bytes (our own choice)
 unfoldable pub longest_source : ℕ
@@ -23,18 +23,6 @@ most_taken = longest_source + 1
 -- what is taken of a file that has these bytes
 unfoldable pub taken : List ℕ → List ℕ
 taken bytes = take most_taken bytes
-
--- the source is refused as a whole by this rule, with this item and this place in it, if any
-abbrev pub IsRefusedIn : ℕ → Option ℕ → Option ℕ → List ℕ → Status → Type 0
-IsRefusedIn rule item place text status = (text ≡ refusal_text (record { rule = rule; item = item; arm = None; at = place })) × (status ≡ Refused)
-
--- the same of a rule that names no item
-abbrev pub IsRefusedAt : ℕ → Option ℕ → List ℕ → Status → Type 0
-IsRefusedAt rule place text status = IsRefusedIn rule None place text status
-
--- the source is refused as a whole by this rule, without a place in it
-abbrev pub IsRefusedBy : ℕ → List ℕ → Status → Type 0
-IsRefusedBy rule text status = IsRefusedAt rule None text status
 
 -- the source does not lex, and is refused by the rule of its first fault at its place
 pub record IsRefusedFault (source text : List ℕ) (status : Status) : Type 0 where
@@ -66,34 +54,40 @@ pub record IsRefusedDeclaration (items : List ItemTree) (text : List ℕ) (statu
   pub fault : IsFirstFault items Endless rule number place
   pub refused : IsRefusedIn rule (Some number) (Some place) text status
 
--- the text and the status of a file of these items: it is refused by a rule on declarations, or there is a report on its
--- functions
-unfoldable pub IsAnswerToItems : Command → List ItemTree → List ℕ → Status → Type 0
-IsAnswerToItems command items text status = IsRefusedDeclaration items text status ⊎ IsReported command items text status
+-- no item breaks a rule on declarations, and what is asked is answered: the report on the functions, or what the match of one of
+-- them does with a value
+abbrev pub IsDone : RequestForm → List ItemTree → List ℕ → Status → Type 0
+IsDone (ReportForm command) items text status = IsReported command items text status
+IsDone (OutcomeForm evaluation) items text status = BreaksNone items Endless × IsEvaluated evaluation items text status
+
+-- the text and the status of a file of these items: it is refused by a rule on declarations, or what is asked is answered
+unfoldable pub IsAnswerToItems : RequestForm → List ItemTree → List ℕ → Status → Type 0
+IsAnswerToItems request items text status = IsRefusedDeclaration items text status ⊎ IsDone request items text status
 
 -- the tokens spell a file, and its items are answered
-pub record IsAnswerToFile (command : Command) (tokens : List Placed) (text : List ℕ) (status : Status) : Type 0 where
+pub record IsAnswerToFile (request : RequestForm) (tokens : List Placed) (text : List ℕ) (status : Status) : Type 0 where
   pub items : List ItemTree
   pub spelled : IsFile (units tokens) items
-  pub answered : IsAnswerToItems command items text status
+  pub answered : IsAnswerToItems request items text status
 
 -- the text and the status of tokens: what they spell decides
-unfoldable pub IsAnswerToTokens : Command → List Placed → List ℕ → Status → Type 0
-IsAnswerToTokens command tokens text status =
-    IsRefusedSyntax tokens text status ⊎ (IsRefusedWidth tokens text status ⊎ IsAnswerToFile command tokens text status)
+unfoldable pub IsAnswerToTokens : RequestForm → List Placed → List ℕ → Status → Type 0
+IsAnswerToTokens request tokens text status =
+    IsRefusedSyntax tokens text status ⊎ (IsRefusedWidth tokens text status ⊎ IsAnswerToFile request tokens text status)
 
 -- the source has tokens, and they are answered
-pub record IsAnswerToSource (command : Command) (source text : List ℕ) (status : Status) : Type 0 where
+pub record IsAnswerToSource (request : RequestForm) (source text : List ℕ) (status : Status) : Type 0 where
   pub tokens : List Placed
   pub lexed : HasTokens source tokens
-  pub answered : IsAnswerToTokens command tokens text status
+  pub answered : IsAnswerToTokens request tokens text status
 
 -- the text and the status of a source that is not too long: one that does not lex is refused with its first fault, any
 -- other is answered by its tokens
-unfoldable pub IsJudged : Command → List ℕ → List ℕ → Status → Type 0
-IsJudged command source text status = IsRefusedFault source text status ⊎ IsAnswerToSource command source text status
+unfoldable pub IsJudged : RequestForm → List ℕ → List ℕ → Status → Type 0
+IsJudged request source text status = IsRefusedFault source text status ⊎ IsAnswerToSource request source text status
 
--- the text and the status that a command has for a file of these bytes: one that is longer than a source may be is refused by rule 7
-unfoldable pub Answers : Command → List ℕ → List ℕ → Status → Type 0
-Answers command bytes text status =
-    MatchBool (nat_lt longest_source (length bytes)) (IsRefusedBy 7 text status) (IsJudged command bytes text status)
+-- the text and the status that a request has for a file of these bytes: one that is longer than a source may be is refused by
+-- rule 7
+unfoldable pub Answers : RequestForm → List ℕ → List ℕ → Status → Type 0
+Answers request bytes text status =
+    MatchBool (nat_lt longest_source (length bytes)) (IsRefusedBy 7 text status) (IsJudged request bytes text status)

@@ -13,12 +13,13 @@ use Rattle.match_top.specs.declared.words.Command.{Command}
 use Rattle.match_top.specs.declared.words.Command.TheVariants.{Check, Trees}
 use Rattle.match_top.specs.Answers.{Answers}
 use Rattle.match_top.specs.Reports.{NumberedFunction, numbered, functions_of, without_tree, IsEntry, IsReported}
+use Rattle.match_top.specs.Words.{RequestForm, ReportForm}
 
--- for each command the bytes of a file have one text and one status at most
+-- whatever is asked, the bytes of a file have one text and one status at most
 abbrev pub OneAnswer : Type 0
 OneAnswer =
-    (command : Command) (bytes text other : List ℕ) (status ending : Status) → Answers command bytes text status
-    → Answers command bytes other ending → (text ≡ other) × (status ≡ ending)
+    (request : RequestForm) (bytes text other : List ℕ) (status ending : Status) → Answers request bytes text status
+    → Answers request bytes other ending → (text ≡ other) × (status ≡ ending)
 
 -- items have one first fault at most
 abbrev pub OneFirstFault : Type 0
@@ -61,4 +62,5 @@ EntriesAreWithoutTrees =
 -- a file that `trees` answers `check` answers too, with the same status
 abbrev pub AnswersAreWithoutTrees : Type 0
 AnswersAreWithoutTrees =
-    (bytes text : List ℕ) (status : Status) → Answers Trees bytes text status → (other : List ℕ) × Answers Check bytes other status
+    (bytes text : List ℕ) (status : Status) → Answers (ReportForm Trees) bytes text status
+    → (other : List ℕ) × Answers (ReportForm Check) bytes other status

@@ -1,9 +1,13 @@
 pub mod Answers
 pub mod Asked
 pub mod Laws
+pub mod Outcomes
 pub mod Reading
+pub mod Refusals
 pub mod Reporting
 pub mod Reports
+pub mod Selections
 pub mod Statuses
+pub mod Telling
 pub mod Words
 pub mod Writing

@@ -9,8 +9,9 @@ use pattern_laws::laws::{
     files_are_sound, parsed_functions_are_spelled, some_verdict, tree_is_one, verdict_is_one,
 };
 use pattern_rules::laws::{answer_is_one, walk_tells};
+use value_syntax::one_written;
 
-/// For each command the bytes of a file have at most one text and one status.
+/// Whatever is asked, the bytes of a file have at most one text and one status.
 pub fn one_answer()
     ensures { OneAnswer }
 {
@@ -23,6 +24,7 @@ pub fn one_answer()
     answer_is_one();
     verdict_is_one();
     tree_is_one();
+    one_written();
 }
 
 /// Items have at most one first fault on declarations.

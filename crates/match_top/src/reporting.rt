@@ -10,11 +10,12 @@ ghost use Rattle.verdict_json.specs.Report.{JudgedFunction, RefusedFunction};
 ghost use Rattle.verdict_json.specs.Rules.{IsRule};
 ghost use Rattle.verdict_json.specs.Trees.{report_view};
 ghost use Rattle.match_top.specs.Reports.{NumberedFunction, numbered, function_at, functions_of};
-ghost use Rattle.match_top.specs.Reports.{IsEntry, IsReported, refusal_of, status_of};
+ghost use Rattle.match_top.specs.Reports.{IsEntry, IsReported, status_of};
 ghost use Rattle.match_top.specs.declared.words.Command.{Command};
 ghost use Rattle.match_top.specs.Reporting.{IsSound, StandsAt, IsFineFunction, IsFoundOn, ReportsOn, items_in};
 
 use crate::judging::{match_of, shown_entries, verdict_on};
+use crate::refusals::refusal_of;
 use crate::source::Source;
 use crate::trees::{named_tree, tree_of};
 use crate::words::Command;
@@ -22,7 +23,7 @@ use bumpalo::Bump;
 use decl_syntax::{FnItem, Item, ItemKind};
 use no_memory::NoMemory;
 use pattern_arena::Placer;
-use pattern_check::function::{Fault, first_fault};
+use pattern_check::function::first_fault;
 use pattern_rules::Edition;
 use std::alloc::Global;
 use tree_eval::Tree;
@@ -129,18 +130,6 @@ fn add_function<'f>(
     match first_fault(alloc, source.table, Edition::E2024, number, f)? {
         Some(fault) => add_refused(so_far, f.name.as_str(), &refusal_of(number, &fault)),
         None => add_judged(alloc, command, source, so_far, number, f),
-    }
-}
-
-// The refusal of the function with this item number by its first broken rule.
-fn refusal_of(number: u64, fault: &Fault) -> Refusal
-    ensures { result ≡ refusal_of number fault.now.rule fault.now.arm fault.now.at }
-{
-    Refusal {
-        rule: fault.rule,
-        item: Some(number),
-        arm: fault.arm,
-        at: Some(fault.at),
     }
 }
 

@@ -46,7 +46,7 @@ const CHECK: &[&str] = &["check", "a"];
 
 const TREES: &[&str] = &["trees", "a"];
 
-const ROWS: [Row; 22] = [
+const ROWS: [Row; 26] = [
     (TREES, &[], 4096, &[], 3, NO_ITEM),
     (&["trees"], &[], 4096, &[], 2, ""),
     (&["Trees", "a"], &[], 4096, &[], 2, ""),
@@ -60,6 +60,10 @@ const ROWS: [Row; 22] = [
     (&["demo", "0"], &[], 4096, &[], 2, ""),
     (&["demo", "007"], &[], 4096, &[], 2, ""),
     (&["eval", "a", "f", "1", "tx"], &[], 4096, &[], 2, ""),
+    (&["eval", "a", "f"], &[], 4096, &[], 2, ""),
+    (&["check", "a", "f", "1"], &[], 4096, &[], 2, ""),
+    (&["eval", "a", "f", "1"], &[], 4096, &[], 3, NO_ITEM),
+    (&["eval", "b", "f", "1", ""], &[], 4096, &[], 4, ""),
     (&["check", "b"], &[], 4096, &[], 4, ""),
     (&["check", ""], &[], 4096, &[], 4, ""),
     (CHECK, &[1], 4096, &[], 4, ""),
@@ -233,6 +237,45 @@ fn trees_are_shown_where_they_are_asked_for(rt: HostRuntime) -> Result<(), Fail>
         let mut files = one_file(alloc, source.as_bytes(), &[])?;
         let mut sink = MemorySink::new(alloc, 65_536, 4096, Vec::new(alloc))?;
         assert_eq!(rt; run(alloc, &words, &mut files, &mut sink), wanted);
+    }
+    Ok(())
+}
+
+// A guard that is asked once for each combination of alternatives.
+const PAIR_OF_PAIRS: &str =
+    "fn f(x:((u8,u8),(bool,bool))){match x{((a,_)|(_,a),(b,_)|(_,b)) if g()=>1,_=>2}}";
+
+const FIRST_REFUSES: &str =
+    "{\"arm\":0,\"asked\":[\
+    {\"arm\":0,\"bindings\":[{\"mode\":\"move\",\"name\":\"a\",\"value\":\"1\"},{\"mode\":\"move\",\"name\":\"b\",\"value\":\"true\"}]},\
+    {\"arm\":0,\"bindings\":[{\"mode\":\"move\",\"name\":\"a\",\"value\":\"1\"},{\"mode\":\"move\",\"name\":\"b\",\"value\":\"false\"}]}],\
+    \"bindings\":[{\"mode\":\"move\",\"name\":\"a\",\"value\":\"1\"},{\"mode\":\"move\",\"name\":\"b\",\"value\":\"false\"}],\
+    \"outcome\":\"took\"}\n";
+
+const NO_ANSWER: &str =
+    "{\"arm\":null,\"asked\":[],\"bindings\":null,\"outcome\":\"short\"}\n";
+
+const NO_VALUE: &str =
+    "{\"refused\":{\"arm\":null,\"at\":null,\"item\":null,\"name\":\"value-syntax\",\"rule\":40}}\n";
+
+// Words behind the file, the number of the status, what is written.
+const OUTCOMES: [(&[&str], u8, &str); 3] = [
+    (&["f", "((1, 2), (true, false))", "ft"], 0, FIRST_REFUSES),
+    (&["f", "((1, 2), (true, false))"], 1, NO_ANSWER),
+    (&["f", "("], 3, NO_VALUE),
+];
+
+#[test]
+fn outcomes_are_told_with_the_memory_that_they_want(rt: HostRuntime) -> Result<(), Fail> {
+    let alloc = rt.alloc();
+    for (i, row) in OUTCOMES.iter().enumerate() {
+        let mut words = texts(alloc, &["eval", "a"])?;
+        words.append(&mut texts(alloc, row.0)?)?;
+        let mut files = one_file(alloc, PAIR_OF_PAIRS.as_bytes(), &[])?;
+        let mut sink = MemorySink::new(alloc, 4096, 16, Vec::new(alloc))?;
+        let status = run(alloc, &words, &mut files, &mut sink);
+        assert_eq!(rt; status.number(), row.1, "status of outcome {i}");
+        assert_eq!(rt; sink.bytes(), row.2.as_bytes(), "written for outcome {i}");
     }
     Ok(())
 }

@@ -19,8 +19,9 @@ use std::alloc::Global;
 
 /// Does what the words ask for, and tells how it ended. The words are those of the command line without the program's
 /// name: `check FILE` writes the report on the functions of a file, `trees FILE` the same with the decision tree of each
-/// function that is judged (the forms are our own choice). The files and the sink may be used again afterwards: nothing is
-/// kept between calls.
+/// function that is judged, `eval FILE FN VALUE` or `eval FILE FN VALUE ANSWERS` what the match of a function does with a
+/// value of its scrutinee, the guards giving these answers, `t` or `f` each (the forms are our own choice). The files and
+/// the sink may be used again afterwards: nothing is kept between calls.
 pub fn run<F: Files, K: Sink>(
     alloc: Global,
     words: &[String],
@@ -56,16 +57,16 @@ pub fn run<F: Files, K: Sink>(
     ensures nothing { (result ≡ Status.ReadFault) ⊎ (result ≡ Status.NoMemory) → sink.new ≡ sink.old }
     ensures part { result ≡ Status.WriteFault → (form : Form) → (bytes : List ℕ) → form_of words.now ≡ Some form
         → F.holds files.old form.file ≡ Some bytes
-        → (text : List ℕ) × (status : Status) × Answers form.command bytes text status
+        → (text : List ℕ) × (status : Status) × Answers form.request bytes text status
         × AppendsPart (K.written sink.old) (K.written sink.new) text }
     ensures whole { IsVerdict result → (form : Form) → (bytes : List ℕ) → form_of words.now ≡ Some form
         → F.holds files.old form.file ≡ Some bytes
-        → (text : List ℕ) × Answers form.command bytes text result
+        → (text : List ℕ) × Answers form.request bytes text result
         × Appends (K.written sink.old) (K.written sink.new) text }
 
     // Of a file of which nothing is told it is the whole text of some bytes.
     ensures seen { IsVerdict result → (form : Form) → form_of words.now ≡ Some form
-        → (bytes : List ℕ) × (text : List ℕ) × Answers form.command bytes text result
+        → (bytes : List ℕ) × (text : List ℕ) × Answers form.request bytes text result
         × Appends (K.written sink.old) (K.written sink.new) text }
 {
     let Some(asked) = asked_by(words) else {
@@ -76,7 +77,7 @@ pub fn run<F: Files, K: Sink>(
         Err(ReadError::Failed) => return Status::ReadFault,
         Err(ReadError::NoMemory) => return Status::NoMemory,
     };
-    let Ok(answer) = answer_to(alloc, asked.command, &source) else {
+    let Ok(answer) = answer_to(alloc, &asked.request, &source) else {
         return Status::NoMemory;
     };
     match write_text(sink, &answer.text) {

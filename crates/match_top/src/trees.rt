@@ -4,13 +4,14 @@ ghost use Rattle.decl_syntax.specs.Functions.{FunctionTree};
 ghost use Rattle.match_model.specs.MatchTree.{IsMatchTree};
 ghost use Rattle.match_model.specs.WellTyped.{IsWellTyped};
 ghost use Rattle.pattern_arena.specs.Trees.{plain_match};
+ghost use Rattle.pattern_laws.specs.TreeLaws.{IsTreeOn};
 ghost use Rattle.tree_eval.specs.Nodes.{tree_nodes};
 ghost use Rattle.tree_text.specs.Trees.{node_view};
 ghost use Rattle.type_table.specs.TableContext.{TableValue, table_context};
 ghost use Rattle.type_table.specs.Tables.{IsOf, table_program, table_type};
 ghost use Rattle.witness_names.specs.Named.{IsOfFile};
 ghost use Rattle.witness_names.specs.NamedTrees.{named_node};
-ghost use Rattle.match_top.specs.Reporting.{IsMatchOf, IsTreeFor};
+ghost use Rattle.match_top.specs.Reporting.{IsMatchOf, IsTreeFor, setting_in};
 
 use crate::source::Source;
 use crate::words::Command;
@@ -44,8 +45,24 @@ fn lowered<'a>(
     lower(alloc, arena, &cx, m)
 }
 
-/// The tree of a function's match, where the command asks for it. What the work needs meanwhile is put into the arena of
-/// the match.
+/// The tree of a function's match. What the work needs meanwhile is put into the arena of the match.
+pub(crate) fn tree_of_match<'a>(
+    alloc: Global,
+    source: &Source<'_>,
+    arena: &'a Bump<Global>,
+    m: &CheckedMatch<'a, TyId>,
+) -> Result<Tree, NoMemory>
+    requires few { length m.now.arms.now < 2 ^ 32 }
+    requires shown { (f : FunctionTree) × IsMatchOf source.now f (plain_match m.now) }
+    ensures { (f : FunctionTree) → IsMatchOf source.now f (plain_match m.now)
+        → IfOk result (λ t. IsTreeOn (setting_in source.now) f (tree_nodes t)) }
+{
+    table_match_is_well_typed();
+    tree_of_table_match();
+    lowered(alloc, source.table, arena, m)
+}
+
+/// The same, where the command asks for it.
 pub(crate) fn tree_of<'a>(
     alloc: Global,
     command: Command,
@@ -58,12 +75,10 @@ pub(crate) fn tree_of<'a>(
     ensures { (f : FunctionTree) → IsMatchOf source.now f (plain_match m.now)
         → IfOk result (IsTreeFor command source.now f) }
 {
-    table_match_is_well_typed();
-    tree_of_table_match();
     match command {
         Command::Check => Ok(None),
         Command::Trees => {
-            let tree = lowered(alloc, source.table, arena, m)?;
+            let tree = tree_of_match(alloc, source, arena, m)?;
             Ok(Some(tree))
         }
     }

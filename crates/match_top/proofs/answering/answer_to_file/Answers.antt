@@ -3,7 +3,8 @@ use Rattle.decl_syntax.specs.Items.{file_view}
 use Rattle.match_model.specs.declared.Width.TheVariants.{Endless}
 use Rattle.type_table.specs.Faults.{IsFirstFault}
 use Rattle.verdict_json.specs.Rules.{IsRule}
-use Rattle.match_top.proofs.Judged.{declaration_answer, report_answer, has_name}
+use Rattle.match_top.specs.Asked.{request_view}
+use Rattle.match_top.proofs.Judged.{declaration_answer, done_answer, has_name}
 use Rattle.match_top.proofs.answering.answer_to_file.Goals as goal
 
 pub refused_in-requires : goal.refused_in-requires
@@ -15,7 +16,7 @@ pub returns-in-Err-Rule-clause-answers : goal.returns-in-Err-Rule-clause-answers
 returns-in-Err-Rule-clause-answers c =
     let fault : IsFirstFault (file_view c.args.file.now) Endless c.in-Err-Rule.rule c.in-Err-Rule.item c.in-Err-Rule.at = search rules in
     let refused = rw (c.in-Err-Rule.rule-is, c.in-Err-Rule.item-is, c.in-Err-Rule.at-is) at c.refused_in.ensures.answers in
-    declaration_answer c.args.command (file_view c.args.file.now) _ _ _ _ fault refused
+    declaration_answer (request_view c.args.request.now) (file_view c.args.file.now) _ _ _ _ fault refused
 
 pub returns-in-Ok-clause-answers : goal.returns-in-Ok-clause-answers
-returns-in-Ok-clause-answers c = report_answer c.args.command (file_view c.args.file.now) _ c.reported.ensures.answers
+returns-in-Ok-clause-answers c = done_answer (request_view c.args.request.now) (file_view c.args.file.now) _ c.done.ensures.answers

@@ -17,7 +17,7 @@ returns-clause-part g c = λ _ form bytes formed told.
     let text : c.deref-2.result.now ≡ c.in-Ok-answer_to.answer.text.items = search rules in (
       c.in-Ok-answer_to.answer.text.items,
       c.in-Ok-answer_to.answer.status,
-      subst (λ (x : Form). Answers x.command bytes c.in-Ok-answer_to.answer.text.items c.in-Ok-answer_to.answer.status) is
+      subst (λ (x : Form). Answers x.request bytes c.in-Ok-answer_to.answer.text.items c.in-Ok-answer_to.answer.status) is
           (c.in-Ok-answer_to.ensures.answers bytes same),
       subst (λ (z : List ℕ). AppendsPart (g.K.Sink.written c.args.sink.now) (g.K.Sink.written c.write_text.new.sink) z) text c.in-Err.ensures.part,
     )
@@ -29,7 +29,7 @@ returns-in-Ok-write_text-clause-seen g c = λ verdict form formed.
     let text : c.deref-2.result.now ≡ c.in-Ok-answer_to.answer.text.items = search rules in (
       c.deref.result.now,
       c.in-Ok-answer_to.answer.text.items,
-      subst (λ (x : Form). Answers x.command c.deref.result.now c.in-Ok-answer_to.answer.text.items c.in-Ok-answer_to.answer.status) is
+      subst (λ (x : Form). Answers x.request c.deref.result.now c.in-Ok-answer_to.answer.text.items c.in-Ok-answer_to.answer.status) is
           (c.in-Ok-answer_to.ensures.answers c.deref.result.now whole),
       subst (λ (z : List ℕ). Appends (g.K.Sink.written c.args.sink.now) (g.K.Sink.written c.write_text.new.sink) z) text c.in-Ok-write_text.ensures.whole,
     )

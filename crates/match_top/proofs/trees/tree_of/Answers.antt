@@ -1,14 +1,5 @@
-use Rattle.pattern_arena.specs.Trees.{plain_match}
-use Rattle.match_top.specs.Reporting.{setting_in}
 use Rattle.match_top.proofs.Matches.{tree_for}
 use Rattle.match_top.proofs.trees.tree_of.Goals as goal
 
-pub lowered-requires-clause-typed : goal.lowered-requires-clause-typed
-lowered-requires-clause-typed c =
-    let x = c.args.source.now in
-    c.table_match_is_well_typed.ensures x.table.now (setting_in x) c.requires.shown.0 (plain_match c.args.m.now) c.requires.shown.1
-
 pub returns-in_ok-tree-in-Trees : goal.returns-in_ok-tree-in-Trees
-returns-in_ok-tree-in-Trees c = λ f h.
-    tree_for c.tree_of_table_match.ensures c.args.command c.args.source.now f (plain_match c.args.m.now) c.in_ok-tree-in-Trees.tree
-    c.in-Trees.is h c.in_ok-tree-in-Trees.ensures
+returns-in_ok-tree-in-Trees c = λ f h. tree_for c.args.command c.args.source.now f c.in_ok-tree-in-Trees.tree c.in-Trees.is (c.in_ok-tree-in-Trees.ensures f h)

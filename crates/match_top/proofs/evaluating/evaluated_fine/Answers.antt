@@ -1,0 +1,77 @@
+use Rattle.std.proofs.Common.{◌^◌, subst, sym}
+use Rattle.decl_syntax.specs.Functions.{function_view}
+use Rattle.match_model.specs.declared.Width.TheVariants.{Endless}
+use Rattle.pat_context.specs.Views.{is_sure}
+use Rattle.pattern_arena.specs.Trees.{plain_match}
+use Rattle.tree_eval.specs.Nodes.{tree_nodes}
+use Rattle.tree_eval.specs.Views.{plain_value}
+use Rattle.type_table.specs.Tables.{table_program, table_type}
+use Rattle.value_text.specs.Reading.{IsUnreadValue}
+use Rattle.verdict_json.specs.Rules.{IsRule}
+use Rattle.match_top.specs.Asked.{evaluation_view}
+use Rattle.match_top.specs.Reporting.{items_in}
+use Rattle.match_top.proofs.Evaluated.{answers_given, in_domain, read_answer, unread_answer, unread_is_named}
+use Rattle.match_top.proofs.Matches.{few_arms}
+use Rattle.match_top.proofs.Named.{few_held}
+use Rattle.match_top.proofs.evaluating.evaluated_fine.Goals as goal
+
+pub read_value-requires-clause-of : goal.read_value-requires-clause-of
+read_value-requires-clause-of c = c.in_ok-m.ensures.type_is
+
+pub read_value-requires-clause-file : goal.read_value-requires-clause-file
+read_value-requires-clause-file c = (items_in c.args.source.now, Endless, c.requires.fine.sound.table_is)
+
+pub refused_at-requires : goal.refused_at-requires
+refused_at-requires c =
+    let table = c.args.source.now.table.now in
+    let m = c.in_ok-m.m in
+    let unread : IsUnreadValue (table_program table) (is_sure m.validity) (table_type table m.ty) c.args.evaluation.now.value.now c.in-Err-Rule.rule =
+    rw c.in-Err-Rule.field-0-is at c.in-Err-Rule.ensures.fault in
+    subst IsRule (sym c.in-Err-Rule.rule-is) (unread_is_named _ _ _ _ _ unread)
+
+pub returns-in-Err-Rule-clause-answers : goal.returns-in-Err-Rule-clause-answers
+returns-in-Err-Rule-clause-answers c =
+    let x = c.args.source.now in
+    let f = function_view c.args.f.now in
+    let m = c.in_ok-m.m in
+    let unread : IsUnreadValue (table_program x.table.now) (is_sure m.validity) (table_type x.table.now m.ty) c.args.evaluation.now.value.now c.in-Err-Rule.rule =
+    rw c.in-Err-Rule.field-0-is at c.in-Err-Rule.ensures.fault in
+    unread_answer x f (plain_match m) c.in_ok-m.ensures c.args.number (evaluation_view c.args.evaluation.now) c.in-Err-Rule.rule _ c.requires.fine.fine unread
+    (rw c.in-Err-Rule.rule-is at c.refused_at.ensures.answers)
+
+pub tree_of_match-requires-clause-few : goal.tree_of_match-requires-clause-few
+tree_of_match-requires-clause-few c =
+    few_arms c.args.source.now (function_view c.args.f.now) c.in_ok-m.m (2 ^ 32) c.in_ok-m.ensures
+    (few_held c.args.f.now.arms.items (2 ^ 32) c.requires.few)
+
+pub tree_of_match-requires-clause-shown : goal.tree_of_match-requires-clause-shown
+tree_of_match-requires-clause-shown c = (function_view c.args.f.now, c.in_ok-m.ensures)
+
+pub outcome_of-requires : goal.outcome_of-requires
+outcome_of-requires c =
+    let x = c.args.source.now in
+    let f = function_view c.args.f.now in
+    let m = plain_match c.in_ok-m.m in record {
+      ready = (
+        f,
+        record {
+          match_is = c.in_ok-m.ensures;
+          tree_is = c.in_ok-tree.ensures f c.in_ok-m.ensures;
+          inside = in_domain x f m c.in_ok-m.ensures (plain_value c.in-Ok.value) c.in-Ok.ensures.value;
+        },
+      );
+    }
+
+pub returns-clause-answers : goal.returns-clause-answers
+returns-clause-answers c =
+    let x = c.args.source.now in
+    let f = function_view c.args.f.now in
+    let m = plain_match c.in_ok-m.m in
+    let v = plain_value c.in-Ok.value in
+    let told = c.outcome_of.ensures.answers f (record {
+      match_is = c.in_ok-m.ensures;
+      tree_is = c.in_ok-tree.ensures f c.in_ok-m.ensures;
+      inside = in_domain x f m c.in_ok-m.ensures v c.in-Ok.ensures.value;
+    }) in
+    read_answer x f m c.in_ok-m.ensures c.args.number (evaluation_view c.args.evaluation.now) v _ c.requires.fine.fine c.in-Ok.ensures.read
+    (answers_given x f v _ _ _ _ c.deref.ensures.value c.in_ok-answers.ensures told)

@@ -1,0 +1,151 @@
+// What the match of one function does with one value.
+ghost use Rattle.std.specs.Prelude.{◌≡◌, ◌<◌, ◌^◌, IfOk, length, map, sum_by};
+ghost use Rattle.decl_syntax.specs.Counts.{kind_arms};
+ghost use Rattle.decl_syntax.specs.Functions.{FunctionTree, function_view};
+ghost use Rattle.match_model.specs.Select.{select};
+ghost use Rattle.pattern_arena.specs.Trees.{plain_match};
+ghost use Rattle.pattern_rules.specs.Verdicts.{written_arms};
+ghost use Rattle.tree_eval.specs.Nodes.{tree_nodes};
+ghost use Rattle.tree_eval.specs.Views.{plain_value};
+ghost use Rattle.match_top.specs.Asked.{evaluation_view};
+ghost use Rattle.match_top.specs.Outcomes.{IsEvaluated, IsEvaluatedOf, IsShownOutcome, status_of_outcome};
+ghost use Rattle.match_top.specs.Reporting.{IsSound, StandsAt, IsFineFunction, items_in, setting_in};
+ghost use Rattle.match_top.specs.Reports.{numbered};
+ghost use Rattle.match_top.specs.Selections.{IsReady, ending_view};
+ghost use Rattle.match_top.specs.Statuses.{IsVerdict};
+ghost use Rattle.match_top.specs.Words.{accepts};
+
+use crate::Status;
+use crate::answering::Answer;
+use crate::finding::function_named;
+use crate::judging::match_of;
+use crate::refusals::{refusal_of, refused, refused_at};
+use crate::selecting::{Ending, selected};
+use crate::source::Source;
+use crate::telling::told;
+use crate::trees::tree_of_match;
+use crate::words::Evaluation;
+use bumpalo::Bump;
+use decl_lexer::name_form;
+use decl_syntax::FnItem;
+use no_memory::NoMemory;
+use pattern_arena::{CheckedMatch, Placer};
+use pattern_check::function::first_fault;
+use pattern_rules::Edition;
+use std::alloc::Global;
+use tree_eval::{Tree, Value};
+use type_table::TyId;
+use value_text::{ValueFault, read_value};
+use verdict_json::outcome_bytes;
+
+/// What is told for a function, a value and answers, in a file of which no item breaks a rule on declarations.
+pub(crate) fn evaluated(
+    alloc: Global,
+    evaluation: &Evaluation<'_>,
+    source: &Source<'_>,
+) -> Result<Answer, NoMemory>
+    requires sound { IsSound source.now }
+    requires few { sum_by (λ i. kind_arms i.kind) (items_in source.now) < 2 ^ 32 }
+    ensures answers { IfOk result (λ a. IsEvaluated (evaluation_view evaluation.now) (items_in source.now)
+        a.text.items a.status) }
+    ensures verdict { IfOk result (λ a. IsVerdict a.status) }
+{
+    let name = name_form(alloc, evaluation.function)?;
+    match function_named(&source.file.items, name.as_str()) {
+        None => refused_at(alloc, 42, None),
+        Some(found) => evaluated_of(alloc, evaluation, source, found.number, found.function),
+    }
+}
+
+// The same of the function of that name, the item with this number: its first broken rule, or what it does with the value.
+fn evaluated_of(
+    alloc: Global,
+    evaluation: &Evaluation<'_>,
+    source: &Source<'_>,
+    number: u64,
+    f: &FnItem,
+) -> Result<Answer, NoMemory>
+    requires sound { IsSound source.now }
+    requires there { StandsAt (items_in source.now) number (function_view f.now) }
+    requires few { length f.now.arms.items < 2 ^ 32 }
+    ensures answers { IfOk result (λ a. IsEvaluatedOf (setting_in source.now) (numbered number (function_view f.now))
+        (evaluation_view evaluation.now) a.text.items a.status) }
+    ensures verdict { IfOk result (λ a. IsVerdict a.status) }
+{
+    match first_fault(alloc, source.table, Edition::E2024, number, f)? {
+        Some(fault) => refused(alloc, &refusal_of(number, &fault)),
+        None => evaluated_fine(alloc, evaluation, source, number, f),
+    }
+}
+
+// The same of a function that breaks no rule, the item with this number: what is read of the value, and what it does with it.
+fn evaluated_fine(
+    alloc: Global,
+    evaluation: &Evaluation<'_>,
+    source: &Source<'_>,
+    number: u64,
+    f: &FnItem,
+) -> Result<Answer, NoMemory>
+    requires fine { IsFineFunction source.now number (function_view f.now) }
+    requires few { length f.now.arms.items < 2 ^ 32 }
+    ensures answers { IfOk result (λ a. IsEvaluatedOf (setting_in source.now) (numbered number (function_view f.now))
+        (evaluation_view evaluation.now) a.text.items a.status) }
+    ensures verdict { IfOk result (λ a. IsVerdict a.status) }
+{
+    let arena = Bump::new(alloc);
+    let placer = Placer::new(&arena);
+    let m = match_of(alloc, source, &placer, number, f)?;
+    let value = match read_value(alloc, source.table, m.ty, m.validity, evaluation.value) {
+        Ok(value) => value,
+        Err(ValueFault::Rule { rule }) => return refused_at(alloc, rule, None),
+        Err(ValueFault::NoMemory) => return Err(NoMemory),
+    };
+    let answers = given_answers(alloc, evaluation.answers)?;
+    let tree = tree_of_match(alloc, source, &arena, &m)?;
+    outcome_of(alloc, source, &m, &tree, &value, &answers)
+}
+
+// What the match does with a value of its domain, told by its tree.
+fn outcome_of<'a>(
+    alloc: Global,
+    source: &Source<'_>,
+    m: &CheckedMatch<'a, TyId>,
+    tree: &Tree,
+    value: &Value,
+    answers: &[bool],
+) -> Result<Answer, NoMemory>
+    requires ready { (f : FunctionTree) × IsReady source.now f (plain_match m.now) (tree_nodes tree.now)
+        (plain_value value.now) }
+    ensures answers { (f : FunctionTree) → IsReady source.now f (plain_match m.now) (tree_nodes tree.now)
+        (plain_value value.now) → IfOk result (λ a. IsShownOutcome (setting_in source.now) f
+        (select (written_arms (setting_in source.now) f) (plain_value value.now) answers.now) a.text.items a.status) }
+    ensures verdict { IfOk result (λ a. IsVerdict a.status) }
+{
+    let selection = selected(alloc, tree, value, answers)?;
+    let shown = told(alloc, source.table, m, &selection)?;
+    let text = outcome_bytes(alloc, &shown)?;
+    let status = status_of_ending(&selection.ending);
+    Ok(Answer { text, status })
+}
+
+fn status_of_ending(ending: &Ending) -> Status
+    ensures status { result ≡ status_of_outcome (ending_view ending.now) }
+    ensures verdict { IsVerdict result }
+{
+    match ending {
+        Ending::Took(_) => Status::Clean,
+        Ending::Missed => Status::Found,
+        Ending::Short => Status::Found,
+    }
+}
+
+// The answers that letters give: whether each accepts.
+fn given_answers(alloc: Global, letters: &str) -> Result<Vec<bool>, NoMemory>
+    ensures { IfOk result (λ v. v.items ≡ map accepts letters.now) }
+{
+    let mut answers = Vec::with_capacity(alloc, letters.len())?;
+    for letter in letters.as_bytes() {
+        answers.push(*letter == b't')?;
+    }
+    Ok(answers)
+}
