@@ -40,9 +40,9 @@ is_answer letter = nat_eq letter 116 || nat_eq letter 102
 abbrev pub evaluation_of : (name function value letters : List ℕ) → Option RequestForm
 evaluation_of name function value letters =
     if bytes_eq name (codes "eval") then
-      (if list_all is_answer letters then
-        Some (OutcomeForm (record { function = function; value = value; answers = map accepts letters }))
-      else None)
+    (if list_all is_answer letters then
+    Some (OutcomeForm (record { function = function; value = value; answers = map accepts letters }))
+    else None)
     else None
 
 -- what is asked, if anything is, with the file

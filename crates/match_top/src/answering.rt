@@ -37,7 +37,11 @@ pub(crate) struct Answer {
 }
 
 /// What the request has for a file of which these bytes were taken.
-pub(crate) fn answer_to(alloc: Global, request: &Request<'_>, source: &[u8]) -> Result<Answer, NoMemory>
+pub(crate) fn answer_to(
+    alloc: Global,
+    request: &Request<'_>,
+    source: &[u8],
+) -> Result<Answer, NoMemory>
     ensures answers { IfOk result (λ a. (bytes : List ℕ) → source.now ≡ taken bytes
         → Answers (request_view request.now) bytes a.text.items a.status) }
     ensures verdict { IfOk result (λ a. IsVerdict a.status) }
@@ -70,7 +74,11 @@ fn judged(alloc: Global, request: &Request<'_>, source: &[u8]) -> Result<Answer,
 }
 
 // The answer to the tokens of a source: the answer to the file that they spell, or else their fault.
-fn answer_to_tokens(alloc: Global, request: &Request<'_>, tokens: Vec<Token>) -> Result<Answer, NoMemory>
+fn answer_to_tokens(
+    alloc: Global,
+    request: &Request<'_>,
+    tokens: Vec<Token>,
+) -> Result<Answer, NoMemory>
     requires few { length tokens.items ≤ longest_source }
     requires lexed { (source : List ℕ) × HasTokens source (tokens_view tokens.items) }
     ensures answers { IfOk result (λ a. IsAnswerToTokens (request_view request.now) (tokens_view tokens.items) a.text.items a.status) }
@@ -104,7 +112,14 @@ fn answer_to_file(alloc: Global, request: &Request<'_>, file: &File) -> Result<A
     ensures verdict { IfOk result (λ a. IsVerdict a.status) }
 {
     match TypeTable::build(alloc, file, Width::Endless) {
-        Ok(table) => done(alloc, request, &Source { file, table: &table }),
+        Ok(table) => done(
+            alloc,
+            request,
+            &Source {
+                file,
+                table: &table,
+            },
+        ),
         Err(DeclFault::Rule { rule, item, at }) => refused_in(alloc, rule, Some(item), Some(at)),
         Err(DeclFault::NoMemory) => Err(NoMemory),
     }

@@ -123,12 +123,7 @@ fn type_in<'a>(m: &CheckedMatch<'a, TyId>, arm: u32, name: &str) -> TyId
 }
 
 // A name with what it is bound to, a value of this type.
-fn told_held(
-    alloc: Global,
-    table: &TypeTable,
-    ty: TyId,
-    held: &Held,
-) -> Result<HeldText, NoMemory>
+fn told_held(alloc: Global, table: &TypeTable, ty: TyId, held: &Held) -> Result<HeldText, NoMemory>
     requires file { IsOfFile table.now }
     requires of { IsOf table.now ty }
     ensures { IfOk result (λ h. held_view h ≡ told_binding table.now ty (plain_held held.now)) }
@@ -143,12 +138,7 @@ fn told_held(
 }
 
 // The text of a value of this type.
-fn value_text(
-    alloc: Global,
-    table: &TypeTable,
-    ty: TyId,
-    value: &Value,
-) -> Result<String, NoMemory>
+fn value_text(alloc: Global, table: &TypeTable, ty: TyId, value: &Value) -> Result<String, NoMemory>
     requires file { IsOfFile table.now }
     requires of { IsOf table.now ty }
     ensures { IfOk result (λ s. string_bytes s

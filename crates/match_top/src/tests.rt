@@ -245,15 +245,13 @@ fn trees_are_shown_where_they_are_asked_for(rt: HostRuntime) -> Result<(), Fail>
 const PAIR_OF_PAIRS: &str =
     "fn f(x:((u8,u8),(bool,bool))){match x{((a,_)|(_,a),(b,_)|(_,b)) if g()=>1,_=>2}}";
 
-const FIRST_REFUSES: &str =
-    "{\"arm\":0,\"asked\":[\
+const FIRST_REFUSES: &str = "{\"arm\":0,\"asked\":[\
     {\"arm\":0,\"bindings\":[{\"mode\":\"move\",\"name\":\"a\",\"value\":\"1\"},{\"mode\":\"move\",\"name\":\"b\",\"value\":\"true\"}]},\
     {\"arm\":0,\"bindings\":[{\"mode\":\"move\",\"name\":\"a\",\"value\":\"1\"},{\"mode\":\"move\",\"name\":\"b\",\"value\":\"false\"}]}],\
     \"bindings\":[{\"mode\":\"move\",\"name\":\"a\",\"value\":\"1\"},{\"mode\":\"move\",\"name\":\"b\",\"value\":\"false\"}],\
     \"outcome\":\"took\"}\n";
 
-const NO_ANSWER: &str =
-    "{\"arm\":null,\"asked\":[],\"bindings\":null,\"outcome\":\"short\"}\n";
+const NO_ANSWER: &str = "{\"arm\":null,\"asked\":[],\"bindings\":null,\"outcome\":\"short\"}\n";
 
 const NO_VALUE: &str =
     "{\"refused\":{\"arm\":null,\"at\":null,\"item\":null,\"name\":\"value-syntax\",\"rule\":40}}\n";
