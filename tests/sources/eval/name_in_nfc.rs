@@ -1,1 +1,0 @@
-fn café(x:u8){match x{_=>1}}

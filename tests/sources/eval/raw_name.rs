@@ -1,1 +1,0 @@
-fn r#match(x:u8){match x{r#if=>1}}

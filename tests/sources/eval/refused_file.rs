@@ -1,1 +1,0 @@
-struct S(T); fn f(x:u8){match x{_=>1}}

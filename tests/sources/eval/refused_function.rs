@@ -1,1 +1,0 @@
-fn g(x:u8){match x{_=>1}} fn f(x:u8){match x{300=>1,_=>2}}
