@@ -1,0 +1,5 @@
+pub mod OwnNames
+pub mod Ordered
+pub mod Leaves
+pub mod Paths
+pub mod Again

@@ -1,0 +1,13 @@
+//! Laws without code: each function does nothing, and its contract is the law.
+ghost use Rattle.value_laws.specs.Laws.{MeansAgain, ReadsBackAsValue};
+
+/// A value of a type that is written with its names is read as itself.
+pub fn written_value_means_again()
+    ensures { MeansAgain }
+{}
+
+/// The text of a value is read as that value: where it has at most 64 levels, no number above 128 bits, and its names are
+/// identifiers.
+pub fn written_value_reads_back()
+    ensures { ReadsBackAsValue }
+{}
