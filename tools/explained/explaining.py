@@ -25,15 +25,24 @@ def rule_texts():
 
 def function_offsets(data):
     """Where the functions of a source that lexes begin, by its tokens."""
-    found, depth = [], 0
+    return [begin for begin, _ in functions_with_arms(data)]
+
+
+def functions_with_arms(data):
+    """For each function of a source that lexes, by its tokens: where it begins, and where the `=>` of its arms stand."""
+    found, depth, in_header = [], 0, False
     tokens = lex(data)
     for token, behind in zip(tokens, tokens[1:]):
         if token.kind == "mark" and token.value in "([{":
+            in_header = in_header and (depth > 0 or token.value != "{")
             depth += 1
         elif token.kind == "mark" and token.value in ")]}":
             depth -= 1
-        elif depth == 0 and token.is_word("fn") and behind.kind == "name":
-            found.append(token.start)
+        elif depth == 0 and not in_header and token.is_word("fn") and behind.kind == "name":
+            found.append((token.start, []))
+            in_header = True
+        elif depth == 2 and found and not in_header and token.is_mark("=>"):
+            found[-1][1].append(token.start)
     return found
 
 

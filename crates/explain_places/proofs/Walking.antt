@@ -3,7 +3,7 @@ use Rattle.std.proofs.Common.{◌≡◌, ◌∙◌, ap, sym, refl, ℕ, zero, su
 use Rattle.std.proofs.lemmas.List.{at_drop_more, at_drop_all, append-nil, drop_more, take_rest}
 use Rattle.explain_places.specs.Code.{code_from, next_scan, shown_byte, code_at, begins_mark, outside}
 use Rattle.explain_places.specs.Whites.{blanked_from, blank_or, left_at}
-use Rattle.explain_places.specs.Places.{places_of, is_mark}
+use Rattle.explain_places.specs.Places.{places_of, is_mark, waits_behind}
 use Rattle.explain_places.specs.declared.places.Mark.{Mark}
 use Rattle.explain_places.specs.declared.scan.Scan.{Scan}
 
@@ -22,37 +22,44 @@ unfolding code_from
 code_all level scan text done all i past e =
     sym (append-nil done) ∙ ap (λ r. done ++ r) (sym (at_drop_all (code_from level scan) text i past)) ∙ e
 
-places_split : (mark : Mark) (at before b : ℕ) (bs : List ℕ) (t : Bool) → is_mark mark before (b ∷ bs) ≡ t →
-    places_of mark at before (b ∷ bs) ≡ cond t (at ∷ places_of mark (at + 1) b bs) (places_of mark (at + 1) b bs)
+places_split : (mark : Mark) (waits : Bool) (at before b : ℕ) (bs : List ℕ) (t : Bool) → is_mark mark waits before (b ∷ bs) ≡ t →
+    places_of mark waits at before (b ∷ bs)
+    ≡ cond t (at ∷ places_of mark (waits_behind waits before (b ∷ bs)) (at + 1) b bs) (places_of mark (waits_behind waits before (b ∷ bs)) (at + 1) b bs)
 unfolding places_of
-places_split mark at before b bs t e = ap (λ s. cond s (at ∷ places_of mark (at + 1) b bs) (places_of mark (at + 1) b bs)) e
+places_split mark waits at before b bs t e =
+    let rest = places_of mark (waits_behind waits before (b ∷ bs)) (at + 1) b bs in
+    ap (λ s. cond s (at ∷ rest) rest) e
 
 -- a place where the mark stands
-pub places_yes : (mark : Mark) (before : ℕ) (code done all : List ℕ) (i : ℕ) → i < length code → is_mark mark before (drop i code) ≡ true →
-    done ++ places_of mark i before (drop i code) ≡ all →
-    (done ++ i ∷ []) ++ places_of mark (i + 1) (get_or code i 0) (drop (i + 1) code) ≡ all
-places_yes mark before code done all i lt t e =
+pub places_yes : (mark : Mark) (waits next : Bool) (before : ℕ) (code done all : List ℕ) (i : ℕ) → i < length code → is_mark mark waits before (drop i code) ≡ true →
+    next ≡ waits_behind waits before (drop i code) → done ++ places_of mark waits i before (drop i code) ≡ all →
+    (done ++ i ∷ []) ++ places_of mark next (i + 1) (get_or code i 0) (drop (i + 1) code) ≡ all
+places_yes mark waits next before code done all i lt t n e =
+    let b = get_or code i 0 in
     let rest = drop (i + 1) code in
     let split = drop_more code i 0 lt in
-    append_assoc done (i ∷ []) (places_of mark (i + 1) (get_or code i 0) rest)
-    ∙ ap (λ r. done ++ r) (sym (ap (places_of mark i before) split ∙ places_split mark i before (get_or code i 0) rest true (ap (is_mark mark before) (sym split) ∙ t)))
+    append_assoc done (i ∷ []) (places_of mark next (i + 1) b rest)
+    ∙ ap (λ w. done ++ (i ∷ places_of mark w (i + 1) b rest)) (n ∙ ap (waits_behind waits before) split)
+    ∙ ap (λ r. done ++ r) (sym (ap (places_of mark waits i before) split ∙ places_split mark waits i before b rest true (ap (is_mark mark waits before) (sym split) ∙ t)))
     ∙ e
 
 -- a place where it does not stand
-pub places_no : (mark : Mark) (before : ℕ) (code done all : List ℕ) (i : ℕ) → i < length code → is_mark mark before (drop i code) ≡ false →
-    done ++ places_of mark i before (drop i code) ≡ all →
-    done ++ places_of mark (i + 1) (get_or code i 0) (drop (i + 1) code) ≡ all
-places_no mark before code done all i lt t e =
+pub places_no : (mark : Mark) (waits next : Bool) (before : ℕ) (code done all : List ℕ) (i : ℕ) → i < length code → is_mark mark waits before (drop i code) ≡ false →
+    next ≡ waits_behind waits before (drop i code) → done ++ places_of mark waits i before (drop i code) ≡ all →
+    done ++ places_of mark next (i + 1) (get_or code i 0) (drop (i + 1) code) ≡ all
+places_no mark waits next before code done all i lt t n e =
+    let b = get_or code i 0 in
     let rest = drop (i + 1) code in
     let split = drop_more code i 0 lt in
-    ap (λ r. done ++ r) (sym (ap (places_of mark i before) split ∙ places_split mark i before (get_or code i 0) rest false (ap (is_mark mark before) (sym split) ∙ t)))
+    ap (λ w. done ++ places_of mark w (i + 1) b rest) (n ∙ ap (waits_behind waits before) split)
+    ∙ ap (λ r. done ++ r) (sym (ap (places_of mark waits i before) split ∙ places_split mark waits i before b rest false (ap (is_mark mark waits before) (sym split) ∙ t)))
     ∙ e
 
 -- at the end
-pub places_end : (mark : Mark) (before : ℕ) (code done all : List ℕ) (i : ℕ) → length code ≤ i → done ++ places_of mark i before (drop i code) ≡ all → done ≡ all
+pub places_end : (mark : Mark) (waits : Bool) (before : ℕ) (code done all : List ℕ) (i : ℕ) → length code ≤ i → done ++ places_of mark waits i before (drop i code) ≡ all → done ≡ all
 unfolding places_of
-places_end mark before code done all i past e =
-    sym (append-nil done) ∙ ap (λ r. done ++ r) (sym (at_drop_all (places_of mark i before) code i past)) ∙ e
+places_end mark waits before code done all i past e =
+    sym (append-nil done) ∙ ap (λ r. done ++ r) (sym (at_drop_all (places_of mark waits i before) code i past)) ∙ e
 
 -- one more byte, or a blank
 pub blanked_more : (left : ℕ) (code done all : List ℕ) (i : ℕ) → i < length code →

@@ -95,9 +95,17 @@ next_within Escaped depth byte = if byte == 39 then scan_at Code depth else scan
 abbrev pub next_scan : Scan → ℕ → Scan
 next_scan scan byte = next_within scan.within scan.depth byte
 
--- the byte where it is code within so many brackets and behind code, else a blank
+-- a `{` that stands within so many brackets and opens one more
+abbrev pub opens_block : ℕ → Scan → Scan → ℕ → Bool
+opens_block level before after byte = byte == 123 && before.depth == level && nat_lt level after.depth
+
+-- code within so many brackets, and behind code
+abbrev pub is_plain : ℕ → Scan → Scan → Bool
+is_plain level before after = is_code before.within && is_code after.within && before.depth == level && after.depth == level
+
+-- the byte where it is such code or opens a block, else a blank
 abbrev pub shown_byte : ℕ → Scan → Scan → ℕ → ℕ
-shown_byte level before after byte = if is_code before.within && is_code after.within && before.depth == level && after.depth == level then byte else 32
+shown_byte level before after byte = if is_plain level before after || opens_block level before after byte then byte else 32
 
 -- the rest of a text, with a blank for each other byte
 unfoldable pub code_from : ℕ → Scan → List ℕ → List ℕ
@@ -115,7 +123,7 @@ begins_mark (a ∷ []) = false
 begins_mark (a ∷ b ∷ []) = false
 begins_mark (a ∷ b ∷ c ∷ rest) = a == 239 && b == 187 && c == 191
 
--- the text with a blank for each byte that is no code within exactly so many brackets, and for each byte of a byte order mark
--- with which it begins
+-- the text with a blank for each byte that is no code within exactly so many brackets nor opens a block there, and for each byte of a
+-- byte order mark with which it begins
 abbrev pub code_at : ℕ → List ℕ → List ℕ
 code_at level text = if begins_mark text then 32 ∷ 32 ∷ 32 ∷ code_from level outside (drop 3 text) else code_from level outside text

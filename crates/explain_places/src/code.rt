@@ -1,24 +1,39 @@
 // The code of a text within so many brackets.
 ghost use Rattle.std.specs.Prelude.{◌≡◌, ◌++◌, ◌≤◌, IfOk, OnOk, IsTrue, length};
-ghost use Rattle.explain_places.specs.Code.{begins_mark, code_at, code_from, outside, shown_byte};
+ghost use Rattle.explain_places.specs.Code.{begins_mark, code_at, code_from, is_plain, opens_block, outside, shown_byte};
 
 use crate::scan::{Scan, Within, is_code, next_scan};
 use std::alloc::{AllocError, Global};
 
-// The byte where it is code within so many brackets and behind code, else a blank. So neither a mark that begins a comment or a
-// literal is left, nor one that ends it.
+// Whether a byte is code within so many brackets and behind code. So neither a mark that begins a comment or a literal
+// is such code, nor one that ends it.
+fn is_plain(level: usize, before: Scan, after: Scan) -> bool
+    ensures { result ≡ is_plain level before after }
+{
+    let stays = is_code(before.within) && is_code(after.within);
+    stays && before.depth == level && after.depth == level
+}
+
+// Whether it is a `{` that stands within so many brackets and opens one more.
+fn opens_block(level: usize, before: Scan, after: Scan, byte: u8) -> bool
+    ensures { result ≡ opens_block level before after byte }
+{
+    byte == b'{' && before.depth == level && level < after.depth
+}
+
+// The byte where it is such code or opens a block, else a blank.
 fn shown_byte(level: usize, before: Scan, after: Scan, byte: u8) -> u8
     ensures { result ≡ shown_byte level before after byte }
 {
-    let stays = is_code(before.within) && is_code(after.within);
-    if stays && before.depth == level && after.depth == level {
+    if is_plain(level, before, after) || opens_block(level, before, after, byte) {
         byte
     } else {
         b' '
     }
 }
 
-// Adds the text, with a blank for each byte that is of a comment or a literal, or not within exactly so many brackets.
+// Adds the text, with a blank for each byte that is of a comment or a literal, or not within exactly so many brackets,
+// but for a `{` that opens a block there.
 fn push_code(code: &mut Vec<u8>, text: &[u8], level: usize) -> Result<(), AllocError>
     ensures { OnOk result (code.new.items ≡ code.old.items ++ code_from level outside text.now) }
 {

@@ -1,2 +1,3 @@
 pub mod Parts
 pub mod ReadLists
+pub mod Skims

@@ -12,8 +12,8 @@ pub(crate) fn number_at(value: &Value, key: &str) -> Option<u64>
     value.get(key).and_then(Value::as_u64)
 }
 
-// The text of this key.
-pub(crate) fn text_at<'a>(value: &'a Value, key: &str) -> Option<&'a str>
+/// The text of this key, where the value is an object that has one.
+pub fn text_at<'a>(value: &'a Value, key: &str) -> Option<&'a str>
     ensures { option_map (λ t. t.now) result ≡ text_at key.now (view value.now) }
 {
     match value.get(key) {
@@ -29,8 +29,8 @@ pub(crate) fn flag_at(value: &Value, key: &str) -> Option<bool>
     value.get(key).and_then(Value::as_bool)
 }
 
-// The list of this key.
-pub(crate) fn items_at<'a>(value: &'a Value, key: &str) -> Option<&'a Vec<Value>>
+/// The list of this key, where the value is an object that has one.
+pub fn items_at<'a>(value: &'a Value, key: &str) -> Option<&'a Vec<Value>>
     ensures { option_map (λ v. items_view v.now.items) result ≡ items_at key.now (view value.now) }
 {
     match value.get(key) {

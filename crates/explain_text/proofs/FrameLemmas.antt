@@ -4,7 +4,7 @@ use Rattle.explain_lines.specs.Lines.{spot_at}
 use Rattle.explain_lines.specs.declared.spots.Spot.{Spot}
 use Rattle.explain_text.specs.Shown.{left_part, right_part}
 use Rattle.explain_text.specs.Frames.{gutter, arrow_text, source_text, caret_text, frame_text}
-use Rattle.explain_text.proofs.Adding.{three_added}
+use Rattle.explain_lines.proofs.Adding.{three_added}
 
 place_is : (text : List ℕ) (at : ℕ) → (spot_at text at).at ≡ at
 unfolding spot_at

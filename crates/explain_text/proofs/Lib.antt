@@ -1,4 +1,3 @@
-pub mod Adding
 pub mod Mapped
 pub mod Sorted
 pub mod ShownLemmas

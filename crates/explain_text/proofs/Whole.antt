@@ -9,7 +9,7 @@ use Rattle.explain_text.specs.Notes.{witness_note, more_note, missing_note}
 use Rattle.explain_text.specs.Texts.{IsInside, is_error, is_inside, error_count, whole_text, finding_text, counts_text, outcome_of_findings, Told, NotInFile}
 use Rattle.explain_text.specs.declared.findings.Finding.{Finding}
 use Rattle.explain_text.specs.declared.findings.Kind.TheVariants as kinds
-use Rattle.explain_text.proofs.Adding.{two_added}
+use Rattle.explain_lines.proofs.Adding.{two_added}
 use Rattle.explain_text.proofs.Inside.{all_inside, some_text, first_mapped}
 
 -- what an index past the end would read

@@ -1,10 +1,10 @@
 // The text of a report.
 ghost use Rattle.std.specs.Prelude.{◌≡◌, ◌≤◌, ◌-◌, length, drop, map};
 ghost use Rattle.std.specs.List.{All, list_all};
-ghost use Rattle.serde_json.specs.Read.{read};
 ghost use Rattle.serde_json.specs.View.{view};
 ghost use Rattle.explain_report.specs.Records.{report_view};
 ghost use Rattle.explain_report.specs.Reading.{report_of};
+ghost use Rattle.explain_report.specs.Skimming.{read_skimmed};
 ghost use Rattle.explain_text.specs.Findings.{finding_view};
 ghost use Rattle.explain_text.specs.Texts.{Answers, outcome_of, outcome_of_report, outcome_of_findings, findings_of};
 
@@ -14,7 +14,7 @@ use crate::source::{Source, mark_length};
 use crate::texts::{are_inside, error_count, whole_text};
 use explain_lines::checkpoints;
 use explain_places::function_places;
-use explain_report::{ReadFault, Report, report_of};
+use explain_report::{ReadFault, Report, report_of, value_of};
 use no_memory::NoMemory;
 use serde_json::Value;
 use std::alloc::{AllocError, Global};
@@ -22,7 +22,7 @@ use std::alloc::{AllocError, Global};
 /// Why there is no text.
 #[derive(Clone, Copy, Debug, PartialEq, Eq)]
 pub enum Fault {
-    /// The JSON is no report: no JSON, deeper than 127 levels, or of another shape.
+    /// The JSON is no report: no JSON, or of another shape.
     NoReport,
     /// A place of the report is behind the end of the file, or inside a character.
     NoPlace,
@@ -118,14 +118,15 @@ fn value_explained(
 
 /// The text of a report in JSON, beside the file that it is of: the file's name as it is to be shown, and its bytes.
 ///
-/// It is told by the JSON and the file alone. Any JSON and any file may be given.
+/// It is told by the JSON and the file alone. Any JSON and any file may be given; what stands deeper in the JSON than any
+/// key of a report that is shown is passed over (`explain_report::value_of`).
 #[tactic(auto, unfolding(crate::specs::Texts::outcome_of))]
 pub fn explain(alloc: Global, name: &str, file: &[u8], json: &str) -> Result<Explained, Fault>
-    ensures { Answers (outcome_of name.now file.now (read json.now)) result }
+    ensures { Answers (outcome_of name.now file.now (read_skimmed json.now)) result }
 {
-    match Value::from_str(alloc, json) {
+    match value_of(alloc, json) {
         Ok(value) => value_explained(alloc, name, file, &value),
-        Err(error) if error.is_memory() => Err(Fault::NoMemory),
-        Err(_) => Err(Fault::NoReport),
+        Err(ReadFault::NoReport) => Err(Fault::NoReport),
+        Err(ReadFault::NoMemory) => Err(Fault::NoMemory),
     }
 }

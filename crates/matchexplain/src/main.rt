@@ -1,11 +1,14 @@
-//! The program: `matchexplain FILE` reads the report that `matchcheck` writes of a source from standard input, and prints its
-//! findings beside the lines of FILE.
+//! The program: `matchexplain FILE` reads the report that `matchcheck` writes of a source from standard input, and prints
+//! its findings beside the lines of FILE. `matchexplain FILE --dot FUNCTION` reads a report with trees, and prints the
+//! decision tree of that function as a graph in Graphviz's language.
 //!
-//! What is printed, and whether a finding breaks a build, is told by `explain_text::explain`. Where there is no text, the reason
-//! goes to standard error, and nothing to standard output.
+//! What is printed is told by `explain_text::explain`, and so is whether a finding breaks a build, and by
+//! `explain_tree::picture`. Where there is nothing to print, the reason goes to standard error, and nothing to standard
+//! output.
 #![tactic(auto)]
 
 use explain_text::{Explained, Fault, explain};
+use explain_tree::picture;
 use std::alloc::Global;
 use std::io::{ErrorKind, Read, Write};
 use std::process::ExitCode;
@@ -71,9 +74,9 @@ fn read_input<R: Input + AllocGlobal>(rt: &R) -> io::Result<Vec<u8>> {
 }
 
 // Writes the whole text.
-fn write_out<R: Print>(rt: &R, text: &str) -> io::Result<()> {
+fn write_out<R: Print>(rt: &R, text: &[u8]) -> io::Result<()> {
     let mut out = io::writer(rt);
-    out.write_all(text.as_bytes())?;
+    out.write_all(text)?;
     out.flush()
 }
 
@@ -96,24 +99,35 @@ fn tell_fault<R: Eprint>(rt: &R, name: &str, fault: Fault) -> Status {
     status
 }
 
-// Prints the findings of the report on a file.
-fn explain_file<R: Files + Input + Print + Eprint + AllocGlobal>(rt: &R, name: &str) -> Status {
+// The bytes of the file and of the standard input.
+fn read_both<R: Files + Input + Eprint + AllocGlobal>(
+    rt: &R,
+    name: &str,
+) -> Result<(Vec<u8>, Vec<u8>), Status> {
     let file = match fs::read(rt, name) {
         Ok(file) => file,
         Err(error) => {
             let _ = eprintln!(rt; "matchexplain: {name}: the file cannot be read");
-            return fault(&error, Status::ReadFault);
+            return Err(fault(&error, Status::ReadFault));
         }
     };
-    let input = match read_input(rt) {
-        Ok(input) => input,
+    match read_input(rt) {
+        Ok(input) => Ok((file, input)),
         Err(error) => {
             let _ = eprintln!(rt; "matchexplain: the standard input cannot be read");
-            return fault(&error, Status::ReadFault);
+            Err(fault(&error, Status::ReadFault))
         }
+    }
+}
+
+// Prints the findings of the report on a file.
+fn explain_file<R: Files + Input + Print + Eprint + AllocGlobal>(rt: &R, name: &str) -> Status {
+    let (file, input) = match read_both(rt, name) {
+        Ok(both) => both,
+        Err(status) => return status,
     };
     match explained(rt.alloc(), name, file.as_slice(), input) {
-        Ok(explained) => match write_out(rt, explained.text.as_str()) {
+        Ok(explained) => match write_out(rt, explained.text.as_bytes()) {
             Ok(()) if explained.breaks => Status::Found,
             Ok(()) => Status::Clean,
             Err(error) => fault(&error, Status::WriteFault),
@@ -122,12 +136,67 @@ fn explain_file<R: Files + Input + Print + Eprint + AllocGlobal>(rt: &R, name: &
     }
 }
 
+// The picture of a function's tree.
+fn pictured(
+    alloc: Global,
+    file: &[u8],
+    input: Vec<u8>,
+    function: &str,
+) -> Result<Vec<u8>, explain_tree::Fault> {
+    match String::from_utf8(input) {
+        Ok(json) => picture(alloc, file, json.as_str(), function),
+        Err(_) => Err(explain_tree::Fault::NoReport),
+    }
+}
+
+// Says why there is no picture.
+fn tell_no_picture<R: Eprint>(
+    rt: &R,
+    name: &str,
+    function: &str,
+    fault: explain_tree::Fault,
+) -> Status {
+    match fault {
+        explain_tree::Fault::NoReport => tell_fault(rt, name, Fault::NoReport),
+        explain_tree::Fault::NoMemory => tell_fault(rt, name, Fault::NoMemory),
+        explain_tree::Fault::NoTree => {
+            let _ = eprintln!(rt; "matchexplain: {name}: the report has no tree of `{function}`");
+            Status::Words
+        }
+    }
+}
+
+// Prints the picture of a function's tree.
+fn draw<R: Files + Input + Print + Eprint + AllocGlobal>(
+    rt: &R,
+    name: &str,
+    function: &str,
+) -> Status {
+    let (file, input) = match read_both(rt, name) {
+        Ok(both) => both,
+        Err(status) => return status,
+    };
+    match pictured(rt.alloc(), file.as_slice(), input, function) {
+        Ok(picture) => match write_out(rt, picture.as_slice()) {
+            Ok(()) => Status::Clean,
+            Err(error) => fault(&error, Status::WriteFault),
+        },
+        Err(fault) => tell_no_picture(rt, name, function, fault),
+    }
+}
+
 // Does what the words ask for.
 fn run<R: Env + Files + Input + Print + Eprint + AllocGlobal>(rt: &R, words: &[String]) -> Status {
     match words {
         [file] => explain_file(rt, file.as_str()),
+        [file, option, function] if option.as_str() == "--dot" => {
+            draw(rt, file.as_str(), function.as_str())
+        }
         _ => {
             let _ = eprintln!(rt; "usage: matchcheck check FILE | matchexplain FILE");
+            let _ = eprintln!(rt;
+                "       matchcheck trees FILE | matchexplain FILE --dot FUNCTION"
+            );
             Status::Words
         }
     }

@@ -1,5 +1,5 @@
 use Rattle.explain_text.specs.Frames.{arrow_text}
-use Rattle.explain_text.proofs.Adding.{six_added}
+use Rattle.explain_lines.proofs.Adding.{six_added}
 use Rattle.explain_text.proofs.frames.push_arrow.Goals as goal
 
 pub returns : goal.returns

@@ -1,6 +1,6 @@
 use Rattle.std.proofs.Common.{◌∙◌, ap, ◌++◌, replicate, string_bytes}
 use Rattle.explain_text.specs.Frames.{caret_text}
-use Rattle.explain_text.proofs.Adding.{four_added}
+use Rattle.explain_lines.proofs.Adding.{four_added}
 use Rattle.explain_text.proofs.frames.push_caret.Goals as goal
 
 pub returns : goal.returns

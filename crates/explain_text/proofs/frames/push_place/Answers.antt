@@ -1,7 +1,7 @@
 use Rattle.std.proofs.Common.{◌∙◌, ap, ◌++◌, codes, decimal, string_bytes}
 use Rattle.explain_lines.specs.declared.spots.Spot.{Spot}
 use Rattle.explain_text.specs.Frames.{place_text}
-use Rattle.explain_text.proofs.Adding.{two_added}
+use Rattle.explain_lines.proofs.Adding.{two_added}
 use Rattle.explain_text.proofs.frames.push_place.Goals as goal
 
 pub returns : goal.returns

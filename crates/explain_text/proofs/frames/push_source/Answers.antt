@@ -1,5 +1,5 @@
 use Rattle.explain_text.specs.Frames.{source_text}
-use Rattle.explain_text.proofs.Adding.{five_added}
+use Rattle.explain_lines.proofs.Adding.{five_added}
 use Rattle.explain_text.proofs.frames.push_source.Goals as goal
 
 pub returns : goal.returns

@@ -1,5 +1,5 @@
 use Rattle.explain_text.specs.Notes.{rule_heading}
-use Rattle.explain_text.proofs.Adding.{three_added}
+use Rattle.explain_lines.proofs.Adding.{three_added}
 use Rattle.explain_text.proofs.notes.push_broken.Goals as goal
 
 pub returns : goal.returns

@@ -1,7 +1,7 @@
 use Rattle.std.proofs.Common.{◌∙◌, ap, sym, ◌++◌, string_bytes}
 use Rattle.explain_text.specs.Findings.{kind_view}
 use Rattle.explain_text.specs.Notes.{heading_text}
-use Rattle.explain_text.proofs.Adding.{two_added}
+use Rattle.explain_lines.proofs.Adding.{two_added}
 use Rattle.explain_text.proofs.notes.push_heading.Goals as goal
 
 pub returns-in_ok-push_broken-in-FileRefused : goal.returns-in_ok-push_broken-in-FileRefused

@@ -1,5 +1,5 @@
 use Rattle.explain_text.specs.Notes.{overlap_note}
-use Rattle.explain_text.proofs.Adding.{three_added}
+use Rattle.explain_lines.proofs.Adding.{three_added}
 use Rattle.explain_text.proofs.notes.push_overlap.Goals as goal
 
 pub returns : goal.returns

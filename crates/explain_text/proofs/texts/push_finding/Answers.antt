@@ -1,5 +1,5 @@
 use Rattle.explain_text.specs.Texts.{finding_text}
-use Rattle.explain_text.proofs.Adding.{four_added}
+use Rattle.explain_lines.proofs.Adding.{four_added}
 use Rattle.explain_text.proofs.texts.push_finding.Goals as goal
 
 pub returns : goal.returns

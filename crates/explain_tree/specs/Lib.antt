@@ -1,0 +1,5 @@
+pub mod Nodes
+pub mod Labels
+pub mod Graphs
+pub mod Places
+pub mod Pictures
