@@ -3,6 +3,13 @@ mod Going
 mod Beginning
 pub mod Based
 pub mod LoneRows
+pub mod WildColumns
+pub mod WildNames
+pub mod WildOut
+pub mod WildSteps
+pub mod WildGood
+pub mod WildLeads
+pub mod LeftOut
 pub mod Pinned
 pub mod Telling
 pub mod Scoped

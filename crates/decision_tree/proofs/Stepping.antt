@@ -54,11 +54,11 @@ module _ {T : Type 0} (IsType : T → Type 0) (cx : Context T) (decides : ℕ �
   IsFreeRow r = AreFree decides (row_key decides r) 0 r.heads
 
   -- of good rows no or-pattern that is left is decided
-  rows-are-free : (columns : List (MColumn T)) (rows : List (MRow T)) → IsGood IsType cx decides columns rows →
+  pub rows-are-free : (columns : List (MColumn T)) (rows : List (MRow T)) → IsGood IsType cx decides columns rows →
       Every IsFreeRow rows
   rows-are-free columns rows g = every-to (IsGoodRow cx decides columns) IsFreeRow rows (λ r h. h.free) g.rows_are
 
-  any-head : (i : ℕ) (rows : List (MRow T)) → Every (λ r. GoodAt (λ (h : Head T). Unit {0}) i r.heads) rows
+  pub any-head : (i : ℕ) (rows : List (MRow T)) → Every (λ r. GoodAt (λ (h : Head T). Unit {0}) i r.heads) rows
   any-head i rows =
       every-all (λ r. GoodAt (λ (h : Head T). Unit {0}) i r.heads) rows
       (λ r. good-from (λ (h : Head T). Unit {0}) i r.heads (λ h e. tt))
@@ -106,7 +106,7 @@ module _ {T : Type 0} (IsType : T → Type 0) (cx : Context T) (decides : ℕ �
 
       module _ (pieces : List MCtor) (p : MCtor) (are : ArePieces (cx.set_of c.type) (ctors_at i rows) pieces)
           (among : Among p pieces) where
-        counted : Every (λ r. GoodAt (HasCount p (cx.arity p c.type)) i r.heads) rows
+        pub counted : Every (λ r. GoodAt (HasCount p (cx.arity p c.type)) i r.heads) rows
         counted = engine.counted i c columns rows pieces p ready there are among
 
         type : IsType c.type

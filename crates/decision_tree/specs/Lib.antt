@@ -2,6 +2,7 @@ pub mod Places
 pub mod Matrices
 pub mod Waiting
 pub mod Lone
+pub mod WildColumns
 pub mod Known
 pub mod KnownTrees
 pub mod KnownViews

@@ -18,5 +18,6 @@ mod pieces;
 mod steps;
 mod tells;
 mod top;
+mod wild;
 
 pub use top::lower;

@@ -30,6 +30,7 @@ use crate::lone::lone;
 use crate::pieces::{case_of, is_switchless};
 use crate::steps::{dropped, entered, expanded};
 use crate::tells::known_matrix;
+use crate::wild::without_wild;
 use bumpalo::Bump;
 use constructor_sets::{present, split_column};
 use keyed_matrix::{
@@ -349,20 +350,13 @@ fn look_up<'a, C: PatCx>(
     tables_are_built(table);
     let Matrix { columns, rows } = m;
     let rows = lone(alloc, rows);
-    let matrix = known_matrix(alloc, &columns, &rows)?;
+    let m = without_wild(alloc, Matrix { columns, rows })?;
+    let matrix = known_matrix(alloc, &m.columns, &m.rows)?;
     if let Some(index) = find_known(known, &matrix) {
         return Ok(Turn::Finished(index));
     }
     frames.push(Frame::Note { matrix })?;
-    look_next(
-        alloc,
-        arena,
-        cx,
-        decisions,
-        frames,
-        table,
-        Matrix { columns, rows },
-    )
+    look_next(alloc, arena, cx, decisions, frames, table, m)
 }
 
 // Lowers the rows by one rule. A row that stands alone and of which no or-pattern was taken apart is not noted: where its

@@ -9,12 +9,25 @@ use Rattle.decision_tree.specs.KnownViews.{plain_known_matrix, known_entries}
 use Rattle.decision_tree.specs.Matrices.{matrix_columns, matrix_rows}
 use Rattle.decision_tree.specs.Waiting.{Awaits}
 use Rattle.decision_tree.proofs.Knowing.{by-arm, lone-open, lone-some, lone-scope, lone-matrix, lone-waits, known-turn, note-begun}
+use Rattle.decision_tree.proofs.LeftOut.{out-some-rows, out-open-rows, long-matrix, out-matrix, out-scope, out-waits}
 use Rattle.decision_tree.proofs.Turning.{last-first}
 use Rattle.decision_tree.proofs.lowering.look_up.Goals as goal
 
 pub lone-rows-requires : goal.lone-rows-requires
 lone-rows-requires g c =
     by-arm (table_decides c.args.decisions.now) (matrix_rows c.args.m) c.requires.1.1.1.1.0.parted
+
+pub without_wild-requires : goal.without_wild-requires
+without_wild-requires g c =
+    let cx = c.args.cx.now in
+    let IsType = g.C.PatCx.is_type cx in
+    let context = g.C.PatCx.context cx in
+    let V = g.C.PatCx.is_value cx in
+    let decides = table_decides c.args.decisions.now in
+    let m = c.args.m in
+    let next : Matrix g.row.C-Ty.Denot = record { columns = m.columns; rows = c.lone-rows.result } in
+    long-matrix IsType context V decides g.root next
+    (lone-matrix IsType context V decides g.root m next refl c.lone-rows.ensures c.requires.1.1.1.1.0)
 
 pub returns-in-Some-clause-turn : goal.returns-in-Some-clause-turn
 returns-in-Some-clause-turn g c =
@@ -27,14 +40,19 @@ returns-in-Some-clause-turn g c =
     let now = table_trees c.args.table.now in
     let m = c.args.m in
     let next : Matrix g.row.C-Ty.Denot = record { columns = m.columns; rows = c.lone-rows.result } in
-    known-turn IsType context V decides g.root frames now next (known_entries c.args.known.now)
+    let less = c.in_ok-m.m in
+    let good = lone-matrix IsType context V decides g.root m next refl c.lone-rows.ensures c.requires.1.1.1.1.0 in
+    known-turn IsType context V decides g.root frames now less (known_entries c.args.known.now)
     (plain_known_matrix c.in_ok-matrix.matrix) c.in-Some.index c.tables_are_built.ensures c.requires.1.1.1.1.1.1.1.1
-    (lone-scope IsType context V decides g.root m next refl c.lone-rows.ensures c.requires.1.1.1.1.1.1.0)
+    (out-scope IsType context V decides g.root next less c.in_ok-m.ensures.leaves
+    (lone-scope IsType context V decides g.root m next refl c.lone-rows.ensures c.requires.1.1.1.1.1.1.0))
     c.requires.1.1.1.1.1.1.1.0
     (c.in_ok-matrix.ensures ∙ (λ k. known_matrix (plain_columns (c.deref.ensures.value k)) (plain_rows (c.deref-2.ensures.value k))))
     c.in-Some.ensures
+    (out-waits IsType context V decides g.root (g.met.C.PatCx.parts cx) (g.met.C.PatCx.values cx) frames now next less
+    c.in_ok-m.ensures.leaves good
     (lone-waits IsType context V decides g.root (g.met.C.PatCx.parts cx) (g.met.C.PatCx.values cx) frames now m next refl
-    c.lone-rows.ensures c.requires.1.1.1.1.0 c.requires.1.1.1.1.1.0)
+    c.lone-rows.ensures c.requires.1.1.1.1.0 c.requires.1.1.1.1.1.0))
 
 pub look_next-requires : goal.look_next-requires
 look_next-requires g c κs inside =
@@ -47,25 +65,33 @@ look_next-requires g c κs inside =
     let now = table_trees c.args.table.now in
     let m = c.args.m in
     let next : Matrix g.row.C-Ty.Denot = record { columns = m.columns; rows = c.lone-rows.result } in
+    let less = c.in_ok-m.m in
+    let leaves = c.in_ok-m.ensures.leaves in
     let matrix = c.in_ok-matrix.matrix in
-    let scope = lone-scope IsType context V decides g.root m next refl c.lone-rows.ensures c.requires.1.1.1.1.1.1.0 in (
+    let good = lone-matrix IsType context V decides g.root m next refl c.lone-rows.ensures c.requires.1.1.1.1.0 in
+    let some = lone-some m.rows.items next.rows.items c.lone-rows.ensures c.requires.1.1.0 in
+    let scope = out-scope IsType context V decides g.root next less leaves
+    (lone-scope IsType context V decides g.root m next refl c.lone-rows.ensures c.requires.1.1.1.1.1.1.0) in (
       inside.0,
       (
         inside.1,
         (
-          lone-some m.rows.items next.rows.items c.lone-rows.ensures c.requires.1.1.0,
+          out-some-rows (matrix_columns next) (matrix_columns less) next.rows.items less.rows.items leaves some,
           (
-            lone-open m.rows.items next.rows.items c.lone-rows.ensures c.requires.1.1.1.0 c.requires.1.1.0,
+            out-open-rows (matrix_columns next) (matrix_columns less) next.rows.items less.rows.items leaves some
+                (lone-open m.rows.items next.rows.items c.lone-rows.ensures c.requires.1.1.1.0 c.requires.1.1.0),
             (
-              lone-matrix IsType context V decides g.root m next refl c.lone-rows.ensures c.requires.1.1.1.1.0,
+              out-matrix IsType context V decides g.root next less leaves good,
               (
-                subst (λ fs. Awaits IsType context V decides g.root fs now (matrix_columns next) (matrix_rows next))
+                subst (λ fs. Awaits IsType context V decides g.root fs now (matrix_columns less) (matrix_rows less))
                     (sym (last-first c.args.frames.now.items c.push.new.self.items (Note matrix) c.in_ok-push.ensures.items))
-                    (note-begun IsType context V decides g.root frames now next matrix scope
+                    (note-begun IsType context V decides g.root frames now less matrix scope
                     (c.in_ok-matrix.ensures ∙ (λ k. known_matrix (plain_columns (c.deref.ensures.value k))
                     (plain_rows (c.deref-2.ensures.value k))))
-                    (lone-waits IsType context V decides g.root (g.met.C.PatCx.parts cx) (g.met.C.PatCx.values cx) frames now m next refl
-                    c.lone-rows.ensures c.requires.1.1.1.1.0 c.requires.1.1.1.1.1.0)),
+                    (out-waits IsType context V decides g.root (g.met.C.PatCx.parts cx) (g.met.C.PatCx.values cx) frames now next
+                    less leaves good
+                    (lone-waits IsType context V decides g.root (g.met.C.PatCx.parts cx) (g.met.C.PatCx.values cx) frames now m
+                    next refl c.lone-rows.ensures c.requires.1.1.1.1.0 c.requires.1.1.1.1.1.0))),
                 scope,
               ),
             ),

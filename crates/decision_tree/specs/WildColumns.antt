@@ -1,0 +1,62 @@
+-- Rows without a column in which every row is wild (our own choice).
+use Rattle.std.specs.Prelude.{◌≡◌, ◌<◌, ◌⊎◌, ℕ, zero, suc, true, false, List, [], ◌∷◌, ◌++◌, map, length, slice_get, Some, None}
+use Rattle.match_model.specs.Lists.{Every}
+use Rattle.match_model.specs.Lowering.{all_wild_at}
+use Rattle.match_model.specs.Matrices.{MColumn, MRow, head_binds}
+use Rattle.match_model.specs.Places.{MStep}
+use Rattle.match_model.specs.Rows.{Head, is_wild}
+use Rattle.match_model.specs.Steps.{replaced_at}
+
+-- the head of column `i`
+abbrev pub head_at : {T : Type 0} → (i : ℕ) → List (Head T) → Head T
+head_at i [] = None
+head_at zero (h ∷ hs) = h
+head_at (suc i) (h ∷ hs) = head_at i hs
+
+-- the row without its head at column `i`, which has this place; the names that it bound there are caught before all others
+abbrev pub left_out : {T : Type 0} → List MStep → (i : ℕ) → MRow T → MRow T
+left_out place i r = record r {
+  heads = replaced_at i r.heads [];
+  caught = head_binds place (head_at i r.heads) ++ r.caught;
+}
+
+-- so each of the rows
+abbrev pub all_left_out : {T : Type 0} → List MStep → (i : ℕ) → List (MRow T) → List (MRow T)
+all_left_out place i rows = map (left_out place i) rows
+
+-- each row has a wildcard or a name in column `i`
+abbrev pub AreWildAt : {T : Type 0} → (i : ℕ) → List (MRow T) → Type 0
+AreWildAt i rows = Every (λ r. is_wild (head_at i r.heads) ≡ true) rows
+
+-- each row has a head for each column
+abbrev pub AreAsLong : {T : Type 0} → List (MColumn T) → List (MRow T) → Type 0
+AreAsLong columns rows = Every (λ r. length r.heads ≡ length columns) rows
+
+-- the columns and rows without column `i`, which is one of them
+pub record IsWithout {T : Type 0} (i : ℕ) (columns : List (MColumn T)) (rows : List (MRow T)) (cs : List (MColumn T))
+    (rs : List (MRow T)) : Type 0 where
+  pub column : MColumn T
+  pub there : slice_get columns i ≡ Some column
+  pub wild : all_wild_at i rows ≡ true
+  pub columns_are : cs ≡ replaced_at i columns []
+  pub rows_are : rs ≡ all_left_out column.place i rows
+
+-- the same, where every row is wild in the column, or else they stay as they are
+abbrev pub IsLeftOutAt : {T : Type 0} → (i : ℕ) → List (MColumn T) → List (MRow T) → List (MColumn T) → List (MRow T) →
+    Type 0
+IsLeftOutAt i columns rows cs rs =
+    IsWithout i columns rows cs rs ⊎ ((all_wild_at i rows ≡ false) × (cs ≡ columns) × (rs ≡ rows))
+
+-- such columns are left out, one after the other
+pub data LeavesOut {T : Type 0} (columns : List (MColumn T)) (rows : List (MRow T)) :
+    List (MColumn T) → List (MRow T) → Type 0 where
+  none_out : LeavesOut columns rows columns rows
+  one_out : (i : ℕ) (c : MColumn T) (cs : List (MColumn T)) (rs : List (MRow T)) → slice_get cs i ≡ Some c →
+      all_wild_at i rs ≡ true → LeavesOut columns rows cs rs →
+      LeavesOut columns rows (replaced_at i cs []) (all_left_out c.place i rs)
+
+-- all of them are: no column is left in which every row is wild
+pub record AreLeftOut {T : Type 0} (columns : List (MColumn T)) (rows : List (MRow T)) (cs : List (MColumn T))
+    (rs : List (MRow T)) : Type 0 where
+  pub leaves : LeavesOut columns rows cs rs
+  pub none_left : (i : ℕ) → i < length cs → all_wild_at i rs ≡ false
