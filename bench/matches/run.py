@@ -48,6 +48,48 @@ def ranges(n):
     return function("u32", [f"{10 * i}..={10 * i + 9}" for i in range(n)] + ["_"])
 
 
+def touch(i):
+    """A range whose last number is the first of the next one."""
+    return f"{10 * i}..={10 * i + 10}"
+
+
+def touching(n):
+    return function("u32", [touch(i) for i in range(n)] + ["_"])
+
+
+def touching_alternatives(n):
+    return function("u32", [" | ".join(touch(i) for i in range(n)), "_"])
+
+
+def touching_columns(n):
+    """Each arm touches the next one in eight columns."""
+    return function("(" + "u32, " * 8 + ")", ["(" + (touch(i) + ", ") * 8 + ")" for i in range(n)] + ["_"])
+
+
+def touching_in_variants(n):
+    """Two ranges that touch in each variant. All end or begin at one number, and those of two variants never meet."""
+    arms = [f"E::V{i}({touch(half)})" for i in range(n) for half in (0, 1)]
+    return function("E", arms + ["_"], "pub enum E { " + ", ".join(f"V{i}(u32)" for i in range(n)) + " }\n")
+
+
+def touching_beside_others(n):
+    """The same with rows of two columns, of which the first keeps them apart."""
+    arms = [f"({20 * i}..={20 * i + 19}, {touch(half)})" for i in range(n) for half in (0, 1)]
+    return function("(u32, u32)", arms + ["_"])
+
+
+def touching_rows(n):
+    """Items from the front and from the back that are one in rows of one item."""
+    arms = [f"[{touch(i)}, ..]" if i % 2 == 0 else f"[.., {touch(i)}]" for i in range(n)]
+    return function("&[u32]", arms + ["_"])
+
+
+def touching_behind_references(n):
+    """Ranges beside a flag behind references, in alternatives."""
+    arms = [f"(({touch(2 * i)} | {touch(2 * i + 1)}), {'true' if i % 2 else '_'})" for i in range(n)]
+    return function("&(&u32, &bool)", arms + ["_"])
+
+
 def alternatives(n):
     return function("u32", [" | ".join(str(3 * i) for i in range(n)), "_"])
 
@@ -105,6 +147,13 @@ KINDS = [
     ("integer literals", literals, 2000, True),
     ("strings", strings, 2000, True),
     ("ranges in a row", ranges, 2000, True),
+    ("ranges that touch", touching, 5000, True),
+    ("touching alternatives", touching_alternatives, 5000, True),
+    ("touching in eight columns", touching_columns, 250, True),
+    ("touching in N variants", touching_in_variants, 500, True),
+    ("touching beside others", touching_beside_others, 500, True),
+    ("touching rows", touching_rows, 64, False),
+    ("touching behind references", touching_behind_references, 1000, True),
     ("alternatives in one arm", alternatives, 2000, True),
     ("each arm guarded", guarded, 2000, True),
     ("flags on the diagonal", diagonal, 64, False),

@@ -45,7 +45,7 @@ fn no_way_of_an_alternative_comes_first(x:(bool,bool)){match x{(true,_)|(_,true)
 fn whole_arm_and_not_its_parts(x:u8){match x{0|1=>1,0|1|0=>2,_=>3}}
 fn arm_in_round_brackets(x:u8){match x{_=>1,(1|2)=>2}}
 fn arm_with_a_leading_mark(x:u8){match x{_=>1,|1=>2}}
-fn ranges_that_meet_are_not_listed(x:u8){match x{0..=100=>1,100..=255=>2}}
+fn ranges_that_meet(x:u8){match x{0..=100=>1,100..=255=>2}}
 fn numbers_that_no_literal_names(x:usize){match x{0..=18446744073709551615=>1,18446744073709551615.. =>2}}
 fn an_array_without_items_has_one_value(x:[!;0]){match x{[]=>1}}
 fn an_array_of_what_is_empty_has_none(x:[!;3]){match x{}}

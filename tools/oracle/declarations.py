@@ -1,10 +1,12 @@
 """Names, types and declarations: what they mean, and the rules 10 to 19 and 36.
 
-A type is a tuple: `("bool",)`, `("char",)`, `("int", kind)`, `("str",)`, `("never",)`, `("opaque", name, arguments)`,
+A type is a tuple: `("bool",)`, `("char",)`, `("int", kind)`, of `usize` and `isize` with a width `("int", kind, bits)`,
+`("str",)`, `("never",)`, `("opaque", name, arguments)`,
 `("tuple", parts)`, `("point", mutable, type)`, `("slice", type)`, `("array", type, length)` or
 `("named", owner, arguments)`, the owner being the number of an item, `Option` or `Result`.
 """
 from dataclasses import dataclass
+from typing import Optional
 
 from fault import Fault
 import syntax as s
@@ -15,6 +17,21 @@ ARGUMENTS = {"Option": 1, "Result": 2, "Box": 1, "Vec": 1, "Rc": 1, "Arc": 1, "S
 OPAQUE = frozenset(["Box", "Vec", "Rc", "Arc", "String", "f32", "f64"])
 BEHIND = frozenset(["Box", "Rc", "Arc"])
 GREATEST_LENGTH = 4_294_967_295
+WIDTHS = (16, 32, 64)
+EDITIONS = (2021, 2024)
+
+
+@dataclass(frozen=True)
+class Options:
+    """What the words behind a command say: the bits of `usize` and `isize`, None where they have no end; the edition."""
+
+    width: Optional[int] = None
+    edition: int = 2024
+
+    def words(self):
+        """The words that say so."""
+        width = [] if self.width is None else ["--width", str(self.width)]
+        return width + ([] if self.edition == 2024 else ["--edition", str(self.edition)])
 
 
 def numbers_of(ty):
@@ -25,7 +42,7 @@ def numbers_of(ty):
         return [(0, None)]
     if ty == ("int", "isize"):
         return [(None, None)]
-    sign, bits = SIZES[ty[1]]
+    sign, bits = (ty[1][0], ty[2]) if len(ty) == 3 else SIZES[ty[1]]
     return [(0, 2**bits - 1)] if sign == "u" else [(-(2 ** (bits - 1)), 2 ** (bits - 1) - 1)]
 
 
@@ -68,8 +85,9 @@ def labels(form):
 class Declarations:
     """The declarations of a file without faults on the rules 10 to 19 and 36, unless `fault` is called on others."""
 
-    def __init__(self, items):
+    def __init__(self, items, options=Options()):
         self.items = items
+        self.options = options
         self.first = {}
         for number, item in enumerate(items):
             if isinstance(item.kind, (s.Enum, s.Struct)):
@@ -136,12 +154,17 @@ class Declarations:
         if written.name in self.first:
             return ("named", self.first[written.name], ())
         if written.name in INTEGERS:
-            return ("int", written.name)
+            return self.integer(written.name)
         if written.name in OPAQUE:
             return ("opaque", written.name, inner)
         if written.name in ("Option", "Result"):
             return ("named", written.name, inner)
         return (written.name,)
+
+    def integer(self, kind):
+        """The integer type of that name."""
+        width = self.options.width if kind in ("usize", "isize") else None
+        return ("int", kind) if width is None else ("int", kind, width)
 
     def is_enum(self, owner):
         return owner in ("Option", "Result") or isinstance(self.items[owner].kind, s.Enum)

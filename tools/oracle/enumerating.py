@@ -4,7 +4,9 @@ A value is `("flag", b)`, `("num", n)`, `("text", t)`, `("node", k, parts)`, `("
 `("thing",)`, `("later",)` or `("unseen",)`. A number stands for all numbers that no literal or end of a range of the
 match tells apart from it, and deep within a value, where no pattern looks, one value stands for all.
 """
-from itertools import product
+from dataclasses import dataclass
+from itertools import combinations, product
+from typing import Optional
 
 from declarations import TWICE, numbers_of
 from patterns import ANY, Alternatives
@@ -21,35 +23,50 @@ class Differs(Exception):
     """The two ways do not agree."""
 
 
-# The ways in which a written pattern matches a value. A way is the list of the alternatives that are chosen.
+@dataclass(frozen=True)
+class Span:
+    """A range of more than one number that was met: its offset, the number's position in the value, its two ends."""
+
+    at: int
+    position: tuple
+    low: Optional[int]
+    high: Optional[int]
+
+    def has(self, number):
+        return (self.low is None or self.low <= number) and (self.high is None or number <= self.high)
+
+
+# The ways in which a written pattern matches a value. A way is the list of the alternatives that are chosen and of the
+# spans that are met. A position is a list of numbers: of a part or an item in its row, 0 through a reference.
 class Ways:
     def __init__(self, declarations):
         self.declarations = declarations
 
-    def of(self, pattern, value):
-        """The ways of a pattern on a value, in order; an alternative is known by its place in memory."""
+    def of(self, pattern, ty, value, position=()):
+        """The ways of a pattern on a value of a type, in order; an alternative is known by its place in memory."""
         if isinstance(pattern, s.Wild):
             return [[]]
         if isinstance(pattern, s.Group):
-            return self.of(pattern.inner, value)
+            return self.of(pattern.inner, ty, value, position)
         if isinstance(pattern, s.Or):
-            return [[id(one)] + way for one in pattern.alternatives for way in self.of(one, value)]
+            return [[id(one)] + way for one in pattern.alternatives for way in self.of(one, ty, value, position)]
         if isinstance(pattern, s.Point):
-            return self.of(pattern.inner, value[2]) if value[0] == "point" and value[1] == pattern.mutable else []
+            through = value[0] == "point" and value[1] == pattern.mutable
+            return self.of(pattern.inner, ty[2], value[2], position + (0,)) if through else []
         if isinstance(pattern, s.Named) and self.binds(pattern):
-            return self.of(pattern.inner, value) if pattern.inner else [[]]
+            return self.of(pattern.inner, ty, value, position) if pattern.inner else [[]]
         if isinstance(pattern, s.Literal) and pattern.literal.kind == "str":
             return [[]] if value == ("point", False, ("text", pattern.literal.value)) else []
         if value[0] == "point":
-            return self.of(pattern, value[2])
+            return self.of(pattern, ty[2], value[2], position + (0,))
         if isinstance(pattern, s.Literal):
             number = pattern.literal
             return [[]] if value == ("flag" if number.kind == "flag" else "num", number.value) else []
         if isinstance(pattern, s.Range):
-            return [[]] if value[0] == "num" and self.is_in(pattern, value[1]) else []
+            return self.of_range(pattern, ty, value[1], position) if value[0] == "num" else []
         if isinstance(pattern, (s.TuplePattern, s.SlicePattern)):
-            return self.of_list(pattern.items, value)
-        return self.of_form(pattern, value)
+            return self.of_list(pattern.items, ty, value, position)
+        return self.of_form(pattern, ty, value, position)
 
     def binds(self, pattern):
         if not pattern.is_bare():
@@ -58,52 +75,64 @@ class Ways:
         return found is None or found == TWICE or found.kind == "brace"
 
     @staticmethod
-    def is_in(pattern, number):
-        if pattern.low is not None and number < pattern.low.value:
-            return False
-        if pattern.high is None:
-            return True
-        return number <= pattern.high.value if pattern.closed else number < pattern.high.value
+    def of_range(pattern, ty, number, position):
+        low = numbers_of(ty)[0][0] if pattern.low is None else pattern.low.value
+        high = numbers_of(ty)[-1][1] if pattern.high is None else pattern.high.value
+        if pattern.high is not None and not pattern.closed:
+            high = below(ty, high)
+        span = Span(pattern.at, position, low, high)
+        if not span.has(number):
+            return []
+        return [[span] if low is None or high is None or low < high else []]
 
-    def joined(self, patterns, values):
+    def joined(self, patterns, types, values, position):
         found = [[]]
-        for pattern, value in zip(patterns, values):
-            more = [[]] if pattern is None else self.of(pattern, value)
+        for place, (pattern, ty, value) in enumerate(zip(patterns, types, values)):
+            more = [[]] if pattern is None else self.of(pattern, ty, value, position + (place,))
             found = [way + other for way in found for other in more]
         return found
 
-    def of_list(self, items, value):
+    def of_list(self, items, ty, value, position):
         if value[0] not in ("node", "row"):
             return []
         values = value[2] if value[0] == "node" else value[1]
+        types = self.types(ty, value[1]) if value[0] == "node" else [ty[1]] * len(values)
         rest = [number for number, item in enumerate(items) if s.is_rest(item)]
         if not rest:
-            return self.joined(items, values) if len(items) == len(values) else []
+            return self.joined(items, types, values, position) if len(items) == len(values) else []
         others = len(items) - 1
         if others > len(values):
             return []
         front, back = items[: rest[0]], items[rest[0] + 1 :]
-        return self.joined(front + back, values[: len(front)] + values[len(values) - len(back) :])
+        return self.joined(front + [None] * (len(values) - others) + back, types, values, position)
 
-    def of_form(self, pattern, value):
+    def types(self, ty, variant):
+        return list(ty[1]) if ty[0] == "tuple" else self.declarations.variants(ty)[variant].types
+
+    def of_form(self, pattern, ty, value, position):
         path = s.Path([pattern.name], True) if isinstance(pattern, s.Named) else pattern.path
         found = self.declarations.find(path)
         if value[0] != "node" or value[1] != found.variant:
             return []
         if isinstance(pattern, s.TupleForm):
-            return self.of_list(pattern.items, value)
+            return self.of_list(pattern.items, ty, value, position)
         if not isinstance(pattern, s.BraceForm):
             return [[]]
         labels = self.labels(found)
         patterns = [None] * len(labels)
         for field in pattern.fields:
             patterns[labels.index(field.name)] = field.pattern
-        return self.joined(patterns, value[2])
+        return self.joined(patterns, self.types(ty, value[1]), value[2], position)
 
     def labels(self, found):
         if isinstance(found.owner, str):
             return [] if found.kind == "unit" else ["0"]
         return self.declarations.variants(("named", found.owner, ()))[found.variant].labels
+
+
+def below(ty, number):
+    """The greatest number of an integer or character type below a number that is not its least."""
+    return 0xD7FF if ty == ("char",) and number == 0xE000 else number - 1
 
 
 # The values of a type.
@@ -296,7 +325,26 @@ class Reached:
         return found
 
 
-def cross_check(declarations, number, match, witnesses, unreachable):
+def met_together(ways):
+    """The overlaps that are met in two of the ways of one value."""
+    spans = [(number, item) for number, way in enumerate(ways) for item in way if isinstance(item, Span)]
+    for (number, one), (other_number, other) in combinations(spans, 2):
+        if number != other_number and one.position == other.position and one.at != other.at:
+            first, second = (one, other) if one.at < other.at else (other, one)
+            for x in {first.low, first.high} & {second.low, second.high} - {None}:
+                alone = not any(first.has(y) and second.has(y) for y in (x - 1, x + 1))
+                if alone and (first.high == second.low == x or second.high == first.low == x):
+                    yield (first.at, second.at, x), one.position
+
+
+def part_at(value, position):
+    """The part of a value at a position."""
+    for place in position:
+        value = value[2] if value[0] == "point" else (value[2] if value[0] == "node" else value[1])[place]
+    return value
+
+
+def cross_check(declarations, number, match, witnesses, unreachable, overlaps):
     """Compares a judgement with what values one by one show. Differs is raised where it is another; the answer tells
     whether there were few enough values for it."""
     arms = declarations.items[number].kind.arms
@@ -308,11 +356,15 @@ def cross_check(declarations, number, match, witnesses, unreachable):
         return False
     ways = Ways(declarations)
     reached = Reached(arms)
-    fitted = set()
+    fitted, overlapping = set(), set()
     for value in domain:
         fitting = [place for place, witness in enumerate(witnesses) if fits(witness, value)]
         fitted.update(fitting)
-        covered = meet(ways, arms, value, reached)
+        all_ways = [ways.of(arm.pattern, match.type, value) for arm in arms]
+        for overlap, position in met_together([way for found in all_ways for way in found]):
+            if part_at(value, position) == ("num", overlap[2]):
+                overlapping.add(overlap)
+        covered = meet(arms, all_ways, reached)
         wanted = 0 if covered or value == ("unseen",) else 1
         if len(fitting) != wanted:
             raise Differs(f"function {number}: {value} fits witnesses {fitting}, covered: {covered}")
@@ -320,13 +372,14 @@ def cross_check(declarations, number, match, witnesses, unreachable):
         raise Differs(f"function {number}: some witness is fitted by no value")
     if reached.entries() != unreachable:
         raise Differs(f"function {number}: unreachable {unreachable}, by values {reached.entries()}")
+    if sorted(overlapping) != overlaps:
+        raise Differs(f"function {number}: overlaps {overlaps}, by values {sorted(overlapping)}")
     return True
 
 
-def meet(ways, arms, value, reached):
-    """Marks what a value comes to, and tells whether an unguarded arm matches it."""
-    for number, arm in enumerate(arms):
-        found = ways.of(arm.pattern, value)
+def meet(arms, all_ways, reached):
+    """Marks what a value with these ways comes to, and tells whether an unguarded arm matches it."""
+    for number, (arm, found) in enumerate(zip(arms, all_ways)):
         if found:
             reached.reached.add(number)
             for way in found if arm.guarded else found[:1]:

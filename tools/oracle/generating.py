@@ -9,13 +9,12 @@ or `("declared", number)`.
 """
 import random
 
+from declarations import Options
 from spoiling import spoiled
 
 KINDS = ["u8", "i8", "u16", "i16", "u32", "i32", "u64", "i64", "u128", "i128", "usize", "isize"]
 EDGES = {kind + str(bits): ((0, 2**bits - 1) if kind == "u" else (-(2 ** (bits - 1)), 2 ** (bits - 1) - 1))
          for kind in "ui" for bits in (8, 16, 32, 64, 128)}
-EDGES["usize"] = (0, 2**64 - 1)
-EDGES["isize"] = (-(2**63), 2**63 - 1)
 CHARS = ["'a'", "'b'", "'c'", "'z'", "'é'", r"'\0'", r"'\n'",
          r"'\''", r"'\\'", r"'\u{d7ff}'", r"'\u{e000}'", r"'\u{10ffff}'"]
 TEXTS = ['""', '"a"', '"b"', '"ab"', r'"\n"', 'r"a"', '"é"', r'"\""', r'"\x61"']
@@ -23,9 +22,15 @@ STRANGE = ["1.5", 'b"a"', "a::b::C", "1x", "&_", "&mut _", "ref q", "mut q", '"s
 UNIT, TUPLE, BRACE = "unit", "tuple", "brace"
 
 
+def edges(kind, width):
+    """The least and greatest number of an integer type that may be written."""
+    bits = width or 64
+    return {"usize": (0, 2**bits - 1), "isize": (-(2 ** (bits - 1)), 2 ** (bits - 1) - 1)}.get(kind) or EDGES[kind]
+
+
 class Source:
-    def __init__(self, rng):
-        self.rng = rng
+    def __init__(self, rng, options):
+        self.rng, self.options = rng, options
         self.declared = []
         self.imports = {}
         self.lines = []
@@ -161,7 +166,8 @@ class Source:
         return self.of_kind(ty, mode, depth, binds)
 
     def written_mode(self, mode):
-        if (mode == "move" and self.chance(0.25)) or self.chance(self.slip):
+        taken = (mode == "move" and self.chance(0.25)) or self.chance(self.slip)
+        if taken or self.options.edition == 2021 and self.chance(0.15):
             return self.rng.choice(["ref ", "mut ", "ref mut "])
         return ""
 
@@ -180,8 +186,8 @@ class Source:
     def at_reference(self, ty, mode, depth, binds):
         if ty[2] == ("str",) and self.chance(0.8):
             return self.rng.choice(TEXTS)
-        if mode == "move" and self.chance(0.3):
-            inner = self.pattern(ty[2], mode, depth - 1, binds)
+        if (mode == "move" or self.options.edition == 2021) and self.chance(0.3):
+            inner = self.pattern(ty[2], "move", depth - 1, binds)
             if inner.startswith(("mut ", "..")) or ".." in inner and inner[0] not in "([{":
                 inner = "(" + inner + ")"
             return ("&mut " if ty[1] != self.chance(self.slip) else "&") + inner
@@ -218,7 +224,7 @@ class Source:
     def one_number(self, ty):
         if ty[0] == "char":
             return self.rng.choice(CHARS)
-        low, high = EDGES[ty[1]]
+        low, high = edges(ty[1], self.options.width)
         near = [low, low + 1, high, high - 1, 0, 1, 2, 5, 10, 100]
         if self.chance(self.slip):
             near = [low - 1, high + 1]
@@ -243,14 +249,14 @@ class Source:
             return f"..={one}"
         if form == 2 and (one != other or self.chance(self.slip * 3)):
             return f"{one}..{other}"
-        above = ty == ("int", "isize") or self.order(one) > self.order(self.least(ty))
+        endless = ty == ("int", "isize") and self.options.width is None
+        above = endless or self.order(one) > self.order(self.least(ty))
         if form == 3 and (above or self.chance(self.slip * 3)):
             return f"..{one}"
         return f"{one}..={other}"
 
-    @staticmethod
-    def least(ty):
-        return r"'\0'" if ty[0] == "char" else str(EDGES[ty[1]][0])
+    def least(self, ty):
+        return r"'\0'" if ty[0] == "char" else str(edges(ty[1], self.options.width)[0])
 
     @staticmethod
     def order(text):
@@ -353,6 +359,6 @@ class Source:
         return spoiled(self.rng, self.lines)
 
 
-def source_of(seed, number):
-    """The source with that number of those that a seed gives."""
-    return Source(random.Random(f"{seed}/{number}")).text()
+def source_of(seed, number, options=Options()):
+    """The source with that number of those that a seed gives, whose numbers and modes suit the options."""
+    return Source(random.Random(f"{seed}/{number}"), options).text()

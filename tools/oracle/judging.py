@@ -242,7 +242,7 @@ def choices(pattern):
     ways = [([], [])]
     for part in pattern.parts:
         ways = [(trace + more, parts + [chosen]) for trace, parts in ways for more, chosen in choices(part)]
-    return [(trace, Head(pattern.constructor, parts)) for trace, parts in ways]
+    return [(trace, Head(pattern.constructor, parts, pattern.at)) for trace, parts in ways]
 
 
 def wrap(piece, parts):

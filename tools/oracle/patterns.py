@@ -30,8 +30,11 @@ class Alternatives:
 
 @dataclass
 class Head:
+    """`at` is the offset of a written range or literal, else None."""
+
     constructor: tuple
     parts: list
+    at: int = None
 
 
 @dataclass
@@ -143,10 +146,13 @@ class ArmChecker:
         rules = set()
         if ty[0] != "point" or ty[1] != node.mutable:
             rules.add(22)
-        if mode != "move":
-            rules.add(32)
+        rules |= self.mode_rules(mode)
         self.refuse(node, rules)
-        return Head(("point", node.mutable), [self.visit(node.inner, ty[2], mode)])
+        return Head(("point", node.mutable), [self.visit(node.inner, ty[2], "move")])
+
+    def mode_rules(self, mode):
+        """The rule that a written mode, `&` or `&mut` breaks where the binding mode is this."""
+        return {32} if mode != "move" and self.declarations.options.edition == 2024 else set()
 
     def named(self, node, ty, mode):
         rules = set()
@@ -162,10 +168,10 @@ class ArmChecker:
                 rules.add(21)
         if self.is_bound(node.name):
             rules.add(30)
-        if (node.by_ref or node.mutable) and mode != "move":
-            rules.add(32)
+        if node.by_ref or node.mutable:
+            rules |= self.mode_rules(mode)
         self.refuse(node, rules)
-        bound_mode = ("ref mut" if node.mutable else "ref") if node.by_ref else mode
+        bound_mode = ("ref mut" if node.mutable else "ref") if node.by_ref else "move" if node.mutable else mode
         self.bound.append((node.name, ty, bound_mode, list(self.around)))
         found = self.visit(node.inner, ty, mode) if node.inner else ANY
         return Naming(node.name, bound_mode, None, found) if self.names else found
@@ -286,8 +292,7 @@ class ArmChecker:
         return found
 
     # Literals and ranges.
-    @staticmethod
-    def number_rules(number, ty):
+    def number_rules(self, number, ty):
         """The rules that a literal or an end of a range breaks."""
         if number.kind == "other" or (number.suffix and number.suffix not in INTEGERS):
             return {35}
@@ -295,7 +300,7 @@ class ArmChecker:
             return set() if ty == ("bool",) else {22}
         wanted = {"char": ("char",), "byte": ("int", "u8")}.get(number.kind)
         if wanted is None:
-            wanted = ("int", number.suffix) if number.suffix else ty if ty[0] == "int" else None
+            wanted = self.declarations.integer(number.suffix) if number.suffix else ty if ty[0] == "int" else None
         if ty != wanted:
             return {22}
         inside = number.value is not None and any(low <= number.value <= high for low, high in literals_of(ty))
@@ -306,7 +311,7 @@ class ArmChecker:
         self.refuse(node, self.number_rules(number, ty))
         if number.kind == "flag":
             return Head(("flag", number.value), [])
-        return Head(("range", number.value, number.value), [])
+        return Head(("range", number.value, number.value), [], node.at)
 
     def range(self, node, ty, in_slice):
         rules = set()
@@ -320,7 +325,7 @@ class ArmChecker:
         if in_slice and node.high is None:
             rules.add(33)
         self.refuse(node, rules)
-        return Head(("range",) + self.ends(node, ty), [])
+        return Head(("range",) + self.ends(node, ty), [], node.at)
 
     @staticmethod
     def is_empty_range(node, ty):

@@ -2,12 +2,13 @@
 import json
 import unicodedata
 
-from declarations import Declarations
+from declarations import Declarations, Options
 from enumerating import cross_check
 from fault import Fault
 from judging import Judge
 from lexing import KEYWORDS, lex
 from lowering import Lowering, numbered
+from overlapping import Overlapping
 from parsing import parse
 from patterns import check_match
 from selecting import Selection
@@ -137,13 +138,14 @@ def entry(declarations, number, twice, trees):
     judge = Judge(declarations, match)
     witnesses = judge.witnesses()
     unreachable = judge.unreachable()
+    overlaps = Overlapping(declarations, match).triples()
     if twice is not None:
-        twice.append(cross_check(declarations, number, match, witnesses, unreachable))
+        twice.append(cross_check(declarations, number, match, witnesses, unreachable, overlaps))
     writer = WitnessWriter(declarations)
     found = {
         "exhaustive": not witnesses,
         "name": name,
-        "overlaps": [],
+        "overlaps": [{"at": at, "value": str(value), "with": other} for at, other, value in overlaps],
         "unreachable": [{"arm": arm, "at": at, "whole": whole} for arm, at, whole in unreachable],
         "witnesses": [{"text": writer.text(match.type, it), "tree": writer.tree(match.type, it)} for it in witnesses],
     }
@@ -152,25 +154,25 @@ def entry(declarations, number, twice, trees):
     return found
 
 
-def declared(data):
+def declared(data, options=Options()):
     """The declarations of a file of these bytes; its first fault is raised."""
     if len(data) > GREATEST_FILE:
         raise Fault(7)
-    declarations = Declarations(parse(lex(data)))
+    declarations = Declarations(parse(lex(data)), options)
     fault = declarations.fault()
     if fault is not None:
         raise fault
     return declarations
 
 
-def check(data, twice=None, trees=False):
+def check(data, twice=None, trees=False, options=Options()):
     """What `check` writes for a file of these bytes, and its status; with `trees` what `trees` writes.
 
     Where `twice` is a list, each judgement is made a second way too, and the list gets whether there were few enough
     values for it.
     """
     try:
-        declarations = declared(data)
+        declarations = declared(data, options)
     except Fault as fault:
         return output({"refused": fault.tree()}), REFUSED
     functions = [number for number, item in enumerate(declarations.items) if isinstance(item.kind, s.Function)]
@@ -179,10 +181,10 @@ def check(data, twice=None, trees=False):
     return output({"functions": entries}), status
 
 
-def evaluate(data, name, text, answers):
+def evaluate(data, name, text, answers, options=Options()):
     """What `eval FILE FN VALUE ANSWERS` writes for a file of these bytes, and its status; the answers are truth values."""
     try:
-        declarations = declared(data)
+        declarations = declared(data, options)
         number = function_named(declarations, name)
         match = check_match(declarations, number, True)
         value = Meaning(declarations).of(spelled(text), match.type, match.sure)

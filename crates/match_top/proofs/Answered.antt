@@ -51,6 +51,24 @@ pub judged_short : {E : Type 0} (request : RequestForm) (source : List ℕ) (res
 judged_short request source (Ok a) fits judged = λ bytes same. answers_short request source bytes a.text.items a.status same fits judged
 judged_short request source (Err e) fits judged = tt
 
+-- what is asked of the bytes themselves is answered by the refusal for their length, where they are too many
+pub refused_itself : {E : Type 0} (request : RequestForm) (source : List ℕ) (result : Result Answer E) → longest_source < length source
+    → IfOk result (λ a. IsRefusedBy 7 a.text.items a.status) → IfOk result (λ a. Answers request source a.text.items a.status)
+unfolding Answers
+refused_itself request source (Ok a) over refused =
+    let long : nat_lt longest_source (length source) ≡ true = grind (arith, nat_tests) in
+    subst (λ (b : Bool). MatchBool b (IsRefusedBy 7 a.text.items a.status) (IsJudged request source a.text.items a.status)) (sym long) refused
+refused_itself request source (Err e) over refused = tt
+
+-- and by their judgement, where they are not
+pub judged_itself : {E : Type 0} (request : RequestForm) (source : List ℕ) (result : Result Answer E) → length source ≤ longest_source
+    → IfOk result (λ a. IsJudged request source a.text.items a.status) → IfOk result (λ a. Answers request source a.text.items a.status)
+unfolding Answers
+judged_itself request source (Ok a) fits judged =
+    let not_long : nat_lt longest_source (length source) ≡ false = below longest_source (length source) fits in
+    subst (λ (b : Bool). MatchBool b (IsRefusedBy 7 a.text.items a.status) (IsJudged request source a.text.items a.status)) (sym not_long) judged
+judged_itself request source (Err e) fits judged = tt
+
 -- all is taken of no more bytes than are taken at most
 pub taken_whole : (bytes : List ℕ) → length bytes ≤ most_taken → bytes ≡ taken bytes
 unfolding taken

@@ -5,16 +5,19 @@ use Rattle.std.specs.Prelude.{slice_get, Some}
 use Rattle.std.proofs.Math.ListN.{get_or-map}
 use Rattle.std.proofs.lemmas.List.{length-map, length-take-le, take_more, map-append}
 use Rattle.std.proofs.lemmas.Option.{slice_get_within, get_or_from_slice_get}
-use Rattle.std.proofs.lemmas.List.Sums.{get_or-le-sum_by}
+use Rattle.std.proofs.lemmas.List.Sums.{get_or-le-sum_by, sum_by_push}
 use Rattle.decl_syntax.specs.declared.items.Item.{Item}
 use Rattle.decl_syntax.specs.Items.{ItemTree, item_view, kind_view}
 use Rattle.decl_syntax.specs.Counts.{kind_arms}
+use Rattle.pattern_rules.specs.Settings.{Setting}
 use Rattle.verdict_json.specs.declared.refusal.Refusal.{Refusal}
 use Rattle.verdict_json.specs.Report.{ReportEntry, RefusedFunction}
+use Rattle.verdict_json.specs.Summaries.{IsSummary}
 use Rattle.verdict_json.specs.Writing.{HasEntries}
+use Rattle.verdict_json.specs.declared.summary.Summary.{Summary}
 use Rattle.match_top.specs.declared.reporting.Progress.{Progress}
 use Rattle.match_top.specs.declared.words.Command.{Command}
-use Rattle.match_top.specs.Reports.{NumberedFunction, functions_from, functions_of, function_at, IsEntry, is_clean}
+use Rattle.match_top.specs.Reports.{NumberedFunction, functions_from, functions_of, function_at, arms_of, IsEntry, is_clean}
 use Rattle.match_top.specs.Reporting.{ReportsOn}
 
 zip_push : {A B : Type 0} (R : A → B → Type 0) (xs : List A) (ys : List B) (x : A) (y : B) → AllZip R xs ys → R x y → AllZip R (xs ++ x ∷ []) (ys ++ y ∷ [])
@@ -35,14 +38,21 @@ all_push : (p : ReportEntry → Bool) (xs : List ReportEntry) (x : ReportEntry) 
 all_push p [] x = and_true (p x)
 all_push p (y ∷ ys) x = ap (λ b. p y && b) (all_push p ys x) ∙ sym (and_assoc (p y) (list_all p ys) (p x))
 
+-- the counts of one entry more
+counts_more : (fs : List NumberedFunction) (f : NumberedFunction) (arms : ℕ) (es : List ReportEntry) (counts : Summary) → length f.function.arms ≡ arms
+    → IsSummary (arms_of fs + arms) es counts → IsSummary (arms_of (fs ++ f ∷ [])) es counts
+counts_more fs f arms es counts so_many h =
+    subst (λ (n : ℕ). IsSummary n es counts) (ap (λ (n : ℕ). arms_of fs + n) (sym so_many) ∙ sym (sum_by_push (λ (g : NumberedFunction). length g.function.arms) fs f)) h
+
 -- one entry more
-pub one_more : (command : Command) (items : List ItemTree) (fs : List NumberedFunction) (f : NumberedFunction) (e : ReportEntry) (old new : Progress)
-    → (h : ReportsOn command items fs old) → IsEntry command items f e
-    → HasEntries (h.entries ++ e ∷ []) new.text → new.clean ≡ (old.clean && is_clean e) → ReportsOn command items (fs ++ f ∷ []) new
-one_more command items fs f e old new h is text clean = record {
+pub one_more : (command : Command) (s : Setting) (fs : List NumberedFunction) (f : NumberedFunction) (e : ReportEntry) (old new : Progress) (arms : ℕ)
+    → (h : ReportsOn command s fs old) → IsEntry command s f e → length f.function.arms ≡ arms → IsSummary (arms_of fs + arms) (h.entries ++ e ∷ []) new.counts
+    → HasEntries (h.entries ++ e ∷ []) new.text → new.clean ≡ (old.clean && is_clean e) → ReportsOn command s (fs ++ f ∷ []) new
+one_more command s fs f e old new arms h is so_many counts text clean = record {
   entries = h.entries ++ e ∷ [];
-  each = zip_push (IsEntry command items) fs h.entries f e h.each is;
+  each = zip_push (IsEntry command s) fs h.entries f e h.each is;
   text = text;
+  counts = counts_more fs f arms (h.entries ++ e ∷ []) new.counts so_many counts;
   clean_is = clean ∙ ap (λ b. b && is_clean e) h.clean_is ∙ sym (all_push is_clean h.entries e);
 }
 
@@ -87,9 +97,9 @@ functions_more items i x lt is =
     zero_plus n = omega arith
 
 -- the entries of a front that is one item longer
-pub reports_more : (command : Command) (all : List ItemTree) (items : List Item) (i : ℕ) (x : Item) (p : Progress) → i < length items → x ≡ get_or items i x
-    → ReportsOn command all (functions_of (map item_view (take i items)) ++ function_at i (kind_view x.kind)) p → ReportsOn command all (functions_of (map item_view (take (i + 1) items))) p
-reports_more command all items i x p lt is h = subst (λ fs. ReportsOn command all fs p) (sym (functions_more items i x lt is)) h
+pub reports_more : (command : Command) (s : Setting) (items : List Item) (i : ℕ) (x : Item) (p : Progress) → i < length items → x ≡ get_or items i x
+    → ReportsOn command s (functions_of (map item_view (take i items)) ++ function_at i (kind_view x.kind)) p → ReportsOn command s (functions_of (map item_view (take (i + 1) items))) p
+reports_more command s items i x p lt is h = subst (λ fs. ReportsOn command s fs p) (sym (functions_more items i x lt is)) h
 
 -- the item of a file at this number
 pub there_at : (items : List Item) (i : ℕ) (x : Item) → i < length items → x ≡ get_or items i x → slice_get (map item_view items) i ≡ Some (item_view x)

@@ -7,7 +7,7 @@ use Rattle.decl_syntax.specs.declared.items.Item.{Item}
 use Rattle.match_model.specs.ArenaPatterns.{MDeMatch}
 use Rattle.match_model.specs.Declarations.{MProgram}
 use Rattle.match_model.specs.Select.{Selected, select}
-use Rattle.match_model.specs.Trees.{IsDefinedOn, IsForward, Means, MNode}
+use Rattle.match_model.specs.Trees.{Means, MNode}
 use Rattle.match_model.specs.Types.{MType}
 use Rattle.match_model.specs.Typing.{is_value}
 use Rattle.match_model.specs.Values.{MValue}
@@ -18,7 +18,6 @@ use Rattle.type_table.specs.declared.table.TyId.{TyId}
 use Rattle.type_table.specs.Tables.{table_program, table_type}
 use Rattle.value_text.specs.Reading.{IsReadValue, IsUnreadValue, is_unwritten, is_no_value}
 use Rattle.verdict_json.specs.Outcomes.{outcome_text}
-use Rattle.verdict_json.specs.OutcomeTrees.{OutcomeTree}
 use Rattle.verdict_json.specs.Rules.{IsRule}
 use Rattle.verdict_json.specs.declared.refusal.Refusal.{Refusal}
 use Rattle.match_top.specs.declared.answering.Answer.{Answer}

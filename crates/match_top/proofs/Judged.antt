@@ -4,13 +4,14 @@ use Rattle.decl_lexer.specs.Lexing.{Placed, HasTokens, HasFault}
 use Rattle.decl_syntax.specs.Units.{units}
 use Rattle.decl_syntax.specs.Items.{ItemTree}
 use Rattle.decl_parser.specs.FileGrammar.{IsFile, IsSyntaxFault, IsWideFault}
-use Rattle.match_model.specs.declared.Width.TheVariants.{Endless}
+use Rattle.match_model.specs.declared.Width.{Width}
 use Rattle.type_table.specs.Faults.{Breaks, IsFirstFault}
 use Rattle.type_table.specs.Faults as faults
 use Rattle.verdict_json.specs.Rules.{IsRule}
 use Rattle.match_top.specs.Answers.{IsAnswerToItems, IsAnswerToTokens, IsJudged, IsDone, longest_source}
 use Rattle.match_top.specs.Refusals.{IsRefusedIn, IsRefusedAt}
 use Rattle.match_top.specs.declared.answering.Answer.{Answer}
+use Rattle.match_top.specs.Reports.{setting_of}
 use Rattle.match_top.specs.Words.{RequestForm}
 
 -- a source that does not lex is answered by its first fault
@@ -48,23 +49,23 @@ width_answer request tokens number place (Ok a) f h = inr (inl (record { number 
 width_answer request tokens number place (Err x) f h = tt
 
 -- items of which one breaks a rule are answered by the first fault
-pub declaration_answer : {E : Type 0} (request : RequestForm) (items : List ItemTree) (rule number place : ℕ) (r : Result Answer E) → IsFirstFault items Endless rule number place
+pub declaration_answer : {E : Type 0} (request : RequestForm) (items : List ItemTree) (rule number place : ℕ) (r : Result Answer E) → IsFirstFault items request.options.width rule number place
     → IfOk r (λ a. IsRefusedIn rule (Some number) (Some place) a.text.items a.status) → IfOk r (λ a. IsAnswerToItems request items a.text.items a.status)
 unfolding IsAnswerToItems
 declaration_answer request items rule number place (Ok a) f h = inl (record { rule = rule; number = number; place = place; fault = f; refused = h })
 declaration_answer request items rule number place (Err x) f h = tt
 
 -- others by what is asked
-pub done_answer : {E : Type 0} (request : RequestForm) (items : List ItemTree) (r : Result Answer E) → IfOk r (λ a. IsDone request items a.text.items a.status) → IfOk r (λ a. IsAnswerToItems request items a.text.items a.status)
+pub done_answer : {E : Type 0} (request : RequestForm) (items : List ItemTree) (r : Result Answer E) → IfOk r (λ a. IsDone request.question (setting_of request.options items) a.text.items a.status) → IfOk r (λ a. IsAnswerToItems request items a.text.items a.status)
 unfolding IsAnswerToItems
 done_answer request items (Ok a) h = inr h
 done_answer request items (Err x) h = tt
 
 -- a rule that an item breaks has a name
-pub has_name : (items : List ItemTree) (rule number place : ℕ) → IsFirstFault items Endless rule number place → IsRule rule
-has_name items rule number place f = named number f.broken
+pub has_name : (items : List ItemTree) (width : Width) (rule number place : ℕ) → IsFirstFault items width rule number place → IsRule rule
+has_name items width rule number place f = named number f.broken
   where
-    named : (i : ℕ) → Breaks items Endless i rule → IsRule rule
+    named : (i : ℕ) → Breaks items width i rule → IsRule rule
     named i (faults.name_twice e h) = subst IsRule (sym e) refl
     named i (faults.variant_twice e h) = subst IsRule (sym e) refl
     named i (faults.field_twice e h) = subst IsRule (sym e) refl

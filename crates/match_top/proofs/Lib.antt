@@ -1,4 +1,5 @@
 pub mod Answered
+pub mod DemoNumbers
 pub mod Entries
 pub mod Evaluated
 pub mod Forms

@@ -1,6 +1,7 @@
 -- The match of a function as the engine has it, and what is found of it.
 use Rattle.std.proofs.Common.{◌≡◌, ◌∙◌, ℕ, ◌<◌, List, [], ◌∷◌, map, length, Result, Ok, Err, IfOk, Option, Some, None, refl, sym, ap, subst}
 use Rattle.std.specs.List.{Contains}
+use Rattle.std.specs.Global.{Vec}
 use Rattle.std.specs.Prelude.{option_map}
 use Rattle.std.proofs.lemmas.List.{length-map}
 use Rattle.decl_syntax.specs.Functions.{FunctionTree}
@@ -9,18 +10,22 @@ use Rattle.match_model.specs.ArenaPatterns.{MDeArm, MDeMatch, MDePat, type_of}
 use Rattle.match_model.specs.Declarations.{MProgram}
 use Rattle.match_model.specs.Lists.{Every}
 use Rattle.match_model.specs.Made.{AreArmsMade}
+use Rattle.match_model.specs.ArenaWays.{match_arms, InMatchDomain}
 use Rattle.match_model.specs.MatchTree.{IsMatchTree}
+use Rattle.match_model.specs.Overlaps.{MOverlap, IsOverlapList}
 use Rattle.match_model.specs.Trees.{MNode}
 use Rattle.match_model.specs.Types.{MType}
 use Rattle.match_model.specs.Unreachable.{Entry}
 use Rattle.pattern_arena.specs.declared.matches.CheckedMatch.{CheckedMatch}
 use Rattle.pattern_arena.specs.Trees.{plain_arm, plain_match}
 use Rattle.pattern_elaboration.specs.Arms.{IsMatchMade}
+use Rattle.overlap_laws.specs.Laws.{OverlapsOfTableMatch}
 use Rattle.pattern_laws.proofs.ParsedSound.{every_of}
 use Rattle.pattern_laws.specs.JudgedLaws.{by_offset}
 use Rattle.pattern_laws.specs.ParsedLaws.{ParsedArmsAreSound}
 use Rattle.pattern_laws.specs.TableLaws.{JudgedTableMatch}
 use Rattle.pattern_laws.specs.TreeLaws.{IsTreeOn, TreeOfTableMatch}
+use Rattle.pattern_lints.specs.Views.{plain_overlaps}
 use Rattle.pattern_matrix.specs.SearchLaws.{IsJudged}
 use Rattle.pattern_rules.specs.ArenaForms.{all_within}
 use Rattle.pattern_rules.specs.Faults.{scrutinee_type}
@@ -33,6 +38,7 @@ use Rattle.type_table.specs.TableContext.{TableValue, table_context}
 use Rattle.type_table.specs.Tables.{IsOf, table_program, table_type}
 use Rattle.type_table.specs.declared.table.TyId.{TyId}
 use Rattle.verdict_json.specs.Report.{ReportEntry, JudgedFunction}
+use Rattle.verdict_json.specs.Trees.{overlap_view}
 use Rattle.verdict_json.specs.declared.entry.Unreachable.{Unreachable}
 use Rattle.witness_names.specs.Named.{named_witness}
 use Rattle.witness_names.specs.NamedTrees.{named_node}
@@ -40,12 +46,13 @@ use Rattle.witness_search.specs.Entries.{plain_entries}
 use Rattle.witness_text.specs.Trees.{WitnessTree}
 use Rattle.witnesses.specs.Views.{plain_witness}
 use Rattle.witnesses.specs.declared.judgement.Judgement.{Judgement}
+use Rattle.witnesses.specs.declared.judgement.Overlap.{Overlap}
 use Rattle.witnesses.specs.declared.witness.Witness.{Witness}
 use Rattle.match_top.specs.declared.source.Source.{Source}
 use Rattle.match_top.specs.declared.words.Command.{Command}
 use Rattle.match_top.specs.declared.words.Command.TheVariants.{Check, Trees}
 use Rattle.match_top.specs.Reports.{numbered, shown_entry, named_tree, IsShownTree, IsEntry, is_judged}
-use Rattle.match_top.specs.Reporting.{items_in, setting_in, IsFineFunction, IsMatchOf, IsVerdictFor, IsTreeFor, IsFoundOn}
+use Rattle.match_top.specs.Reporting.{items_in, setting_in, IsFineFunction, IsMatchOf, IsVerdictFor, AreOverlapsFor, IsTreeFor, IsFoundOn}
 use Rattle.match_top.proofs.Entries.{contains_at}
 
 -- each arm of a function that breaks no rule is sound
@@ -82,6 +89,13 @@ pub verdict_of : {E : Type 0} → JudgedTableMatch → (x : Source) (f : Functio
 verdict_of law x f m (Ok j) h judged =
     law x.table.now (setting_in x) f m j.exhaustive (plain_entries j.unreachable.items) (map plain_witness j.witnesses.items) h judged
 verdict_of law x f m (Err e) h judged = tt
+
+-- the overlaps of the match are those of the function
+pub overlaps_for : {E : Type 0} → OverlapsOfTableMatch → (x : Source) (f : FunctionTree) (m : MDeMatch TyId) (r : Result (Vec Overlap) E) → IsMatchOf x f m
+    → IfOk r (λ v. IsOverlapList (InMatchDomain (TableValue x.table.now) m) (match_arms m) (plain_overlaps v.items))
+    → IfOk r (λ v. AreOverlapsFor x f v.items)
+overlaps_for law x f m (Ok v) h found = law x.table.now (setting_in x) f m (plain_overlaps v.items) h found
+overlaps_for law x f m (Err e) h found = tt
 
 -- an entry is shown without its number
 shown_by_offset : (es : List Entry) → map shown_entry es ≡ map shown_entry (map by_offset es)
@@ -124,14 +138,14 @@ shown_tree Trees x f ty made tree program_is type_is is named = (
 )
 
 -- a report on a function that shows what was found of it is its entry
-pub judged_entry : (command : Command) (x : Source) (number : ℕ) (f : FunctionTree) (ty : TyId) (j : Judgement) (made : Option Tree)
+pub judged_entry : (command : Command) (x : Source) (number : ℕ) (f : FunctionTree) (ty : TyId) (j : Judgement) (overlaps : List Overlap) (made : Option Tree)
     (name : List ℕ) (tree : Option (List NodeTree)) (us : List Unreachable) (vs : List WitnessTree)
-    → IsFoundOn command x number f ty j made → name ≡ f.name → tree ≡ table_named x ty made
+    → IsFoundOn command x number f ty j overlaps made → name ≡ f.name → tree ≡ table_named x ty made
     → us ≡ map shown_entry (plain_entries j.unreachable.items)
     → vs ≡ map (λ (w : Witness). named_witness (table_program x.table.now) (table_type x.table.now ty) (plain_witness w)) j.witnesses.items
-    → IsEntry command (items_in x) (numbered number f)
-    (JudgedFunction (record { name = name; exhaustive = j.exhaustive; tree = tree; unreachable = us; witnesses = vs }))
-judged_entry command x number f ty j made name tree us vs found name_is tree_named unreachable witnesses =
+    → IsEntry command (setting_in x) (numbered number f)
+    (JudgedFunction (record { name = name; exhaustive = j.exhaustive; overlaps = map overlap_view overlaps; tree = tree; unreachable = us; witnesses = vs }))
+judged_entry command x number f ty j overlaps made name tree us vs found name_is tree_named unreachable witnesses =
     let s = setting_in x in
     let es = plain_entries j.unreachable.items in
     let ws = map plain_witness j.witnesses.items in
@@ -142,13 +156,15 @@ judged_entry command x number f ty j made name tree us vs found name_is tree_nam
     ∙ ap (λ (p : MProgram). map (named_witness p (table_type x.table.now ty)) ws) program_is
     ∙ ap (λ (t : MType). map (named_witness (program s) t) ws) found.type_is in
     let entry : List ℕ → List Unreachable → List WitnessTree → ReportEntry =
-    λ n es vs. JudgedFunction (record { name = n; exhaustive = j.exhaustive; tree = tree; unreachable = es; witnesses = vs }) in
+    λ n es vs. JudgedFunction (record { name = n; exhaustive = j.exhaustive; overlaps = map overlap_view overlaps; tree = tree; unreachable = es; witnesses = vs }) in
     is_judged (record {
       fine = found.fine.fine;
       exhaustive = j.exhaustive;
       unreachable = map by_offset es;
       witnesses = ws;
       verdict = found.verdict;
+      overlaps = map overlap_view overlaps;
+      overlaps_are = found.overlaps_are;
       tree = tree;
       tree_is = shown_tree command x f ty made tree program_is found.type_is found.tree_is tree_named;
       shows =

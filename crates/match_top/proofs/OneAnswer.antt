@@ -8,28 +8,32 @@ use Rattle.decl_syntax.specs.Items.{ItemTree}
 use Rattle.decl_syntax.specs.Units.{units}
 use Rattle.decl_parser.specs.FileGrammar.{OneFile, FileOrFault}
 use Rattle.decl_parser.specs.FileGrammar as parser
-use Rattle.match_model.specs.declared.Width.TheVariants.{Endless}
+use Rattle.match_model.specs.declared.Width.{Width}
 use Rattle.type_table.specs.Faults.{BreaksNone, IsFirstFault}
 use Rattle.match_model.specs.Unreachable.{Entry}
 use Rattle.match_model.specs.Witness.{MWitness}
+use Rattle.overlap_laws.specs.Laws.{OverlapListOnIsOne}
 use Rattle.pattern_laws.specs.JudgedLaws.{VerdictIsOne}
 use Rattle.pattern_laws.specs.TreeLaws.{TreeOnIsOne}
 use Rattle.pattern_rules.specs.FirstFault.{PatternFault, AnswerIsOne}
 use Rattle.pattern_rules.specs.Settings.{Setting}
 use Rattle.decl_syntax.specs.Functions.{FunctionTree}
+use Rattle.match_model.specs.Overlaps.{MOverlap}
 use Rattle.match_model.specs.Trees.{MNode}
 use Rattle.tree_text.specs.Trees.{NodeTree}
 use Rattle.value_syntax.specs.Laws.{OneWritten}
 use Rattle.verdict_json.specs.Report.{ReportEntry, JudgedFunction, RefusedFunction, report_text}
+use Rattle.verdict_json.specs.Summaries.{IsSummary, summary_text}
+use Rattle.verdict_json.specs.declared.summary.Summary.{Summary}
 use Rattle.match_top.specs.declared.statuses.Status.{Status}
 use Rattle.match_top.specs.declared.words.Command.{Command}
 use Rattle.match_top.specs.declared.words.Command.TheVariants.{Check, Trees}
 use Rattle.match_top.specs.Answers.{Answers, IsJudged, IsAnswerToTokens, IsAnswerToItems, IsDone, longest_source}
 use Rattle.match_top.specs.Refusals.{IsRefusedIn, IsRefusedAt, IsRefusedBy}
-use Rattle.match_top.specs.Words.{RequestForm, ReportForm, OutcomeForm}
+use Rattle.match_top.specs.Words.{QuestionForm, RequestForm, ReportForm, OutcomeForm, CountsForm}
 use Rattle.match_top.proofs.OneOutcome.{Same, evaluated_same}
 use Rattle.match_top.specs.Reports.{NumberedFunction, setting_of, refusal_of, named_tree, IsShownTree, report_of, IsJudgedFunction, IsRefusedFunction}
-use Rattle.match_top.specs.Reports.{IsEntry, is_refused, is_judged, is_clean, IsReported, status_of}
+use Rattle.match_top.specs.Reports.{IsEntry, is_refused, is_judged, is_clean, IsReported, IsCounted, arms_of, functions_of, status_of}
 use Rattle.match_top.specs.Laws.{OneFirstFault}
 
 -- a refusal tells the text and the status
@@ -57,19 +61,42 @@ some_is_none : {A : Type 0} (x : A) → Some x ≡ None → ⊥
 some_is_none x e = cc
 
 -- two first faults of one item are one
-fault_at : (items : List ItemTree) (i rule at other elsewhere : ℕ) → IsFirstFault items Endless rule i at → IsFirstFault items Endless other i elsewhere
+fault_at : (items : List ItemTree) (width : Width) (i rule at other elsewhere : ℕ) → IsFirstFault items width rule i at → IsFirstFault items width other i elsewhere
     → (rule ≡ other) × (at ≡ elsewhere)
-fault_at items i rule at other elsewhere f g = (
+fault_at items width i rule at other elsewhere f g = (
   one_number rule other (λ lt. g.least rule lt f.broken) (λ lt. f.least other lt g.broken),
   sym f.place ∙ ap (λ (item : ItemTree). item.from) (some_is _ _ (sym f.there ∙ g.there)) ∙ g.place,
 )
 
 pub one_first_fault : OneFirstFault
-one_first_fault items rule i at other j elsewhere f g =
+one_first_fault items width rule i at other j elsewhere f g =
     let same : j ≡ i = one_number j i (λ lt. f.first j other lt g.broken) (λ lt. g.first i rule lt f.broken) in
-    let there : IsFirstFault items Endless other i elsewhere = subst (λ (k : ℕ). IsFirstFault items Endless other k elsewhere) same g in
-    let both = fault_at items i rule at other elsewhere f there in
+    let there : IsFirstFault items width other i elsewhere = subst (λ (k : ℕ). IsFirstFault items width other k elsewhere) same g in
+    let both = fault_at items width i rule at other elsewhere f there in
     (both.0, sym same, both.1)
+
+-- ---- the counts
+
+-- a summary of these counts
+abbrev made : (arms exhaustive functions overlaps unreachable witnesses : ℕ) → Summary
+made arms exhaustive functions overlaps unreachable witnesses = record {
+  arms = arms;
+  exhaustive = exhaustive;
+  functions = functions;
+  overlaps = overlaps;
+  unreachable = unreachable;
+  witnesses = witnesses;
+}
+
+-- entries have one summary
+summary_same : (arms : ℕ) (es : List ReportEntry) (x y : Summary) → IsSummary arms es x → IsSummary arms es y → x ≡ y
+summary_same arms es x y a b =
+    ap (λ (n : ℕ). made n x.exhaustive x.functions x.overlaps x.unreachable x.witnesses) (a.arms_are ∙ sym b.arms_are)
+    ∙ ap (λ (n : ℕ). made y.arms n x.functions x.overlaps x.unreachable x.witnesses) (a.exhaustive_are ∙ sym b.exhaustive_are)
+    ∙ ap (λ (n : ℕ). made y.arms y.exhaustive n x.overlaps x.unreachable x.witnesses) (a.functions_are ∙ sym b.functions_are)
+    ∙ ap (λ (n : ℕ). made y.arms y.exhaustive y.functions n x.unreachable x.witnesses) (a.overlaps_are ∙ sym b.overlaps_are)
+    ∙ ap (λ (n : ℕ). made y.arms y.exhaustive y.functions y.overlaps n x.witnesses) (a.unreachable_are ∙ sym b.unreachable_are)
+    ∙ ap (λ (n : ℕ). made y.arms y.exhaustive y.functions y.overlaps y.unreachable n) (a.witnesses_are ∙ sym b.witnesses_are)
 
 -- ---- the entries
 
@@ -78,7 +105,7 @@ abbrev refused : NumberedFunction → PatternFault → ReportEntry
 refused f x = RefusedFunction f.function.name (refusal_of f.number x.rule x.arm x.at)
 
 -- what the laws of rules and of verdicts tell of entries
-module _ (answer_is_one : AnswerIsOne) (one_verdict : VerdictIsOne) (one_tree : TreeOnIsOne) (command : Command) where
+module _ (answer_is_one : AnswerIsOne) (one_verdict : VerdictIsOne) (one_list : OverlapListOnIsOne) (one_tree : TreeOnIsOne) (command : Command) where
   both_refused : (s : Setting) (f : NumberedFunction) (e d : ReportEntry) → IsRefusedFunction s f.number f.function e → IsRefusedFunction s f.number f.function d
       → e ≡ d
   both_refused s f e d a b =
@@ -102,57 +129,69 @@ module _ (answer_is_one : AnswerIsOne) (one_verdict : VerdictIsOne) (one_tree : 
   both_judged s f e d a b =
       let v = one_verdict s f.function a.exhaustive b.exhaustive a.unreachable b.unreachable a.witnesses b.witnesses a.verdict b.verdict in
       a.shows
-      ∙ ap (λ (x : Bool). JudgedFunction (report_of s f.function x a.tree a.unreachable a.witnesses)) v.0
-      ∙ ap (λ (us : List Entry). JudgedFunction (report_of s f.function b.exhaustive a.tree us a.witnesses)) v.1
-      ∙ ap (λ (ws : List MWitness). JudgedFunction (report_of s f.function b.exhaustive a.tree b.unreachable ws)) v.2
-      ∙ ap (λ (t : Option (List NodeTree)). JudgedFunction (report_of s f.function b.exhaustive t b.unreachable b.witnesses))
+      ∙ ap (λ (x : Bool). JudgedFunction (report_of s f.function x a.overlaps a.tree a.unreachable a.witnesses)) v.0
+      ∙ ap (λ (us : List Entry). JudgedFunction (report_of s f.function b.exhaustive a.overlaps a.tree us a.witnesses)) v.1
+      ∙ ap (λ (ws : List MWitness). JudgedFunction (report_of s f.function b.exhaustive a.overlaps a.tree b.unreachable ws)) v.2
+      ∙ ap (λ (os : List MOverlap). JudgedFunction (report_of s f.function b.exhaustive os a.tree b.unreachable b.witnesses))
+      (one_list s f.function a.overlaps b.overlaps a.overlaps_are b.overlaps_are)
+      ∙ ap (λ (t : Option (List NodeTree)). JudgedFunction (report_of s f.function b.exhaustive b.overlaps t b.unreachable b.witnesses))
       (tree_same command s f.function a.tree b.tree a.tree_is b.tree_is)
       ∙ sym b.shows
 
-  pub one_entry_of : (items : List ItemTree) (f : NumberedFunction) (e d : ReportEntry) → IsEntry command items f e → IsEntry command items f d → e ≡ d
-  one_entry_of items f e d (is_refused a) (is_refused b) = both_refused (setting_of items) f e d a b
-  one_entry_of items f e d (is_refused a) (is_judged b) = absurd (not_both (setting_of items) f e d a b)
-  one_entry_of items f e d (is_judged a) (is_refused b) = absurd (not_both (setting_of items) f d e b a)
-  one_entry_of items f e d (is_judged a) (is_judged b) = both_judged (setting_of items) f e d a b
+  pub one_entry_of : (s : Setting) (f : NumberedFunction) (e d : ReportEntry) → IsEntry command s f e → IsEntry command s f d → e ≡ d
+  one_entry_of s f e d (is_refused a) (is_refused b) = both_refused s f e d a b
+  one_entry_of s f e d (is_refused a) (is_judged b) = absurd (not_both s f e d a b)
+  one_entry_of s f e d (is_judged a) (is_refused b) = absurd (not_both s f d e b a)
+  one_entry_of s f e d (is_judged a) (is_judged b) = both_judged s f e d a b
 
-  same_entries : (items : List ItemTree) (fs : List NumberedFunction) (es ds : List ReportEntry) → AllZip (IsEntry command items) fs es → AllZip (IsEntry command items) fs ds
+  same_entries : (s : Setting) (fs : List NumberedFunction) (es ds : List ReportEntry) → AllZip (IsEntry command s) fs es → AllZip (IsEntry command s) fs ds
       → es ≡ ds
-  same_entries items [] [] [] a b = refl
-  same_entries items [] [] (d ∷ ds) a b = absurd b
-  same_entries items [] (e ∷ es) ds a b = absurd a
-  same_entries items (f ∷ fs) [] ds a b = absurd a
-  same_entries items (f ∷ fs) (e ∷ es) [] a b = absurd b
-  same_entries items (f ∷ fs) (e ∷ es) (d ∷ ds) a b =
-      ap (λ (x : ReportEntry). x ∷ es) (one_entry_of items f e d a.0 b.0) ∙ ap (λ (xs : List ReportEntry). d ∷ xs) (same_entries items fs es ds a.1 b.1)
+  same_entries s [] [] [] a b = refl
+  same_entries s [] [] (d ∷ ds) a b = absurd b
+  same_entries s [] (e ∷ es) ds a b = absurd a
+  same_entries s (f ∷ fs) [] ds a b = absurd a
+  same_entries s (f ∷ fs) (e ∷ es) [] a b = absurd b
+  same_entries s (f ∷ fs) (e ∷ es) (d ∷ ds) a b =
+      ap (λ (x : ReportEntry). x ∷ es) (one_entry_of s f e d a.0 b.0) ∙ ap (λ (xs : List ReportEntry). d ∷ xs) (same_entries s fs es ds a.1 b.1)
 
-  pub reported_same : (items : List ItemTree) (t u : List ℕ) (s r : Status) → IsReported command items t s → IsReported command items u r → Same t u s r
-  reported_same items t u s r a b =
-      let same : a.entries ≡ b.entries = same_entries items _ a.entries b.entries a.each b.each in
+  pub reported_same : (setting : Setting) (t u : List ℕ) (s r : Status) → IsReported command setting t s → IsReported command setting u r → Same t u s r
+  reported_same setting t u s r a b =
+      let same : a.entries ≡ b.entries = same_entries setting _ a.entries b.entries a.each b.each in
       (a.text_is ∙ ap report_text same ∙ sym b.text_is, a.status_is ∙ ap (λ (es : List ReportEntry). status_of (list_all is_clean es)) same ∙ sym b.status_is)
+
+  pub counted_same : (setting : Setting) (t u : List ℕ) (s r : Status) → IsCounted command setting t s → IsCounted command setting u r → Same t u s r
+  counted_same setting t u s r a b =
+      let same : a.entries ≡ b.entries = same_entries setting _ a.entries b.entries a.each b.each in
+      let there : IsSummary (arms_of (functions_of setting.items)) a.entries b.counts =
+      subst (λ (es : List ReportEntry). IsSummary (arms_of (functions_of setting.items)) es b.counts) (sym same) b.counts_are in
+      let counts : a.counts ≡ b.counts = summary_same (arms_of (functions_of setting.items)) a.entries a.counts b.counts a.counts_are there in
+      (a.text_is ∙ ap summary_text counts ∙ sym b.text_is, a.status_is ∙ ap (λ (es : List ReportEntry). status_of (list_all is_clean es)) same ∙ sym b.status_is)
 
 -- ---- the answer
 
 -- where what is asked is answered no item breaks a rule on declarations
-done_unbroken : (request : RequestForm) (items : List ItemTree) (t : List ℕ) (s : Status) → IsDone request items t s → BreaksNone items Endless
-done_unbroken (ReportForm command) items t s h = h.unbroken
-done_unbroken (OutcomeForm e) items t s h = h.0
+done_unbroken : (question : QuestionForm) (setting : Setting) (t : List ℕ) (s : Status) → IsDone question setting t s → BreaksNone setting.items setting.width
+done_unbroken (ReportForm command) setting t s h = h.unbroken
+done_unbroken (OutcomeForm e) setting t s h = h.0
+done_unbroken CountsForm setting t s h = h.unbroken
 
 -- what all these laws tell of answers
-module _ (answer_is_one : AnswerIsOne) (one_verdict : VerdictIsOne) (one_tree : TreeOnIsOne) (one_written : OneWritten) (request : RequestForm) where
-  done_same : (r : RequestForm) (items : List ItemTree) (t u : List ℕ) (x y : Status) → IsDone r items t x → IsDone r items u y → Same t u x y
-  done_same (ReportForm command) items t u x y a b = reported_same answer_is_one one_verdict one_tree command items t u x y a b
-  done_same (OutcomeForm e) items t u x y a b = evaluated_same one_written answer_is_one e items t u x y a.1 b.1
+module _ (answer_is_one : AnswerIsOne) (one_verdict : VerdictIsOne) (one_list : OverlapListOnIsOne) (one_tree : TreeOnIsOne) (one_written : OneWritten) (request : RequestForm) where
+  done_same : (question : QuestionForm) (s : Setting) (t u : List ℕ) (x y : Status) → IsDone question s t x → IsDone question s u y → Same t u x y
+  done_same (ReportForm command) s t u x y a b = reported_same answer_is_one one_verdict one_list one_tree command s t u x y a b
+  done_same (OutcomeForm e) s t u x y a b = evaluated_same one_written answer_is_one e s t u x y a.1 b.1
+  done_same CountsForm s t u x y a b = counted_same answer_is_one one_verdict one_list one_tree Check s t u x y a b
 
   items_same : (items : List ItemTree) (t u : List ℕ) (s r : Status) → IsAnswerToItems request items t s → IsAnswerToItems request items u r → Same t u s r
   unfolding IsAnswerToItems
   items_same items t u s r (inl a) (inl b) =
-      let same = one_first_fault items a.rule a.number a.place b.rule b.number b.place a.fault b.fault in
+      let same = one_first_fault items request.options.width a.rule a.number a.place b.rule b.number b.place a.fault b.fault in
       let there : IsRefusedIn a.rule (Some b.number) (Some b.place) u r =
       subst (λ (k : ℕ). IsRefusedIn k (Some b.number) (Some b.place) u r) (sym same.0) b.refused in
       refused_same a.rule a.number a.place b.number b.place t u s r same.1 same.2 a.refused there
-  items_same items t u s r (inl a) (inr b) = absurd (done_unbroken request items u r b a.number a.rule a.fault.broken)
-  items_same items t u s r (inr a) (inl b) = absurd (done_unbroken request items t s a b.number b.rule b.fault.broken)
-  items_same items t u s r (inr a) (inr b) = done_same request items t u s r a b
+  items_same items t u s r (inl a) (inr b) = absurd (done_unbroken request.question (setting_of request.options items) u r b a.number a.rule a.fault.broken)
+  items_same items t u s r (inr a) (inl b) = absurd (done_unbroken request.question (setting_of request.options items) t s a b.number b.rule b.fault.broken)
+  items_same items t u s r (inr a) (inr b) = done_same request.question (setting_of request.options items) t u s r a b
 
   -- what the laws of the grammar tell of answers to tokens
   module _ (one_file : OneFile) (one_fault : parser.OneFault) (file_or_fault : FileOrFault) where

@@ -3,9 +3,8 @@ use Rattle.std.proofs.Common.{◌≡◌, ◌∙◌, ℕ, Bool, List, Option, Som
 use Rattle.match_model.specs.Declarations.{MProgram}
 use Rattle.match_model.specs.Types.{MType}
 use Rattle.match_model.specs.Values.{MValue}
-use Rattle.match_model.specs.Select.{Selected, select}
+use Rattle.match_model.specs.Select.{select}
 use Rattle.decl_syntax.specs.Functions.{FunctionTree}
-use Rattle.decl_syntax.specs.Items.{ItemTree}
 use Rattle.pattern_rules.specs.Faults.{BreaksNone}
 use Rattle.pattern_rules.specs.FirstFault.{PatternFault, AnswerIsOne}
 use Rattle.pattern_rules.specs.Settings.{Setting}
@@ -17,8 +16,8 @@ use Rattle.value_text.specs.Reading.{IsReadValue, IsUnreadValue, is_unwritten, i
 use Rattle.verdict_json.specs.Outcomes.{outcome_text}
 use Rattle.verdict_json.specs.Refused.{refusal_text}
 use Rattle.match_top.specs.declared.statuses.Status.{Status}
-use Rattle.match_top.specs.Refusals.{IsRefusal, IsRefusedBy}
-use Rattle.match_top.specs.Reports.{NumberedFunction, functions_of, setting_of, refusal_of}
+use Rattle.match_top.specs.Refusals.{IsRefusedBy}
+use Rattle.match_top.specs.Reports.{NumberedFunction, functions_of, refusal_of}
 use Rattle.match_top.specs.Outcomes.{function_named, meant_name, shown_outcome, status_of_outcome, IsRefusedRule, IsRefusedValue, IsSelected, IsEvaluatedOf, of_broken_rule, of_no_value, of_value, IsEvaluatedBy, IsEvaluated}
 use Rattle.match_top.specs.Words.{EvaluationForm}
 
@@ -114,7 +113,7 @@ module _ (one_written : OneWritten) where
     of_found_same s (Some f) e t u x y a b = of_function_same s f e t u x y a b
 
     -- what is told for a function, a value and answers is one thing
-    pub evaluated_same : (e : EvaluationForm) (items : List ItemTree) (t u : List ℕ) (x y : Status) → IsEvaluated e items t x → IsEvaluated e items u y
+    pub evaluated_same : (e : EvaluationForm) (s : Setting) (t u : List ℕ) (x y : Status) → IsEvaluated e s t x → IsEvaluated e s u y
         → Same t u x y
-    evaluated_same e items t u x y a b =
-        of_found_same (setting_of items) (function_named (functions_of items) (meant_name e.function)) e t u x y a b
+    evaluated_same e s t u x y a b =
+        of_found_same s (function_named (functions_of s.items) (meant_name e.function)) e t u x y a b

@@ -7,17 +7,18 @@ use Rattle.decl_parser.specs.FileGrammar.{IsFile}
 use Rattle.decl_syntax.specs.Functions.{FunctionTree}
 use Rattle.decl_syntax.specs.Items.{ArmTree, ItemTree, KindTree, Enum, Struct, Import, Function}
 use Rattle.decl_syntax.specs.Units.{units}
-use Rattle.match_model.specs.declared.Width.TheVariants.{Endless}
+use Rattle.overlap_laws.specs.Laws.{SomeOverlaps}
 use Rattle.pattern_laws.specs.JudgedLaws.{SomeVerdict}
 use Rattle.pattern_laws.specs.ParsedLaws.{FilesAreSound, ParsedFunctionsAreSpelled}
 use Rattle.pattern_laws.specs.TableLaws.{IsSoundFile}
 use Rattle.pattern_rules.specs.Faults.{function_of}
 use Rattle.pattern_rules.specs.FirstFault.{PatternFault, first_fault, IsAnswer, WalkTells}
+use Rattle.pattern_rules.specs.Settings.{Setting}
 use Rattle.pattern_rules.specs.ShownMatches.{IsSoundArm}
 use Rattle.type_table.specs.Faults.{BreaksNone}
 use Rattle.verdict_json.specs.Report.{ReportEntry, JudgedFunction, RefusedFunction, report_text}
 use Rattle.match_top.specs.Reports.{NumberedFunction, numbered, function_at, functions_from, functions_of}
-use Rattle.match_top.specs.Reports.{setting_of, refusal_of, report_of, IsEntry, is_refused, is_judged, is_clean, status_of}
+use Rattle.match_top.specs.Reports.{refusal_of, report_of, IsEntry, is_refused, is_judged, is_clean, status_of}
 use Rattle.match_top.specs.declared.words.Command.TheVariants.{Check}
 use Rattle.match_top.specs.Reporting.{StandsAt}
 use Rattle.match_top.proofs.Entries.{contains_at}
@@ -52,20 +53,20 @@ stands_behind n (x ∷ items) k f there = by (λ j later. stands_behind (n + 1) 
         (suc later.0, omega arith, record { item = later.2.item; there = later.2.there; is = later.2.is })
 
 -- what the laws of rules, of spelled functions, of sound files and of verdicts tell of entries
-module _ (walk_tells : WalkTells) (spelled_functions : ParsedFunctionsAreSpelled) (sound_files : FilesAreSound) (some_verdict : SomeVerdict) where
+module _ (walk_tells : WalkTells) (spelled_functions : ParsedFunctionsAreSpelled) (sound_files : FilesAreSound) (some_verdict : SomeVerdict) (some_overlaps : SomeOverlaps) where
   -- the entry by what the walk tells
-  entry_by : (source : List ℕ) (tokens : List Placed) (items : List ItemTree) (i : ℕ) (f : NumberedFunction) → HasTokens source tokens
-      → IsFile (units tokens) items → IsSoundFile (setting_of items) → StandsAt items i f.function
-      → (answer : Option PatternFault) → IsAnswer (setting_of items) f.function answer → (e : ReportEntry) × IsEntry Check items f e
-  entry_by source tokens items i f lexed spelled sound at (Some x) fault = (
+  entry_by : (source : List ℕ) (tokens : List Placed) (s : Setting) (i : ℕ) (f : NumberedFunction) → HasTokens source tokens
+      → IsFile (units tokens) s.items → IsSoundFile s → StandsAt s.items i f.function
+      → (answer : Option PatternFault) → IsAnswer s f.function answer → (e : ReportEntry) × IsEntry Check s f e
+  entry_by source tokens s i f lexed spelled sound at (Some x) fault = (
     RefusedFunction f.function.name (refusal_of f.number x.rule x.arm x.at),
     is_refused (record { rule = x.rule; arm = x.arm; at = x.at; fault = fault; tells = refl }),
   )
-  entry_by source tokens items i f lexed spelled sound at None fine =
-      let among : Contains items at.item = contains_at items i at.item at.there in
-      let parsed = spelled_functions source tokens items at.item f.function lexed spelled among at.is in
+  entry_by source tokens s i f lexed spelled sound at None fine =
+      let among : Contains s.items at.item = contains_at s.items i at.item at.there in
+      let parsed = spelled_functions source tokens s.items at.item f.function lexed spelled among at.is in
       let type_is = sound.scrutinee at.item f.function among at.is fine in
-      let arms : (a : ArmTree) → Contains f.function.arms a → IsSoundArm (setting_of items) f.function a = λ a here. record {
+      let arms : (a : ArmTree) → Contains f.function.arms a → IsSoundArm s f.function a = λ a here. record {
         sound = sound.sound;
         type_is = type_is;
         fine = fine;
@@ -73,31 +74,32 @@ module _ (walk_tells : WalkTells) (spelled_functions : ParsedFunctionsAreSpelled
         spelled = parsed.spelled a here;
         ascend = parsed.ascend a here;
       } in
-      let v = some_verdict (setting_of items) f.function sound.sound type_is arms in (
-        JudgedFunction (report_of (setting_of items) f.function v.0 None v.1 v.2),
-        is_judged (record { fine = fine; exhaustive = v.0; unreachable = v.1; witnesses = v.2; verdict = v.3; tree = None; tree_is = refl; shows = refl }),
+      let v = some_verdict s f.function sound.sound type_is arms in
+      let os = some_overlaps s f.function sound.sound type_is arms in (
+        JudgedFunction (report_of s f.function v.0 os.0 None v.1 v.2),
+        is_judged (record { fine = fine; exhaustive = v.0; unreachable = v.1; witnesses = v.2; verdict = v.3; overlaps = os.0; overlaps_are = os.1; tree = None; tree_is = refl; shows = refl }),
       )
 
   pub some_entry_of : SomeEntry
-  some_entry_of source tokens items k f lexed spelled unbroken there =
-      let at = stands_behind 0 items k f there in
-      let sound : IsSoundFile (setting_of items) = sound_files (units tokens) (setting_of items) spelled unbroken in
-      entry_by source tokens items at.0 f lexed spelled sound at.2 (first_fault (setting_of items) f.function) (walk_tells (setting_of items) f.function)
+  some_entry_of source tokens s k f lexed spelled unbroken there =
+      let at = stands_behind 0 s.items k f there in
+      let sound : IsSoundFile s = sound_files (units tokens) s spelled unbroken in
+      entry_by source tokens s at.0 f lexed spelled sound at.2 (first_fault s f.function) (walk_tells s f.function)
 
-  all_entries : (source : List ℕ) (tokens : List Placed) (items : List ItemTree) (fs : List NumberedFunction) → HasTokens source tokens
-      → IsFile (units tokens) items → BreaksNone items Endless
-      → ((k : ℕ) (f : NumberedFunction) → slice_get fs k ≡ Some f → (j : ℕ) × (slice_get (functions_of items) j ≡ Some f))
-      → (es : List ReportEntry) × AllZip (IsEntry Check items) fs es
-  all_entries source tokens items [] lexed spelled unbroken among = ([], tt)
-  all_entries source tokens items (f ∷ fs) lexed spelled unbroken among =
+  all_entries : (source : List ℕ) (tokens : List Placed) (s : Setting) (fs : List NumberedFunction) → HasTokens source tokens
+      → IsFile (units tokens) s.items → BreaksNone s.items s.width
+      → ((k : ℕ) (f : NumberedFunction) → slice_get fs k ≡ Some f → (j : ℕ) × (slice_get (functions_of s.items) j ≡ Some f))
+      → (es : List ReportEntry) × AllZip (IsEntry Check s) fs es
+  all_entries source tokens s [] lexed spelled unbroken among = ([], tt)
+  all_entries source tokens s (f ∷ fs) lexed spelled unbroken among =
       let here = among 0 f refl in
-      let e = some_entry_of source tokens items here.0 f lexed spelled unbroken here.1 in
-      let es = all_entries source tokens items fs lexed spelled unbroken (λ k g there. among (suc k) g there) in
+      let e = some_entry_of source tokens s here.0 f lexed spelled unbroken here.1 in
+      let es = all_entries source tokens s fs lexed spelled unbroken (λ k g there. among (suc k) g there) in
       (e.0 ∷ es.0, (e.1, es.1))
 
   pub some_report_of : SomeReport
-  some_report_of source tokens items lexed spelled unbroken =
-      let es = all_entries source tokens items (functions_of items) lexed spelled unbroken (λ k f there. (k, there)) in
+  some_report_of source tokens s lexed spelled unbroken =
+      let es = all_entries source tokens s (functions_of s.items) lexed spelled unbroken (λ k f there. (k, there)) in
       (report_text es.0, status_of (list_all is_clean es.0), record { unbroken = unbroken; entries = es.0; each = es.1; text_is = refl; status_is = refl })
 
 -- the functions of the items behind one stand behind its own

@@ -24,12 +24,12 @@ use Rattle.pattern_rules.specs.ShownMatches.{elaborated_arm}
 use Rattle.type_table.specs.declared.table.TyId.{TyId}
 use Rattle.type_table.specs.Tables.{IsOf, table_program, table_type}
 use Rattle.value_syntax.specs.Texts.{written_text}
-use Rattle.verdict_json.specs.OutcomeTrees.{HeldTree, AskedTree, EndingTree, ArmTaken, NoArmTaken, AnswerMissing, OutcomeTree}
+use Rattle.verdict_json.specs.OutcomeTrees.{HeldTree, AskedTree, EndingTree, ArmTaken}
 use Rattle.witness_names.specs.NamedValues.{written_value}
 use Rattle.match_top.specs.declared.source.Source.{Source}
 use Rattle.match_top.specs.Outcomes.{type_in_arm, shown_binding, shown_asked, shown_ending, shown_outcome}
 use Rattle.match_top.specs.Reporting.{setting_in, IsMatchOf}
-use Rattle.match_top.specs.Telling.{number_or, told_type, type_told, AreNumbered, told_binding, told_bindings, told_asked, told_ending, told_outcome}
+use Rattle.match_top.specs.Telling.{number_or, told_type, type_told, AreNumbered, told_binding, told_asked, told_ending, told_outcome}
 
 -- ---- the type of a name in a pattern and in what it shows
 

@@ -4,13 +4,14 @@ use Rattle.decl_lexer.specs.Lexing.{Placed, HasTokens, HasFault}
 use Rattle.decl_syntax.specs.Units.{units}
 use Rattle.decl_syntax.specs.Items.{ItemTree}
 use Rattle.decl_parser.specs.FileGrammar.{IsFile, IsSyntaxFault, IsWideFault}
-use Rattle.match_model.specs.declared.Width.TheVariants.{Endless}
+use Rattle.pattern_rules.specs.Settings.{Setting}
 use Rattle.type_table.specs.Faults.{BreaksNone, IsFirstFault}
 use Rattle.match_top.specs.declared.statuses.Status.{Status}
 use Rattle.match_top.specs.Outcomes.{IsEvaluated}
 use Rattle.match_top.specs.Refusals.{IsRefusedIn, IsRefusedAt, IsRefusedBy}
-use Rattle.match_top.specs.Reports.{IsReported}
-use Rattle.match_top.specs.Words.{RequestForm, ReportForm, OutcomeForm}
+use Rattle.match_top.specs.Reports.{IsReported, IsCounted, setting_of}
+use Rattle.match_top.specs.Words.{QuestionForm, RequestForm, ReportForm, OutcomeForm, CountsForm}
+use Rattle.match_top.specs.declared.words.Command.TheVariants.{Check}
 
 -- the greatest length of a source, in bytes (our own choice)
 unfoldable pub longest_source : ℕ
@@ -47,22 +48,26 @@ pub record IsRefusedWidth (tokens : List Placed) (text : List ℕ) (status : Sta
 
 -- an item breaks a rule on declarations: the file is refused by the first such item's least rule, with the item's number
 -- and the place where it begins
-pub record IsRefusedDeclaration (items : List ItemTree) (text : List ℕ) (status : Status) : Type 0 where
+pub record IsRefusedDeclaration (s : Setting) (text : List ℕ) (status : Status) : Type 0 where
   pub rule : ℕ
   pub number : ℕ
   pub place : ℕ
-  pub fault : IsFirstFault items Endless rule number place
+  pub fault : IsFirstFault s.items s.width rule number place
   pub refused : IsRefusedIn rule (Some number) (Some place) text status
 
--- no item breaks a rule on declarations, and what is asked is answered: the report on the functions, or what the match of one of
--- them does with a value
-abbrev pub IsDone : RequestForm → List ItemTree → List ℕ → Status → Type 0
-IsDone (ReportForm command) items text status = IsReported command items text status
-IsDone (OutcomeForm evaluation) items text status = BreaksNone items Endless × IsEvaluated evaluation items text status
+-- no item breaks a rule on declarations, and what is asked is answered: the report on the functions, what the match of one of
+-- them does with a value, or the counts in the report that `check` has
+abbrev pub IsDone : QuestionForm → Setting → List ℕ → Status → Type 0
+IsDone (ReportForm command) s text status = IsReported command s text status
+IsDone (OutcomeForm evaluation) s text status = BreaksNone s.items s.width × IsEvaluated evaluation s text status
+IsDone CountsForm s text status = IsCounted Check s text status
 
--- the text and the status of a file of these items: it is refused by a rule on declarations, or what is asked is answered
+-- the text and the status of a file of these items, read as the options say: it is refused by a rule on declarations, or what is
+-- asked is answered
 unfoldable pub IsAnswerToItems : RequestForm → List ItemTree → List ℕ → Status → Type 0
-IsAnswerToItems request items text status = IsRefusedDeclaration items text status ⊎ IsDone request items text status
+IsAnswerToItems request items text status =
+    IsRefusedDeclaration (setting_of request.options items) text status
+    ⊎ IsDone request.question (setting_of request.options items) text status
 
 -- the tokens spell a file, and its items are answered
 pub record IsAnswerToFile (request : RequestForm) (tokens : List Placed) (text : List ℕ) (status : Status) : Type 0 where

@@ -5,9 +5,11 @@ use Rattle.decl_parser.specs.FileGrammar.{IsFile}
 use Rattle.decl_syntax.specs.Functions.{FunctionTree}
 use Rattle.decl_syntax.specs.Items.{ItemTree, Function}
 use Rattle.decl_syntax.specs.Units.{units}
-use Rattle.match_model.specs.declared.Width.TheVariants.{Endless}
+use Rattle.match_model.specs.declared.Width.{Width}
+use Rattle.pattern_rules.specs.Settings.{Setting}
 use Rattle.type_table.specs.Faults.{BreaksNone, IsFirstFault}
 use Rattle.verdict_json.specs.Report.{ReportEntry}
+use Rattle.match_top.specs.declared.option_words.Options.{Options}
 use Rattle.match_top.specs.declared.statuses.Status.{Status}
 use Rattle.match_top.specs.declared.words.Command.{Command}
 use Rattle.match_top.specs.declared.words.Command.TheVariants.{Check, Trees}
@@ -21,25 +23,26 @@ OneAnswer =
     (request : RequestForm) (bytes text other : List ℕ) (status ending : Status) → Answers request bytes text status
     → Answers request bytes other ending → (text ≡ other) × (status ≡ ending)
 
--- items have one first fault at most
+-- items have one first fault at most, at any width
 abbrev pub OneFirstFault : Type 0
 OneFirstFault =
-    (items : List ItemTree) (rule i at other j elsewhere : ℕ) → IsFirstFault items Endless rule i at → IsFirstFault items Endless other j elsewhere
+    (items : List ItemTree) (width : Width) (rule i at other j elsewhere : ℕ) → IsFirstFault items width rule i at
+    → IsFirstFault items width other j elsewhere
     → (rule ≡ other) × (i ≡ j) × (at ≡ elsewhere)
 
--- for each command a function has one entry at most
+-- for each command a function has one entry at most, in any setting
 abbrev pub OneEntry : Type 0
 OneEntry =
-    (command : Command) (items : List ItemTree) (f : NumberedFunction) (e other : ReportEntry) → IsEntry command items f e
-    → IsEntry command items f other → e ≡ other
+    (command : Command) (s : Setting) (f : NumberedFunction) (e other : ReportEntry) → IsEntry command s f e
+    → IsEntry command s f other → e ≡ other
 
 -- each function of a file that the tokens of a source spell, and of which no item breaks a rule on declarations, has an entry
 -- where trees are not asked for
 abbrev pub SomeEntry : Type 0
 SomeEntry =
-    (source : List ℕ) (tokens : List Placed) (items : List ItemTree) (k : ℕ) (f : NumberedFunction)
-    → HasTokens source tokens → IsFile (units tokens) items → BreaksNone items Endless
-    → slice_get (functions_of items) k ≡ Some f → (e : ReportEntry) × IsEntry Check items f e
+    (source : List ℕ) (tokens : List Placed) (s : Setting) (k : ℕ) (f : NumberedFunction)
+    → HasTokens source tokens → IsFile (units tokens) s.items → BreaksNone s.items s.width
+    → slice_get (functions_of s.items) k ≡ Some f → (e : ReportEntry) × IsEntry Check s f e
 
 -- each item that is a function stands among the functions of its file, with its number
 abbrev pub EachFunctionStands : Type 0
@@ -51,16 +54,20 @@ EachFunctionStands =
 -- where trees are not asked for
 abbrev pub SomeReport : Type 0
 SomeReport =
-    (source : List ℕ) (tokens : List Placed) (items : List ItemTree) → HasTokens source tokens → IsFile (units tokens) items
-    → BreaksNone items Endless → (text : List ℕ) × (status : Status) × IsReported Check items text status
+    (source : List ℕ) (tokens : List Placed) (s : Setting) → HasTokens source tokens → IsFile (units tokens) s.items
+    → BreaksNone s.items s.width → (text : List ℕ) × (status : Status) × IsReported Check s text status
 
 -- what `check` has for a function is what `trees` has without its decision tree
 abbrev pub EntriesAreWithoutTrees : Type 0
 EntriesAreWithoutTrees =
-    (items : List ItemTree) (f : NumberedFunction) (e : ReportEntry) → IsEntry Trees items f e → IsEntry Check items f (without_tree e)
+    (s : Setting) (f : NumberedFunction) (e : ReportEntry) → IsEntry Trees s f e → IsEntry Check s f (without_tree e)
 
--- a file that `trees` answers `check` answers too, with the same status
+-- the report that is asked for by these options
+abbrev pub report_by : Options → Command → RequestForm
+report_by options command = record { question = ReportForm command; options = options }
+
+-- a file that `trees` answers `check` answers too, by the same options and with the same status
 abbrev pub AnswersAreWithoutTrees : Type 0
 AnswersAreWithoutTrees =
-    (bytes text : List ℕ) (status : Status) → Answers (ReportForm Trees) bytes text status
-    → (other : List ℕ) × Answers (ReportForm Check) bytes other status
+    (options : Options) (bytes text : List ℕ) (status : Status) → Answers (report_by options Trees) bytes text status
+    → (other : List ℕ) × Answers (report_by options Check) bytes other status

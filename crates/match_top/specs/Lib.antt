@@ -1,6 +1,8 @@
 pub mod Answers
 pub mod Asked
+pub mod DemoWords
 pub mod Laws
+pub mod OptionWords
 pub mod Outcomes
 pub mod Reading
 pub mod Refusals

@@ -4,7 +4,7 @@ use Rattle.std.specs.Str.{bytes_eq}
 use Rattle.unicode_normalization.specs.Forms.{nfc}
 use Rattle.bound_types.specs.Types.{bound_type}
 use Rattle.decl_syntax.specs.Functions.{FunctionTree}
-use Rattle.decl_syntax.specs.Items.{ArmTree, ItemTree}
+use Rattle.decl_syntax.specs.Items.{ArmTree}
 use Rattle.match_model.specs.RustTypes.{type_or}
 use Rattle.match_model.specs.Select.{Asked, Outcome, Took, Missed, Short, Selected, select}
 use Rattle.match_model.specs.Types.{MType}
@@ -22,7 +22,7 @@ use Rattle.witness_names.specs.NamedValues.{written_value}
 use Rattle.match_top.specs.declared.statuses.Status.{Status}
 use Rattle.match_top.specs.declared.statuses.Status.TheVariants.{Clean, Found}
 use Rattle.match_top.specs.Refusals.{IsRefusal, IsRefusedBy}
-use Rattle.match_top.specs.Reports.{NumberedFunction, functions_of, setting_of, refusal_of}
+use Rattle.match_top.specs.Reports.{NumberedFunction, functions_of, refusal_of}
 use Rattle.match_top.specs.Words.{EvaluationForm}
 
 -- the name that a word of the command line means: its NFC, which the names of a source are in too
@@ -110,7 +110,7 @@ abbrev pub IsEvaluatedBy : Setting → Option NumberedFunction → EvaluationFor
 IsEvaluatedBy s None e text status = IsRefusedBy 42 text status
 IsEvaluatedBy s (Some f) e text status = IsEvaluatedOf s f e text status
 
--- what is told for a function, a value and answers, in a file of these items
-abbrev pub IsEvaluated : EvaluationForm → List ItemTree → List ℕ → Status → Type 0
-IsEvaluated e items text status =
-    IsEvaluatedBy (setting_of items) (function_named (functions_of items) (meant_name e.function)) e text status
+-- what is told for a function, a value and answers, in the file of a setting
+abbrev pub IsEvaluated : EvaluationForm → Setting → List ℕ → Status → Type 0
+IsEvaluated e s text status =
+    IsEvaluatedBy s (function_named (functions_of s.items) (meant_name e.function)) e text status

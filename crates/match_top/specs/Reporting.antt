@@ -6,8 +6,8 @@ use Rattle.decl_parser.specs.FileGrammar.{IsFile}
 use Rattle.decl_syntax.specs.Functions.{FunctionTree}
 use Rattle.decl_syntax.specs.Items.{ItemTree, file_view}
 use Rattle.decl_syntax.specs.Units.{units}
-use Rattle.match_model.specs.declared.Width.TheVariants.{Endless}
 use Rattle.match_model.specs.ArenaPatterns.{MDeMatch}
+use Rattle.overlap_laws.specs.Laws.{IsOverlapListOn}
 use Rattle.pattern_laws.specs.JudgedLaws.{by_offset}
 use Rattle.pattern_laws.specs.TableLaws.{IsTableMatch}
 use Rattle.pattern_laws.specs.TreeLaws.{IsTreeOn}
@@ -19,15 +19,18 @@ use Rattle.tree_eval.specs.declared.tree.Tree.{Tree}
 use Rattle.type_table.specs.Tables.{IsTableOf, table_type}
 use Rattle.type_table.specs.declared.table.TyId.{TyId}
 use Rattle.verdict_json.specs.Report.{ReportEntry}
+use Rattle.verdict_json.specs.Summaries.{IsSummary}
+use Rattle.verdict_json.specs.Trees.{overlap_view}
 use Rattle.verdict_json.specs.Writing.{HasEntries}
 use Rattle.witness_search.specs.Entries.{plain_entries}
 use Rattle.witnesses.specs.Views.{plain_witness}
 use Rattle.witnesses.specs.declared.judgement.Judgement.{Judgement}
+use Rattle.witnesses.specs.declared.judgement.Overlap.{Overlap}
 use Rattle.match_top.specs.declared.reporting.Progress.{Progress}
 use Rattle.match_top.specs.declared.source.Source.{Source}
 use Rattle.match_top.specs.declared.words.Command.{Command}
 use Rattle.match_top.specs.declared.words.Command.TheVariants.{Check, Trees}
-use Rattle.match_top.specs.Reports.{NumberedFunction, IsEntry, is_clean, setting_of}
+use Rattle.match_top.specs.Reports.{NumberedFunction, IsEntry, arms_of, is_clean, setting_of}
 
 -- the items of the file
 abbrev pub items_in : Source → List ItemTree
@@ -35,16 +38,16 @@ items_in x = file_view x.file.now
 
 -- what its patterns are read against
 abbrev pub setting_in : Source → Setting
-setting_in x = setting_of (items_in x)
+setting_in x = setting_of x.options (items_in x)
 
 -- some bytes have tokens that spell the items
 abbrev pub AreSpelled : List ItemTree → Type 0
 AreSpelled items = (bytes : List ℕ) × (tokens : List Placed) × HasTokens bytes tokens × IsFile (units tokens) items
 
--- tokens spell the file, and the table is that of its items
+-- tokens spell the file, and the table is that of its items at the width of the options
 pub record IsSound (x : Source) : Type 0 where
   pub spelled : AreSpelled (items_in x)
-  pub table_is : IsTableOf (items_in x) Endless x.table.now
+  pub table_is : IsTableOf (items_in x) x.options.width x.table.now
 
 -- the item with this number is the function
 pub record StandsAt (items : List ItemTree) (number : ℕ) (f : FunctionTree) : Type 0 where
@@ -67,23 +70,29 @@ abbrev pub IsVerdictFor : Source → FunctionTree → Judgement → Type 0
 IsVerdictFor x f j =
     IsVerdictOn (setting_in x) f j.exhaustive (map by_offset (plain_entries j.unreachable.items)) (map plain_witness j.witnesses.items)
 
+-- the overlaps that were found are those of the function
+abbrev pub AreOverlapsFor : Source → FunctionTree → List Overlap → Type 0
+AreOverlapsFor x f overlaps = IsOverlapListOn (setting_in x) f (map overlap_view overlaps)
+
 -- the tree that was made is the function's, where trees are asked for
 abbrev pub IsTreeFor : Command → Source → FunctionTree → Option Tree → Type 0
 IsTreeFor Check x f tree = tree ≡ None
 IsTreeFor Trees x f tree = (t : Tree) × (tree ≡ Some t) × IsTreeOn (setting_in x) f (tree_nodes t)
 
--- what was found, and the tree that was made, are those of the function, the item with this number, which breaks no rule; its
+-- what was found, the overlaps, and the tree that was made, are those of the function, the item with this number, which breaks no rule; its
 -- scrutinee's type has this number in the table
 pub record IsFoundOn (command : Command) (x : Source) (number : ℕ) (f : FunctionTree) (ty : TyId) (j : Judgement)
-    (tree : Option Tree) : Type 0 where
+    (overlaps : List Overlap) (tree : Option Tree) : Type 0 where
   pub fine : IsFineFunction x number f
   pub type_is : table_type x.table.now ty ≡ scrutinee_type (setting_in x) f
   pub verdict : IsVerdictFor x f j
+  pub overlaps_are : AreOverlapsFor x f overlaps
   pub tree_is : IsTreeFor command x f tree
 
--- the text has the entries of these functions of the items
-pub record ReportsOn (command : Command) (items : List ItemTree) (fs : List NumberedFunction) (p : Progress) : Type 0 where
+-- the text has the entries of these functions of the setting's file, and the counts are theirs
+pub record ReportsOn (command : Command) (s : Setting) (fs : List NumberedFunction) (p : Progress) : Type 0 where
   pub entries : List ReportEntry
-  pub each : AllZip (IsEntry command items) fs entries
+  pub each : AllZip (IsEntry command s) fs entries
   pub text : HasEntries entries p.text
+  pub counts : IsSummary (arms_of fs) entries p.counts
   pub clean_is : p.clean ≡ list_all is_clean entries

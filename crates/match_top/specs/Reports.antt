@@ -1,26 +1,29 @@
 -- The report on the functions of a file of which no item breaks a rule on declarations.
-use Rattle.std.specs.Prelude.{◌≡◌, ℕ, ◌+◌, Bool, true, false, List, [], ◌∷◌, ◌++◌, map, Option, Some, None}
+use Rattle.std.specs.Prelude.{◌≡◌, ℕ, ◌+◌, Bool, true, false, List, [], ◌∷◌, ◌++◌, length, map, sum_by, Option, Some, None}
 use Rattle.std.specs.List.{AllZip, list_all}
 use Rattle.decl_syntax.specs.Functions.{FunctionTree}
 use Rattle.decl_syntax.specs.Items.{KindTree, Enum, Struct, Import, Function, ItemTree}
-use Rattle.match_model.specs.declared.Width.TheVariants.{Endless}
+use Rattle.match_model.specs.Overlaps.{MOverlap}
 use Rattle.match_model.specs.Trees.{MNode}
 use Rattle.match_model.specs.Unreachable.{Entry}
 use Rattle.match_model.specs.Witness.{MWitness}
 use Rattle.type_table.specs.Faults.{BreaksNone}
-use Rattle.pattern_rules.specs.declared.Edition.TheVariants.{E2024}
 use Rattle.pattern_rules.specs.Faults as patterns
 use Rattle.pattern_rules.specs.Faults.{IsFirstPatternFault, scrutinee_type}
 use Rattle.pattern_rules.specs.Settings.{Setting, program}
 use Rattle.pattern_rules.specs.Verdicts.{IsVerdictOn}
+use Rattle.overlap_laws.specs.Laws.{IsOverlapListOn}
 use Rattle.pattern_laws.specs.TreeLaws.{IsTreeOn}
 use Rattle.tree_text.specs.Trees.{NodeTree}
 use Rattle.witness_names.specs.Named.{named_witness}
 use Rattle.witness_names.specs.NamedTrees.{named_node}
 use Rattle.verdict_json.specs.declared.entry.Unreachable.{Unreachable}
 use Rattle.verdict_json.specs.declared.refusal.Refusal.{Refusal}
+use Rattle.verdict_json.specs.declared.summary.Summary.{Summary}
 use Rattle.verdict_json.specs.Report.{ReportEntry, JudgedFunction, RefusedFunction, report_text}
+use Rattle.verdict_json.specs.Summaries.{IsSummary, summary_text}
 use Rattle.verdict_json.specs.Trees.{ReportTree}
+use Rattle.match_top.specs.declared.option_words.Options.{Options}
 use Rattle.match_top.specs.declared.statuses.Status.{Status}
 use Rattle.match_top.specs.declared.statuses.Status.TheVariants.{Clean, Found}
 use Rattle.match_top.specs.declared.words.Command.{Command}
@@ -51,9 +54,9 @@ functions_from number (i ∷ items) = function_at number i.kind ++ functions_fro
 abbrev pub functions_of : List ItemTree → List NumberedFunction
 functions_of items = functions_from 0 items
 
--- what the patterns of a file are read against: its items, `usize` and `isize` of no known width, and edition 2024
-abbrev pub setting_of : List ItemTree → Setting
-setting_of items = record { items = items; width = Endless; edition = E2024 }
+-- what the patterns of a file are read against: its items, and the width of `usize` and `isize` and the edition of the options
+abbrev pub setting_of : Options → List ItemTree → Setting
+setting_of options items = record { items = items; width = options.width; edition = options.edition }
 
 -- the refusal of a function by its first broken rule, with the arm where it is in one, and the place
 abbrev pub refusal_of : (number rule : ℕ) → (arm : Option ℕ) → (at : ℕ) → Refusal
@@ -73,11 +76,12 @@ IsShownTree Check s f tree = tree ≡ None
 IsShownTree Trees s f tree = (nodes : List MNode) × IsTreeOn s f nodes × (tree ≡ Some (named_tree s f nodes))
 
 -- what is reported of a function by what is found of it: the witnesses are told with the names of the file's types
-abbrev pub report_of : Setting → FunctionTree → (exhaustive : Bool) → (tree : Option (List NodeTree)) → (unreachable : List Entry) →
-    (witnesses : List MWitness) → ReportTree
-report_of s f exhaustive tree unreachable witnesses = record {
+abbrev pub report_of : Setting → FunctionTree → (exhaustive : Bool) → (overlaps : List MOverlap) → (tree : Option (List NodeTree)) →
+    (unreachable : List Entry) → (witnesses : List MWitness) → ReportTree
+report_of s f exhaustive overlaps tree unreachable witnesses = record {
   name = f.name;
   exhaustive = exhaustive;
+  overlaps = overlaps;
   tree = tree;
   unreachable = map shown_entry unreachable;
   witnesses = map (named_witness (program s) (scrutinee_type s f)) witnesses;
@@ -90,9 +94,11 @@ pub record IsJudgedFunction (command : Command) (s : Setting) (f : FunctionTree)
   pub unreachable : List Entry
   pub witnesses : List MWitness
   pub verdict : IsVerdictOn s f exhaustive unreachable witnesses
+  pub overlaps : List MOverlap
+  pub overlaps_are : IsOverlapListOn s f overlaps
   pub tree : Option (List NodeTree)
   pub tree_is : IsShownTree command s f tree
-  pub shows : e ≡ JudgedFunction (report_of s f exhaustive tree unreachable witnesses)
+  pub shows : e ≡ JudgedFunction (report_of s f exhaustive overlaps tree unreachable witnesses)
 
 -- a function that breaks a rule, and the entry that tells the first one
 pub record IsRefusedFunction (s : Setting) (number : ℕ) (f : FunctionTree) (e : ReportEntry) : Type 0 where
@@ -102,11 +108,11 @@ pub record IsRefusedFunction (s : Setting) (number : ℕ) (f : FunctionTree) (e 
   pub fault : IsFirstPatternFault s f rule arm at
   pub tells : e ≡ RefusedFunction f.name (refusal_of number rule arm at)
 
--- the entry of a function in the report on a file of these items: the refusal by its first broken rule, or else what is found
+-- the entry of a function in the report on the file of a setting: the refusal by its first broken rule, or else what is found
 -- of its match, with its decision tree where trees are asked for
-pub data IsEntry (command : Command) (items : List ItemTree) (f : NumberedFunction) (e : ReportEntry) : Type 0 where
-  is_refused : IsRefusedFunction (setting_of items) f.number f.function e → IsEntry command items f e
-  is_judged : IsJudgedFunction command (setting_of items) f.function e → IsEntry command items f e
+pub data IsEntry (command : Command) (s : Setting) (f : NumberedFunction) (e : ReportEntry) : Type 0 where
+  is_refused : IsRefusedFunction s f.number f.function e → IsEntry command s f e
+  is_judged : IsJudgedFunction command s f.function e → IsEntry command s f e
 
 -- the entry, without a decision tree
 abbrev pub without_tree : ReportEntry → ReportEntry
@@ -124,9 +130,24 @@ status_of true = Clean
 status_of false = Found
 
 -- no item breaks a rule on declarations, and the text is the report: an entry for each function, in file order
-pub record IsReported (command : Command) (items : List ItemTree) (text : List ℕ) (status : Status) : Type 0 where
-  pub unbroken : BreaksNone items Endless
+pub record IsReported (command : Command) (s : Setting) (text : List ℕ) (status : Status) : Type 0 where
+  pub unbroken : BreaksNone s.items s.width
   pub entries : List ReportEntry
-  pub each : AllZip (IsEntry command items) (functions_of items) entries
+  pub each : AllZip (IsEntry command s) (functions_of s.items) entries
   pub text_is : text ≡ report_text entries
+  pub status_is : status ≡ status_of (list_all is_clean entries)
+
+-- how many arms functions have together
+abbrev pub arms_of : List NumberedFunction → ℕ
+arms_of fs = sum_by (λ f. length f.function.arms) fs
+
+-- no item breaks a rule on declarations, and the text is the counts in the report: of the arms of all functions, and of what
+-- the entries of the functions tell. The status is that of the report
+pub record IsCounted (command : Command) (s : Setting) (text : List ℕ) (status : Status) : Type 0 where
+  pub unbroken : BreaksNone s.items s.width
+  pub entries : List ReportEntry
+  pub each : AllZip (IsEntry command s) (functions_of s.items) entries
+  pub counts : Summary
+  pub counts_are : IsSummary (arms_of (functions_of s.items)) entries counts
+  pub text_is : text ≡ summary_text counts
   pub status_is : status ≡ status_of (list_all is_clean entries)

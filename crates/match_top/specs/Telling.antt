@@ -1,5 +1,7 @@
 -- No meaning: what is shown of a match that goes by the types of a table, for the proofs of `telling`.
 use Rattle.std.specs.Prelude.{◌≡◌, ℕ, List, map, slice_get, Option, Some, None}
+use Rattle.bound_types.specs.declared.types.BoundTypes.{BoundTypes}
+use Rattle.bound_types.specs.Maps.{type_in}
 use Rattle.bound_types.specs.Types.{bound_type}
 use Rattle.match_model.specs.ArenaPatterns.{MDeArm, MDeMatch}
 use Rattle.match_model.specs.Select.{Asked, Outcome, Took, Missed, Short, Selected}
@@ -24,6 +26,15 @@ told_type m (Some d) name = number_or m.type (bound_type d.pat name)
 -- the same in the arm with this number
 abbrev pub type_told : MDeMatch TyId → (arm : ℕ) → (name : List ℕ) → TyId
 type_told m j name = told_type m (slice_get m.arms j) name
+
+-- the type that is noted of a name, or else the other
+abbrev pub type_noted : TyId → Option (BoundTypes TyId) → (name : List ℕ) → TyId
+type_noted ty None name = ty
+type_noted ty (Some types) name = number_or ty (type_in types name)
+
+-- what is noted are the types of the names in the arm with this number
+abbrev pub AreTypesIn : MDeMatch TyId → (arm : ℕ) → Option (BoundTypes TyId) → Type 0
+AreTypesIn m j types = (name : List ℕ) → type_noted m.type types name ≡ type_told m j name
 
 -- the types of the names, and of the scrutinee, are the table's
 abbrev pub AreNumbered : TypeTable → MDeMatch TyId → Type 0

@@ -9,10 +9,11 @@ ghost use Rattle.decl_parser.specs.Counts.{HasAtMost};
 ghost use Rattle.decl_parser.specs.FileGrammar.{IsFile, IsFaultOf as IsFaultOfTokens};
 ghost use Rattle.match_top.specs.Answers.{Answers, IsJudged, IsAnswerToItems, IsAnswerToTokens, IsDone};
 ghost use Rattle.match_top.specs.Answers.{taken, longest_source};
-ghost use Rattle.match_top.specs.Asked.{request_view};
-ghost use Rattle.match_top.specs.Reports.{IsReported, status_of};
-ghost use Rattle.match_top.specs.Reporting.{AreSpelled, IsSound, items_in};
+ghost use Rattle.match_top.specs.Asked.{question_view, request_view};
+ghost use Rattle.match_top.specs.Reports.{IsReported, IsCounted, status_of};
+ghost use Rattle.match_top.specs.Reporting.{AreSpelled, IsSound, items_in, setting_in};
 ghost use Rattle.match_top.specs.Statuses.{IsVerdict};
+ghost use Rattle.match_top.specs.declared.words.Command.TheVariants.{Check};
 
 use crate::Status;
 use crate::evaluating::evaluated;
@@ -20,14 +21,14 @@ use crate::reading::LONGEST_SOURCE;
 use crate::refusals::{refused_at, refused_in};
 use crate::reporting::{Reported, report_on};
 use crate::source::Source;
-use crate::words::{Command, Request};
+use crate::words::{Command, Question, Request};
 use decl_lexer::{LexFault, Token, lex};
 use decl_parser::{ParseFault, parse};
 use decl_syntax::File;
-use match_model::Width;
 use no_memory::NoMemory;
 use std::alloc::Global;
 use type_table::{DeclFault, TypeTable};
+use verdict_json::demo_bytes;
 
 /// What is written, and the status of a run that has written it.
 #[derive(Drop)]
@@ -44,6 +45,7 @@ pub(crate) fn answer_to(
 ) -> Result<Answer, NoMemory>
     ensures answers { IfOk result (λ a. (bytes : List ℕ) → source.now ≡ taken bytes
         → Answers (request_view request.now) bytes a.text.items a.status) }
+    ensures itself { IfOk result (λ a. Answers (request_view request.now) source.now a.text.items a.status) }
     ensures verdict { IfOk result (λ a. IsVerdict a.status) }
 {
     if is_too_long(source) {
@@ -111,13 +113,14 @@ fn answer_to_file(alloc: Global, request: &Request<'_>, file: &File) -> Result<A
     ensures answers { IfOk result (λ a. IsAnswerToItems (request_view request.now) (file_view file.now) a.text.items a.status) }
     ensures verdict { IfOk result (λ a. IsVerdict a.status) }
 {
-    match TypeTable::build(alloc, file, Width::Endless) {
+    match TypeTable::build(alloc, file, request.options.width) {
         Ok(table) => done(
             alloc,
-            request,
+            &request.question,
             &Source {
                 file,
                 table: &table,
+                options: request.options,
             },
         ),
         Err(DeclFault::Rule { rule, item, at }) => refused_in(alloc, rule, Some(item), Some(at)),
@@ -126,15 +129,16 @@ fn answer_to_file(alloc: Global, request: &Request<'_>, file: &File) -> Result<A
 }
 
 // What is asked of a file of which no item breaks a rule on declarations.
-fn done(alloc: Global, request: &Request<'_>, source: &Source<'_>) -> Result<Answer, NoMemory>
+fn done(alloc: Global, question: &Question<'_>, source: &Source<'_>) -> Result<Answer, NoMemory>
     requires sound { IsSound source.now }
     requires few { sum_by (λ i. kind_arms i.kind) (items_in source.now) < 2 ^ 32 }
-    ensures answers { IfOk result (λ a. IsDone (request_view request.now) (items_in source.now) a.text.items a.status) }
+    ensures answers { IfOk result (λ a. IsDone (question_view question.now) (setting_in source.now) a.text.items a.status) }
     ensures verdict { IfOk result (λ a. IsVerdict a.status) }
 {
-    match request {
-        Request::Report(command) => reported(alloc, *command, source),
-        Request::Outcome(evaluation) => evaluated(alloc, evaluation, source),
+    match question {
+        Question::Report(command) => reported(alloc, *command, source),
+        Question::Outcome(evaluation) => evaluated(alloc, evaluation, source),
+        Question::Counts => counted(alloc, source),
     }
 }
 
@@ -142,10 +146,23 @@ fn done(alloc: Global, request: &Request<'_>, source: &Source<'_>) -> Result<Ans
 fn reported(alloc: Global, command: Command, source: &Source<'_>) -> Result<Answer, NoMemory>
     requires sound { IsSound source.now }
     requires few { sum_by (λ i. kind_arms i.kind) (items_in source.now) < 2 ^ 32 }
-    ensures answers { IfOk result (λ a. IsReported command (items_in source.now) a.text.items a.status) }
+    ensures answers { IfOk result (λ a. IsReported command (setting_in source.now) a.text.items a.status) }
     ensures verdict { IfOk result (λ a. IsVerdict a.status) }
 {
-    let Reported { text, clean } = report_on(alloc, command, source)?;
+    let Reported { text, clean, .. } = report_on(alloc, command, source)?;
+    let status = status_of(clean);
+    Ok(Answer { text, status })
+}
+
+// The counts in the report that `check` has on its functions.
+fn counted(alloc: Global, source: &Source<'_>) -> Result<Answer, NoMemory>
+    requires sound { IsSound source.now }
+    requires few { sum_by (λ i. kind_arms i.kind) (items_in source.now) < 2 ^ 32 }
+    ensures answers { IfOk result (λ a. IsCounted Check (setting_in source.now) a.text.items a.status) }
+    ensures verdict { IfOk result (λ a. IsVerdict a.status) }
+{
+    let Reported { counts, clean, .. } = report_on(alloc, Command::Check, source)?;
+    let text = demo_bytes(alloc, &counts)?;
     let status = status_of(clean);
     Ok(Answer { text, status })
 }

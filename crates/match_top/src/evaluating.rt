@@ -31,7 +31,6 @@ use decl_syntax::FnItem;
 use no_memory::NoMemory;
 use pattern_arena::{CheckedMatch, Placer};
 use pattern_check::function::first_fault;
-use pattern_rules::Edition;
 use std::alloc::Global;
 use tree_eval::{Tree, Value};
 use type_table::TyId;
@@ -46,7 +45,7 @@ pub(crate) fn evaluated(
 ) -> Result<Answer, NoMemory>
     requires sound { IsSound source.now }
     requires few { sum_by (λ i. kind_arms i.kind) (items_in source.now) < 2 ^ 32 }
-    ensures answers { IfOk result (λ a. IsEvaluated (evaluation_view evaluation.now) (items_in source.now)
+    ensures answers { IfOk result (λ a. IsEvaluated (evaluation_view evaluation.now) (setting_in source.now)
         a.text.items a.status) }
     ensures verdict { IfOk result (λ a. IsVerdict a.status) }
 {
@@ -72,7 +71,7 @@ fn evaluated_of(
         (evaluation_view evaluation.now) a.text.items a.status) }
     ensures verdict { IfOk result (λ a. IsVerdict a.status) }
 {
-    match first_fault(alloc, source.table, Edition::E2024, number, f)? {
+    match first_fault(alloc, source.table, source.options.edition, number, f)? {
         Some(fault) => refused(alloc, &refusal_of(number, &fault)),
         None => evaluated_fine(alloc, evaluation, source, number, f),
     }

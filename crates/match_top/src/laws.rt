@@ -5,6 +5,7 @@ ghost use Rattle.match_top.specs.Laws.{EntriesAreWithoutTrees, AnswersAreWithout
 
 use decl_lexer::{one_fault as one_lexing_fault, one_token_list, tokens_or_fault};
 use decl_parser::{file_or_fault, one_fault, one_file};
+use overlap_laws::laws::{overlap_list_is_one, some_overlaps};
 use pattern_laws::laws::{
     files_are_sound, parsed_functions_are_spelled, some_verdict, tree_is_one, verdict_is_one,
 };
@@ -23,11 +24,12 @@ pub fn one_answer()
     file_or_fault();
     answer_is_one();
     verdict_is_one();
+    overlap_list_is_one();
     tree_is_one();
     one_written();
 }
 
-/// Items have at most one first fault on declarations.
+/// Items have at most one first fault on declarations, at any width.
 pub fn one_first_fault()
     ensures { OneFirstFault }
 {}
@@ -41,11 +43,13 @@ pub fn one_entry()
 {
     answer_is_one();
     verdict_is_one();
+    overlap_list_is_one();
     tree_is_one();
     walk_tells();
     parsed_functions_are_spelled();
     files_are_sound();
     some_verdict();
+    some_overlaps();
 }
 
 /// A file that the tokens of a source spell, and of which no item breaks a rule on declarations, has a report, where trees
@@ -57,6 +61,7 @@ pub fn some_report()
     parsed_functions_are_spelled();
     files_are_sound();
     some_verdict();
+    some_overlaps();
 }
 
 /// What `check` has for a function or a file is what `trees` has, without the decision trees, and with the same status.

@@ -3,20 +3,24 @@
 //! `run` reads the words, takes the file that they name from a source of files, makes the whole answer in memory and
 //! only then writes it to a sink. Its contract says when each status comes and which bytes were written, for every
 //! source and every sink: the relation `Answers` between what is asked, the bytes of a file, the text and the status is all
-//! that it knows of matches. The way of a file through the modules: `words` (what is asked), `reading` (the bytes),
-//! `answering` (tokens, items and their faults; text and status), then one of two ways, and `writing` (the sink).
-//! For a report: `reporting` (the entries of the functions), `judging` (the match of a function, and the engine's verdict on
-//! it), `trees` (its decision tree, where it is asked for). For the outcome of one value: `evaluating` (the function, its
+//! that it knows of matches. The way of a file through the modules: `words` and `option_words` (what is asked), `reading` (the bytes),
+//! `answering` (tokens, items and their faults; text and status), then a way of its own, and `writing`
+//! (the sink).
+//! Words that name no file, but a number (`demo_words`), ask for the counts in the report on a generated file.
+//! For a report: `reporting` (the entries of the functions), `judging` (the match of a function, the engine's verdict on
+//! it, and which of its ranges overlap), `trees` (its decision tree, where it is asked for). For the outcome of one value: `evaluating` (the function, its
 //! first fault, the value), `finding` (the function by its name), `selecting` (what the tree of its match means for the
 //! value), `telling` (the values of names as they are shown). `refusals` has what both refuse.
 //! `laws` says that a file has one answer, and that no function is left out of a report.
 #![tactic(auto)]
 
 mod answering;
+mod demo_words;
 mod evaluating;
 mod finding;
 mod judging;
 mod laws;
+mod option_words;
 mod reading;
 mod refusals;
 mod reporting;
@@ -27,11 +31,15 @@ mod telling;
 #[cfg(test)]
 mod tests;
 mod top;
+#[cfg(test)]
+mod tree_tests;
 mod trees;
 mod words;
 mod writing;
 
+pub use demo_file::demo_source;
 pub use laws::{check_is_without_trees, one_answer, one_entry, one_first_fault, some_report};
+pub use option_words::Options;
 pub use statuses::Status;
 pub use top::run;
 pub use words::Command;

@@ -2,19 +2,20 @@
 ghost use Rattle.std.specs.Prelude.{◌≡◌, ◌<◌, ◌^◌, ◌&&◌, ◌++◌, ◌∷◌, [], ℕ, List, Some, map, length, slice_get, sum_by, IfOk};
 ghost use Rattle.decl_syntax.specs.Counts.{kind_arms};
 ghost use Rattle.decl_syntax.specs.Functions.{function_view};
-ghost use Rattle.decl_syntax.specs.Items.{ItemTree, item_view, kind_view};
-ghost use Rattle.match_model.specs.declared.Width.TheVariants.{Endless};
+ghost use Rattle.decl_syntax.specs.Items.{item_view, kind_view};
+ghost use Rattle.pattern_rules.specs.Settings.{Setting};
 ghost use Rattle.type_table.specs.Faults.{BreaksNone};
 ghost use Rattle.type_table.specs.Tables.{IsOf};
 ghost use Rattle.verdict_json.specs.Report.{JudgedFunction, RefusedFunction};
 ghost use Rattle.verdict_json.specs.Rules.{IsRule};
+ghost use Rattle.verdict_json.specs.Summaries.{summary_text};
 ghost use Rattle.verdict_json.specs.Trees.{report_view};
 ghost use Rattle.match_top.specs.Reports.{NumberedFunction, numbered, function_at, functions_of};
-ghost use Rattle.match_top.specs.Reports.{IsEntry, IsReported, status_of};
+ghost use Rattle.match_top.specs.Reports.{IsEntry, IsReported, IsCounted, status_of};
 ghost use Rattle.match_top.specs.declared.words.Command.{Command};
-ghost use Rattle.match_top.specs.Reporting.{IsSound, StandsAt, IsFineFunction, IsFoundOn, ReportsOn, items_in};
+ghost use Rattle.match_top.specs.Reporting.{IsSound, StandsAt, IsFineFunction, IsFoundOn, ReportsOn, items_in, setting_in};
 
-use crate::judging::{match_of, shown_entries, verdict_on};
+use crate::judging::{match_of, overlaps_on, shown_entries, verdict_on};
 use crate::refusals::refusal_of;
 use crate::source::Source;
 use crate::trees::{named_tree, tree_of};
@@ -24,25 +25,27 @@ use decl_syntax::{FnItem, Item, ItemKind};
 use no_memory::NoMemory;
 use pattern_arena::Placer;
 use pattern_check::function::first_fault;
-use pattern_rules::Edition;
 use std::alloc::Global;
 use tree_eval::Tree;
 use type_table::TyId;
-use verdict_json::{FnReport, Refusal, ReportText};
+use verdict_json::{FnReport, Refusal, ReportText, Summary};
 use witness_names::name_witnesses;
-use witnesses::Judgement;
+use witnesses::{Judgement, Overlap};
 
-/// The report on a file as it is written, and whether every function is judged and every match is exhaustive.
+/// The report on a file as it is written, the counts in it, and whether every function is judged and every match is
+/// exhaustive.
 #[derive(Debug, Drop)]
 pub(crate) struct Reported {
     pub text: Vec<u8>,
+    pub counts: Summary,
     pub clean: bool,
 }
 
-/// The entries so far, and whether each is of a judged function whose match is exhaustive.
+/// The entries so far, the counts in them, and whether each is of a judged function whose match is exhaustive.
 #[derive(Debug, Drop)]
 struct Progress {
     text: ReportText,
+    counts: Summary,
     clean: bool,
 }
 
@@ -61,7 +64,8 @@ pub(crate) fn report_on(
 ) -> Result<Reported, NoMemory>
     requires sound { IsSound source.now }
     requires few { sum_by (λ i. kind_arms i.kind) (items_in source.now) < 2 ^ 32 }
-    ensures { IfOk result (λ r. IsReported command (items_in source.now) r.text.items (status_of r.clean)) }
+    ensures reported { IfOk result (λ r. IsReported command (setting_in source.now) r.text.items (status_of r.clean)) }
+    ensures counted { IfOk result (λ r. IsCounted command (setting_in source.now) (summary_text r.counts) (status_of r.clean)) }
 {
     let entries = all_entries(alloc, command, source, &source.file.items)?;
     finished(entries)
@@ -77,10 +81,11 @@ fn all_entries<'f>(
     requires sound { IsSound source.now }
     requires items { map item_view items.now ≡ items_in source.now }
     requires few { sum_by (λ i. kind_arms i.kind) (map item_view items.now) < 2 ^ 32 }
-    ensures { IfOk result (ReportsOn command (items_in source.now) (functions_of (map item_view items.now))) }
+    ensures { IfOk result (ReportsOn command (setting_in source.now) (functions_of (map item_view items.now))) }
 {
     let mut so_far = Progress {
         text: ReportText::begin(alloc)?,
+        counts: Summary::new(),
         clean: true,
     };
     for (number, item) in items.iter().enumerate() {
@@ -101,8 +106,8 @@ fn add_item<'f>(
     requires sound { IsSound source.now }
     requires there { slice_get (items_in source.now) number ≡ Some (item_view item.now) }
     requires few { kind_arms (kind_view item.now.kind) < 2 ^ 32 }
-    ensures { (fs : List NumberedFunction) → ReportsOn command (items_in source.now) fs so_far
-        → IfOk result (ReportsOn command (items_in source.now) (fs ++ function_at number (kind_view item.now.kind))) }
+    ensures { (fs : List NumberedFunction) → ReportsOn command (setting_in source.now) fs so_far
+        → IfOk result (ReportsOn command (setting_in source.now) (fs ++ function_at number (kind_view item.now.kind))) }
 {
     match &item.kind {
         ItemKind::Enum(_) => Ok(so_far),
@@ -124,26 +129,40 @@ fn add_function<'f>(
     requires sound { IsSound source.now }
     requires there { StandsAt (items_in source.now) number (function_view f.now) }
     requires few { length f.now.arms.items < 2 ^ 32 }
-    ensures { (fs : List NumberedFunction) → ReportsOn command (items_in source.now) fs so_far
-        → IfOk result (ReportsOn command (items_in source.now) (fs ++ numbered number (function_view f.now) ∷ [])) }
+    ensures { (fs : List NumberedFunction) → ReportsOn command (setting_in source.now) fs so_far
+        → IfOk result (ReportsOn command (setting_in source.now) (fs ++ numbered number (function_view f.now) ∷ [])) }
 {
-    match first_fault(alloc, source.table, Edition::E2024, number, f)? {
-        Some(fault) => add_refused(so_far, f.name.as_str(), &refusal_of(number, &fault)),
+    match first_fault(alloc, source.table, source.options.edition, number, f)? {
+        Some(fault) => {
+            let refusal = refusal_of(number, &fault);
+            add_refused(so_far, f.name.as_str(), f.arms.len() as u64, &refusal)
+        }
         None => add_judged(alloc, command, source, so_far, number, f),
     }
 }
 
-// Adds a function of this name that is refused.
-fn add_refused(so_far: Progress, name: &str, refusal: &Refusal) -> Result<Progress, NoMemory>
+// Adds a function of this name and with so many arms that is refused.
+fn add_refused(
+    so_far: Progress,
+    name: &str,
+    arms: u64,
+    refusal: &Refusal,
+) -> Result<Progress, NoMemory>
     requires { IsRule refusal.now.rule }
-    ensures { (command : Command) → (items : List ItemTree) → (fs : List NumberedFunction)
-        → (f : NumberedFunction) → ReportsOn command items fs so_far
-        → IsEntry command items f (RefusedFunction name.now refusal.now)
-        → IfOk result (ReportsOn command items (fs ++ f ∷ [])) }
+    ensures { (command : Command) → (s : Setting) → (fs : List NumberedFunction)
+        → (f : NumberedFunction) → ReportsOn command s fs so_far
+        → IsEntry command s f (RefusedFunction name.now refusal.now)
+        → length f.function.arms ≡ arms
+        → IfOk result (ReportsOn command s (fs ++ f ∷ [])) }
 {
-    let Progress { text, .. } = so_far;
+    let Progress { text, counts, .. } = so_far;
     let text = text.add_refused(name, refusal)?;
-    Ok(Progress { text, clean: false })
+    let counts = counts.with_refused(arms)?;
+    Ok(Progress {
+        text,
+        counts,
+        clean: false,
+    })
 }
 
 // Adds a function that breaks no rule, with what is found of it, and its tree where the command asks for it. Its match goes
@@ -158,8 +177,8 @@ fn add_judged<'f>(
 ) -> Result<Progress, NoMemory>
     requires fine { IsFineFunction source.now number (function_view f.now) }
     requires few { length f.now.arms.items < 2 ^ 32 }
-    ensures { (fs : List NumberedFunction) → ReportsOn command (items_in source.now) fs so_far
-        → IfOk result (ReportsOn command (items_in source.now) (fs ++ numbered number (function_view f.now) ∷ [])) }
+    ensures { (fs : List NumberedFunction) → ReportsOn command (setting_in source.now) fs so_far
+        → IfOk result (ReportsOn command (setting_in source.now) (fs ++ numbered number (function_view f.now) ∷ [])) }
 {
     let arena = Bump::new(alloc);
     let placer = Placer::new(&arena);
@@ -168,10 +187,11 @@ fn add_judged<'f>(
         judgement: verdict_on(alloc, source, &m)?,
         tree: tree_of(alloc, command, source, &arena, &m)?,
     };
-    add_found(alloc, source, so_far, f, m.ty, &found)
+    let overlaps = overlaps_on(alloc, source, &m)?;
+    add_found(alloc, source, so_far, f, m.ty, &found, overlaps)
 }
 
-// Adds a function with what is found of it, over a scrutinee of this type.
+// Adds a function with what is found of it and its overlapping ranges, over a scrutinee of this type.
 fn add_found<'r>(
     alloc: Global,
     source: &Source<'r>,
@@ -179,13 +199,15 @@ fn add_found<'r>(
     f: &'r FnItem,
     ty: TyId,
     found: &'r Found,
+    overlaps: Vec<Overlap>,
 ) -> Result<Progress, NoMemory>
     requires sound { IsSound source.now }
     requires of { IsOf source.now.table.now ty }
     ensures { (command : Command) → (number : ℕ) → (fs : List NumberedFunction)
-        → ReportsOn command (items_in source.now) fs so_far
-        → IsFoundOn command source.now number (function_view f.now) ty found.now.judgement found.now.tree
-        → IfOk result (ReportsOn command (items_in source.now) (fs ++ numbered number (function_view f.now) ∷ [])) }
+        → ReportsOn command (setting_in source.now) fs so_far
+        → IsFoundOn command source.now number (function_view f.now) ty found.now.judgement overlaps.items
+        found.now.tree
+        → IfOk result (ReportsOn command (setting_in source.now) (fs ++ numbered number (function_view f.now) ∷ [])) }
 {
     let unreachable = shown_entries(alloc, &found.judgement.unreachable)?;
     let witnesses = name_witnesses(alloc, source.table, ty, &found.judgement.witnesses)?;
@@ -193,24 +215,35 @@ fn add_found<'r>(
     let report = FnReport {
         name: f.name.as_str(),
         exhaustive: found.judgement.exhaustive,
+        overlaps,
         unreachable,
         tree,
         witnesses,
     };
-    add_report(so_far, &report)
+    add_report(so_far, f.arms.len() as u64, &report)
 }
 
-// Adds a function with what is reported of it.
-fn add_report(so_far: Progress, report: &FnReport<'_>) -> Result<Progress, NoMemory>
-    ensures { (command : Command) → (items : List ItemTree) → (fs : List NumberedFunction)
-        → (f : NumberedFunction) → ReportsOn command items fs so_far
-        → IsEntry command items f (JudgedFunction (report_view report.now))
-        → IfOk result (ReportsOn command items (fs ++ f ∷ [])) }
+// Adds a function that has so many arms, with what is reported of it.
+fn add_report(so_far: Progress, arms: u64, report: &FnReport<'_>) -> Result<Progress, NoMemory>
+    ensures { (command : Command) → (s : Setting) → (fs : List NumberedFunction)
+        → (f : NumberedFunction) → ReportsOn command s fs so_far
+        → IsEntry command s f (JudgedFunction (report_view report.now))
+        → length f.function.arms ≡ arms
+        → IfOk result (ReportsOn command s (fs ++ f ∷ [])) }
 {
-    let Progress { text, clean } = so_far;
+    let Progress {
+        text,
+        counts,
+        clean,
+    } = so_far;
     let clean = both(clean, report.exhaustive);
     let text = text.add(report)?;
-    Ok(Progress { text, clean })
+    let counts = counts.with_judged(arms, report)?;
+    Ok(Progress {
+        text,
+        counts,
+        clean,
+    })
 }
 
 fn both(before: bool, now: bool) -> bool
@@ -221,11 +254,22 @@ fn both(before: bool, now: bool) -> bool
 
 // The whole report, from the entries of all functions.
 fn finished(entries: Progress) -> Result<Reported, NoMemory>
-    ensures { (command : Command) → (items : List ItemTree) → BreaksNone items Endless
-        → ReportsOn command items (functions_of items) entries
-        → IfOk result (λ r. IsReported command items r.text.items (status_of r.clean)) }
+    ensures reported { (command : Command) → (s : Setting) → BreaksNone s.items s.width
+        → ReportsOn command s (functions_of s.items) entries
+        → IfOk result (λ r. IsReported command s r.text.items (status_of r.clean)) }
+    ensures counted { (command : Command) → (s : Setting) → BreaksNone s.items s.width
+        → ReportsOn command s (functions_of s.items) entries
+        → IfOk result (λ r. IsCounted command s (summary_text r.counts) (status_of r.clean)) }
 {
-    let Progress { text, clean } = entries;
+    let Progress {
+        text,
+        counts,
+        clean,
+    } = entries;
     let text = text.finish()?;
-    Ok(Reported { text, clean })
+    Ok(Reported {
+        text,
+        counts,
+        clean,
+    })
 }

@@ -9,11 +9,11 @@ ghost use Rattle.verdict_json.specs.OutcomeTrees.{asked_view, ending_view, held_
 ghost use Rattle.witness_names.specs.Named.{IsOfFile};
 ghost use Rattle.witness_names.specs.NamedValues.{written_value};
 ghost use Rattle.match_top.specs.Selections.{arm_view, ending_view as selected_ending, selection_view};
-ghost use Rattle.match_top.specs.Telling.{AreNumbered, told_type, told_binding, told_bindings, told_asked};
-ghost use Rattle.match_top.specs.Telling.{told_ending, told_outcome};
+ghost use Rattle.match_top.specs.Telling.{AreNumbered, AreTypesIn, type_noted, type_told, told_binding};
+ghost use Rattle.match_top.specs.Telling.{told_bindings, told_asked, told_ending, told_outcome};
 
 use crate::selecting::{Ending, HeldArm, Selection};
-use bound_types::type_of_bound;
+use bound_types::BoundTypes;
 use no_memory::NoMemory;
 use pattern_arena::CheckedMatch;
 use std::alloc::Global;
@@ -23,6 +23,13 @@ use type_table::{TyId, TypeTable};
 use value_syntax::push_written;
 use verdict_json::{AskedText, EndingText, HeldText, OutcomeText};
 use witness_names::name_value;
+
+// The types of the names in the arm with this number, where there is such an arm.
+#[derive(Drop)]
+struct ArmTypes {
+    arm: u32,
+    types: Option<BoundTypes<TyId>>,
+}
 
 /// What is shown of what a match does with a value. The types of the table are those of the match.
 pub(crate) fn told<'a>(
@@ -41,7 +48,7 @@ pub(crate) fn told<'a>(
     Ok(OutcomeText { asked, ending })
 }
 
-// The guards that got an answer.
+// The guards that got an answer. The types of an arm's names are kept while the arm stays the same.
 fn told_asked<'a>(
     alloc: Global,
     table: &TypeTable,
@@ -54,8 +61,10 @@ fn told_asked<'a>(
         ≡ map (told_asked table.now (plain_match m.now)) (map arm_view arms.now)) }
 {
     let mut all = Vec::with_capacity(alloc, arms.len())?;
+    let mut types = types_in(alloc, m, 0)?;
     for arm in arms {
-        let bindings = told_bindings(alloc, table, m, arm)?;
+        types = types_for(alloc, m, types, arm.arm)?;
+        let bindings = told_bindings(alloc, table, m, &types, arm)?;
         all.push(AskedText {
             arm: arm.arm,
             bindings,
@@ -78,7 +87,8 @@ fn told_ending<'a>(
 {
     match ending {
         Ending::Took(arm) => {
-            let bindings = told_bindings(alloc, table, m, arm)?;
+            let types = types_in(alloc, m, arm.arm)?;
+            let bindings = told_bindings(alloc, table, m, &types, arm)?;
             Ok(EndingText::Took {
                 arm: arm.arm,
                 bindings,
@@ -94,31 +104,65 @@ fn told_bindings<'a>(
     alloc: Global,
     table: &TypeTable,
     m: &CheckedMatch<'a, TyId>,
+    types: &ArmTypes,
     arm: &HeldArm,
 ) -> Result<Vec<HeldText>, NoMemory>
     requires file { IsOfFile table.now }
     requires numbered { AreNumbered table.now (plain_match m.now) }
+    requires types { AreTypesIn (plain_match m.now) arm.now.arm types.now.types }
     ensures { IfOk result (λ v. map held_view v.items
         ≡ told_bindings table.now (plain_match m.now) (arm_view arm.now)) }
 {
     let mut all = Vec::with_capacity(alloc, arm.held.len())?;
     for held in &arm.held {
-        let ty = type_in(m, arm.arm, held.name.as_str());
+        let ty = type_among(&types.types, held.name.as_str(), m.ty);
         all.push(told_held(alloc, table, ty, held)?)?;
     }
     Ok(all)
 }
 
-// The type that a name has in the arm with this number; the scrutinee's, where the arm does not bind the name.
-fn type_in<'a>(m: &CheckedMatch<'a, TyId>, arm: u32, name: &str) -> TyId
-    ensures { result ≡ told_type (plain_match m.now) (slice_get (map plain_arm m.now.arms.now) arm) name.now }
+// The types of the names in the arm with this number: those at hand, if they are, or else new ones.
+fn types_for<'a>(
+    alloc: Global,
+    m: &CheckedMatch<'a, TyId>,
+    types: ArmTypes,
+    arm: u32,
+) -> Result<ArmTypes, NoMemory>
+    requires { AreTypesIn (plain_match m.now) types.arm types.types }
+    ensures arm { IfOk result (λ t. t.arm ≡ arm) }
+    ensures types { IfOk result (λ t. AreTypesIn (plain_match m.now) arm t.types) }
 {
-    match m.arms.get(arm as usize) {
-        Some(arm) => match type_of_bound(&arm.pat, name) {
-            Some(ty) => ty,
-            None => m.ty,
-        },
-        None => m.ty,
+    if types.arm == arm {
+        return Ok(types);
+    }
+    types_in(alloc, m, arm)
+}
+
+// The types of the names in the arm with this number.
+fn types_in<'a>(alloc: Global, m: &CheckedMatch<'a, TyId>, arm: u32) -> Result<ArmTypes, NoMemory>
+    ensures arm { IfOk result (λ t. t.arm ≡ arm) }
+    ensures types { IfOk result (λ t. AreTypesIn (plain_match m.now) arm t.types) }
+{
+    let Some(found) = m.arms.get(arm as usize) else {
+        return Ok(ArmTypes { arm, types: None });
+    };
+    let types = BoundTypes::new(alloc, &found.pat)?;
+    Ok(ArmTypes {
+        arm,
+        types: Some(types),
+    })
+}
+
+// The type of the name among these, or else the other.
+fn type_among(types: &Option<BoundTypes<TyId>>, name: &str, other: TyId) -> TyId
+    ensures { result ≡ type_noted other types.now name.now }
+{
+    let Some(types) = types else {
+        return other;
+    };
+    match types.get(name) {
+        Some(ty) => ty,
+        None => other,
     }
 }
 

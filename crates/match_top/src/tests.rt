@@ -1,4 +1,4 @@
-use crate::{Status, run};
+use crate::{Status, demo_source, run};
 use match_io::{MemoryFiles, MemorySink, SureFiles};
 use std::alloc::Global;
 use std::test::Fail;
@@ -171,16 +171,23 @@ const MANY_COLUMNS: &str =
     "fn f(x:(bool,bool,bool,bool,bool,bool,bool,bool,bool,bool)){match x{(true|false,true|false,\
     true|false,true|false,true|false,true|false,true|false,true|false,true|false,true|false)=>1}}";
 
+// Two ranges that have one number in common.
+const TOUCHING: &str = "fn f(x:u8){match x{0..=100=>1,100..=255=>2}}";
+
+const ONE_OVERLAP: &str = "{\"functions\":[{\"exhaustive\":true,\"name\":\"f\",\"overlaps\":[\
+    {\"at\":19,\"value\":\"100\",\"with\":30}],\"unreachable\":[],\"witnesses\":[]}]}\n";
+
 // A source, the room of the sink, the numbers of the writes that fail, the number of the status, what is written.
 type SourceRow = (&'static str, usize, &'static [u64], u8, &'static str);
 
-const SOURCES: [SourceRow; 11] = [
+const SOURCES: [SourceRow; 12] = [
     (TWO_OF_THREE, 4096, &[], 1, MISSING_C),
     (TWO_OF_THREE, 4096, &[2], 5, "{\"functions\":[{\""),
     (TWO_OF_THREE, 5, &[], 5, "{\"fun"),
     (PAIRS, 4096, &[], 1, MISSING_PAIRS),
     (FORMS, 4096, &[], 1, FORMS_JUDGED),
     (OTHER_FORMS, 4096, &[], 0, ALL_FORMS),
+    (TOUCHING, 4096, &[], 0, ONE_OVERLAP),
     (MANY_COLUMNS, 4096, &[], 0, ALL_FORMS),
     ("", 4096, &[], 0, "{\"functions\":[]}\n"),
     ("struct S;", 4096, &[], 0, "{\"functions\":[]}\n"),
@@ -275,5 +282,123 @@ fn outcomes_are_told_with_the_memory_that_they_want(rt: HostRuntime) -> Result<(
         assert_eq!(rt; status.number(), row.1, "status of outcome {i}");
         assert_eq!(rt; sink.bytes(), row.2.as_bytes(), "written for outcome {i}");
     }
+    Ok(())
+}
+
+// One call of the files alone fails: `begin`, the reads of at most 16 bytes, the read that finds the end. There is no seventh call.
+const READ_FAULTS: [(u64, u8, &str); 7] = [
+    (1, 4, ""),
+    (2, 4, ""),
+    (3, 4, ""),
+    (4, 4, ""),
+    (5, 4, ""),
+    (6, 4, ""),
+    (7, 1, MISSING_C),
+];
+
+// One write of at most 16 bytes alone fails. There is no tenth one.
+const WRITE_FAULTS: [(u64, u8, &str); 10] = [
+    (1, 5, ""),
+    (2, 5, "{\"functions\":[{\""),
+    (3, 5, "{\"functions\":[{\"exhaustive\":fals"),
+    (
+        4,
+        5,
+        "{\"functions\":[{\"exhaustive\":false,\"name\":\"f\",\"ov",
+    ),
+    (
+        5,
+        5,
+        "{\"functions\":[{\"exhaustive\":false,\"name\":\"f\",\"overlaps\":[],\"unre",
+    ),
+    (
+        6,
+        5,
+        "{\"functions\":[{\"exhaustive\":false,\"name\":\"f\",\"overlaps\":[],\"unreachable\":[],\"wit",
+    ),
+    (
+        7,
+        5,
+        "{\"functions\":[{\"exhaustive\":false,\"name\":\"f\",\"overlaps\":[],\"unreachable\":[],\"witnesses\
+        \":[{\"text\"",
+    ),
+    (
+        8,
+        5,
+        "{\"functions\":[{\"exhaustive\":false,\"name\":\"f\",\"overlaps\":[],\"unreachable\":[],\"witnesses\
+        \":[{\"text\":\"E::C\",\"tree\":[",
+    ),
+    (
+        9,
+        5,
+        "{\"functions\":[{\"exhaustive\":false,\"name\":\"f\",\"overlaps\":[],\"unreachable\":[],\"witnesses\
+        \":[{\"text\":\"E::C\",\"tree\":[\"node\",\"E::C\",[]",
+    ),
+    (10, 1, MISSING_C),
+];
+
+#[test]
+fn each_call_fails_in_turn(rt: HostRuntime) -> Result<(), Fail> {
+    let alloc = rt.alloc();
+    for (number, status, written) in READ_FAULTS {
+        let (found, bytes) = with_faults(alloc, &[number], &[])?;
+        assert_eq!(rt; found.number(), status, "call {number} of the files");
+        assert_eq!(rt;
+            bytes.bytes(),
+            written.as_bytes(),
+            "call {number} of the files"
+        );
+    }
+    for (number, status, written) in WRITE_FAULTS {
+        let (found, bytes) = with_faults(alloc, &[], &[number])?;
+        assert_eq!(rt; found.number(), status, "write {number}");
+        assert_eq!(rt; bytes.bytes(), written.as_bytes(), "write {number}");
+    }
+    Ok(())
+}
+
+// `check` on two arms of three, in pieces of at most 16 bytes, where these calls of the files and these writes fail.
+fn with_faults(alloc: Global, reads: &[u64], writes: &[u64]) -> Result<(Status, MemorySink), Fail> {
+    let words = texts(alloc, CHECK)?;
+    let mut named = Vec::new(alloc);
+    named.push((
+        String::from_str(alloc, "a")?,
+        TWO_OF_THREE.as_bytes().to_vec(alloc)?,
+    ))?;
+    let mut files = MemoryFiles::new(named, 16, reads.to_vec(alloc)?);
+    let mut sink = MemorySink::new(alloc, 4096, 16, writes.to_vec(alloc)?)?;
+    Ok((run(alloc, &words, &mut files, &mut sink), sink))
+}
+
+// The counts in the reports on generated files, by the number of their items: what is written, and the number of the status.
+const COUNTS: [(&str, &str, u8); 2] = [
+    (
+        "1",
+        "{\"arms\":5,\"exhaustive\":1,\"functions\":1,\"overlaps\":1,\"unreachable\":1,\"witnesses\":0}\n",
+        0,
+    ),
+    (
+        "10",
+        "{\"arms\":59,\"exhaustive\":5,\"functions\":10,\"overlaps\":10,\"unreachable\":4,\"witnesses\":5}\n",
+        1,
+    ),
+];
+
+#[test]
+fn generated_files_are_counted_with_the_memory_that_they_want(rt: HostRuntime) -> Result<(), Fail> {
+    let alloc = rt.alloc();
+    for (number, wanted, status) in COUNTS {
+        let words = texts(alloc, &["demo", number])?;
+        let mut files = one_file(alloc, NO_FILE, &[1])?;
+        let mut sink = MemorySink::new(alloc, 4096, 16, Vec::new(alloc))?;
+        let found = run(alloc, &words, &mut files, &mut sink);
+        assert_eq!(rt; found.number(), status, "status of demo {number}");
+        assert_eq!(rt; sink.bytes(), wanted.as_bytes(), "written by demo {number}");
+    }
+    let source = demo_source(alloc, 10)?;
+    let words = texts(alloc, CHECK)?;
+    let mut files = one_file(alloc, &source, &[])?;
+    let mut sink = MemorySink::new(alloc, 65_536, 4096, Vec::new(alloc))?;
+    assert_eq!(rt; run(alloc, &words, &mut files, &mut sink), Status::Found);
     Ok(())
 }

@@ -1,8 +1,13 @@
 // The words of the command line.
-ghost use Rattle.std.specs.Prelude.{◌≡◌, option_map};
+ghost use Rattle.std.specs.Prelude.{◌≡◌, Some, option_map};
+ghost use Rattle.std.specs.Option.{option_or};
 ghost use Rattle.std.specs.List.{list_all};
 ghost use Rattle.match_top.specs.Asked.{asked_view};
-ghost use Rattle.match_top.specs.Words.{form_of, form_with, report_of, evaluation_of, is_answer};
+ghost use Rattle.match_top.specs.Words.{ReportForm, answered_form, evaluation_of, form_of, form_with, is_answer};
+ghost use Rattle.match_top.specs.Words.{unanswered_form};
+ghost use Rattle.match_top.specs.OptionWords.{options_of};
+
+use crate::option_words::{Options, options_of};
 
 /// What is asked of all functions of a file.
 #[derive(Clone, Copy, Debug, PartialEq, Eq)]
@@ -23,11 +28,20 @@ pub(crate) struct Evaluation<'w> {
 
 /// What is asked of a file.
 #[derive(Clone, Copy)]
-pub(crate) enum Request<'w> {
+pub(crate) enum Question<'w> {
     /// The report on all functions.
     Report(Command),
     /// What the match of one function does with a value.
     Outcome(Evaluation<'w>),
+    /// The counts in the report that `check` has.
+    Counts,
+}
+
+/// What is asked of a file, and by which options the file is read.
+#[derive(Clone, Copy)]
+pub(crate) struct Request<'w> {
+    pub question: Question<'w>,
+    pub options: Options,
 }
 
 /// What the words ask for, and the file that they name.
@@ -41,66 +55,76 @@ pub(crate) struct Asked<'w> {
 pub(crate) fn asked_by(words: &[String]) -> Option<Asked<'_>>
     ensures { option_map asked_view result ≡ form_of words.now }
 {
-    match words {
-        [name, file] => report_named(name.as_str(), file.as_str()),
-        [name, file, function, value] => evaluation_named(
-            name.as_str(),
-            file.as_str(),
-            function.as_str(),
-            value.as_str(),
-            "",
-        ),
-        [name, file, function, value, answers] => evaluation_named(
-            name.as_str(),
-            file.as_str(),
+    let [name, file, behind @ ..] = words else {
+        return None;
+    };
+    match name.as_str() {
+        "check" => report_asked(Command::Check, file.as_str(), behind),
+        "trees" => report_asked(Command::Trees, file.as_str(), behind),
+        "eval" => outcome_asked(file.as_str(), behind),
+        _ => None,
+    }
+}
+
+// The report on a file, by the options behind it.
+fn report_asked<'w>(command: Command, file: &'w str, behind: &[String]) -> Option<Asked<'w>>
+    ensures { option_map asked_view result ≡ form_with (Some (ReportForm command)) file.now (options_of behind.now) }
+{
+    let options = options_of(behind)?;
+    Some(Asked {
+        request: Request {
+            question: Question::Report(command),
+            options,
+        },
+        file,
+    })
+}
+
+// The outcome that the words behind `eval` and a file ask for: of them an odd number begins with a function, a value and
+// answers, an even number with a function and a value alone.
+fn outcome_asked<'w>(file: &'w str, behind: &'w [String]) -> Option<Asked<'w>>
+    ensures { option_map asked_view result ≡ option_or (unanswered_form file.now behind.now) (answered_form file.now behind.now) }
+{
+    match behind {
+        [function, value, options @ ..] if options.len() % 2 == 0 => {
+            evaluation_asked(file, function.as_str(), value.as_str(), "", options)
+        }
+        [function, value, answers, options @ ..] => evaluation_asked(
+            file,
             function.as_str(),
             value.as_str(),
             answers.as_str(),
+            options,
         ),
         _ => None,
     }
 }
 
-// The report of this name.
-fn report_named<'w>(name: &str, file: &'w str) -> Option<Asked<'w>>
-    ensures { option_map asked_view result ≡ form_with (report_of name.now) file.now }
-{
-    let command = match name {
-        "check" => Command::Check,
-        "trees" => Command::Trees,
-        _ => return None,
-    };
-    Some(Asked {
-        request: Request::Report(command),
-        file,
-    })
-}
-
-// The outcome for a function, a value and the letters of answers, where this is its name and each letter is an answer.
-fn evaluation_named<'w>(
-    name: &str,
+// The outcome for a function, a value and the letters of answers, by options, where each letter is an answer.
+fn evaluation_asked<'w>(
     file: &'w str,
     function: &'w str,
     value: &'w str,
     answers: &'w str,
+    behind: &[String],
 ) -> Option<Asked<'w>>
     ensures { option_map asked_view result
-        ≡ form_with (evaluation_of name.now function.now value.now answers.now) file.now }
+        ≡ form_with (evaluation_of function.now value.now answers.now) file.now (options_of behind.now) }
 {
-    match name {
-        "eval" => {}
-        _ => return None,
-    }
     if !are_answers(answers) {
         return None;
     }
+    let options = options_of(behind)?;
     let evaluation = Evaluation {
         function,
         value,
         answers,
     };
     Some(Asked {
-        request: Request::Outcome(evaluation),
+        request: Request {
+            question: Question::Outcome(evaluation),
+            options,
+        },
         file,
     })
 }

@@ -6,10 +6,10 @@ use Rattle.serde_json.specs.View.{items_of}
 use Rattle.serde_json.specs.Written.{compact_text, items_text, members_text, comma_if}
 use Rattle.serde_json.proofs.OnLiterals.{serde_json_on_literals}
 use Rattle.verdict_json.specs.declared.report.ReportText.{ReportText}
-use Rattle.verdict_json.specs.Report.{ReportEntry, unreachable_data, with_tree, function_data, entry_data, report_data, report_text}
+use Rattle.verdict_json.specs.Report.{ReportEntry, overlap_entry, unreachable_data, with_tree, function_data, entry_data, report_data, report_text}
 use Rattle.verdict_json.specs.Trees.{ReportTree}
 use Rattle.witness_text.specs.Reported.{witnesses_data}
-use Rattle.witness_text.proofs.Adding.{two_added, five_added, six_added}
+use Rattle.witness_text.proofs.Adding.{two_added, five_added, seven_added}
 use Rattle.tree_text.specs.Trees.{NodeTree}
 use Rattle.tree_text.specs.Reported.{tree_data}
 use Rattle.verdict_json.specs.Writing.{flag_word, shown_tree_text, listed, is_behind, HasEntries}
@@ -84,8 +84,8 @@ last_members f =
 
 -- what is reported of a function, with the key of its tree behind the first members
 begun_written : (f : ReportTree) →
-    codes "{\"exhaustive\":" ++ (flag_word f.exhaustive ++ (codes ",\"name\":" ++ (compact_text (string f.name) ++ (codes ",\"overlaps\":[]"
-    ++ members_text true (with_tree f.tree (last_members f))))))
+    codes "{\"exhaustive\":" ++ (flag_word f.exhaustive ++ (codes ",\"name\":" ++ (compact_text (string f.name) ++ (codes ",\"overlaps\":["
+    ++ (items_text false (items_of (map overlap_entry f.overlaps)) ++ members_text true (with_tree f.tree (last_members f)))))))
     ≡ compact_text (function_data f)
 unfolding serde_json_on_literals
 begun_written f = refl
@@ -99,23 +99,24 @@ unfolding serde_json_on_literals
 last_written f = refl
 
 -- the pieces of what is reported of a function, one after the other, make its text
-pub function_written : (f : ReportTree) (x0 x1 x2 x3 x4 x5 x6 x7 x8 x9 x10 x11 : List ℕ)
+pub function_written : (f : ReportTree) (x0 x1 x2 x3 x4 x5 x6 x7 x8 x9 x10 x11 x12 : List ℕ)
     → x1 ≡ x0 ++ codes "{\"exhaustive\":"
     → x2 ≡ x1 ++ flag_word f.exhaustive
     → x3 ≡ x2 ++ codes ",\"name\":"
     → x4 ≡ x3 ++ compact_text (string f.name)
-    → x5 ≡ x4 ++ codes ",\"overlaps\":[]"
-    → x6 ≡ x5 ++ shown_tree_text f.tree
-    → x7 ≡ x6 ++ codes ",\"unreachable\":["
-    → x8 ≡ x7 ++ items_text false (items_of (map unreachable_data f.unreachable))
-    → x9 ≡ x8 ++ codes ",\"witnesses\":"
-    → x10 ≡ x9 ++ compact_text (witnesses_data f.witnesses)
-    → x11 ≡ x10 ++ 125 ∷ []
-    → x11 ≡ x0 ++ compact_text (function_data f)
-function_written f x0 x1 x2 x3 x4 x5 x6 x7 x8 x9 x10 x11 e1 e2 e3 e4 e5 e6 e7 e8 e9 e10 e11 =
+    → x5 ≡ x4 ++ codes ",\"overlaps\":["
+    → x6 ≡ x5 ++ items_text false (items_of (map overlap_entry f.overlaps))
+    → x7 ≡ x6 ++ shown_tree_text f.tree
+    → x8 ≡ x7 ++ codes ",\"unreachable\":["
+    → x9 ≡ x8 ++ items_text false (items_of (map unreachable_data f.unreachable))
+    → x10 ≡ x9 ++ codes ",\"witnesses\":"
+    → x11 ≡ x10 ++ compact_text (witnesses_data f.witnesses)
+    → x12 ≡ x11 ++ 125 ∷ []
+    → x12 ≡ x0 ++ compact_text (function_data f)
+function_written f x0 x1 x2 x3 x4 x5 x6 x7 x8 x9 x10 x11 x12 e1 e2 e3 e4 e5 e6 e7 e8 e9 e10 e11 e12 =
     let tree = shown_tree_text f.tree in
-    let last : x11 ≡ x6 ++ members_text true (last_members f) =
-    five_added x6 x7 x8 x9 x10 x11 _ _ _ _ _ e7 e8 e9 e10 e11 ∙ ap (λ z. x6 ++ z) (last_written f) in
-    let behind : x11 ≡ x5 ++ members_text true (with_tree f.tree (last_members f)) =
-    two_added x5 x6 x11 tree (members_text true (last_members f)) e6 last ∙ ap (λ z. x5 ++ z) (sym (tree_written f.tree (last_members f))) in
-    six_added x0 x1 x2 x3 x4 x5 x11 _ _ _ _ _ _ e1 e2 e3 e4 e5 behind ∙ ap (λ z. x0 ++ z) (begun_written f)
+    let last : x12 ≡ x7 ++ members_text true (last_members f) =
+    five_added x7 x8 x9 x10 x11 x12 _ _ _ _ _ e8 e9 e10 e11 e12 ∙ ap (λ z. x7 ++ z) (last_written f) in
+    let behind : x12 ≡ x6 ++ members_text true (with_tree f.tree (last_members f)) =
+    two_added x6 x7 x12 tree (members_text true (last_members f)) e7 last ∙ ap (λ z. x6 ++ z) (sym (tree_written f.tree (last_members f))) in
+    seven_added x0 x1 x2 x3 x4 x5 x6 x12 _ _ _ _ _ _ _ e1 e2 e3 e4 e5 e6 behind ∙ ap (λ z. x0 ++ z) (begun_written f)

@@ -5,3 +5,4 @@ pub mod Trees
 pub mod Writing
 pub mod OutcomeTrees
 pub mod Outcomes
+pub mod Summaries

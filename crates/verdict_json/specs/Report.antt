@@ -1,8 +1,9 @@
 -- The report on functions as JSON.
 use Rattle.std.specs.Prelude.{ℕ, List, [], ◌∷◌, ◌++◌, map, Option, Some, None, codes}
-use Rattle.serde_json.specs.Data.{Data, boolean, number, unsigned, string, array, object, no_items, Members, no_members, member}
+use Rattle.serde_json.specs.Data.{Data, boolean, number, unsigned, string, array, object, Members, no_members, member}
 use Rattle.serde_json.specs.View.{items_of}
 use Rattle.serde_json.specs.Written.{compact_text}
+use Rattle.match_model.specs.Overlaps.{MOverlap}
 use Rattle.tree_text.specs.Trees.{NodeTree}
 use Rattle.tree_text.specs.Reported.{tree_data}
 use Rattle.verdict_json.specs.declared.entry.Unreachable.{Unreachable}
@@ -10,7 +11,11 @@ use Rattle.verdict_json.specs.declared.refusal.Refusal.{Refusal}
 use Rattle.verdict_json.specs.Refused.{name_or_empty, refusal_data}
 use Rattle.verdict_json.specs.Rules.{name_of}
 use Rattle.verdict_json.specs.Trees.{ReportTree}
-use Rattle.witness_text.specs.Reported.{witnesses_data}
+use Rattle.witness_text.specs.Reported.{overlap_data, witnesses_data}
+
+-- an entry of the list of overlaps: where the two ranges begin, and their one common number
+abbrev pub overlap_entry : MOverlap → Data
+overlap_entry o = overlap_data o.first o.second o.number
 
 -- an entry of the unreachable list
 abbrev pub unreachable_data : Unreachable → Data
@@ -29,7 +34,7 @@ abbrev pub function_data : ReportTree → Data
 function_data f =
     object (member (codes "exhaustive") (boolean f.exhaustive)
     (member (codes "name") (string f.name)
-    (member (codes "overlaps") (array no_items)
+    (member (codes "overlaps") (array (items_of (map overlap_entry f.overlaps)))
     (with_tree f.tree
     (member (codes "unreachable") (array (items_of (map unreachable_data f.unreachable)))
     (member (codes "witnesses") (witnesses_data f.witnesses) no_members))))))

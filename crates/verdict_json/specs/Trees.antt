@@ -1,24 +1,33 @@
 -- What callers see of a report on a function: its values, without where they lie in memory.
 use Rattle.std.specs.Prelude.{ℕ, Bool, List, map, Option, option_map}
+use Rattle.match_model.specs.Overlaps.{MOverlap}
+use Rattle.range_split.specs.Numbers.{num_value}
 use Rattle.tree_text.specs.Trees.{NodeTree, node_view}
 use Rattle.verdict_json.specs.declared.entry.Unreachable.{Unreachable}
 use Rattle.verdict_json.specs.declared.report.FnReport.{FnReport}
 use Rattle.witness_text.specs.Trees.{WitnessTree, witness_view}
+use Rattle.witnesses.specs.declared.judgement.Overlap.{Overlap}
 
--- what is reported of a function of this name: whether its match is exhaustive, the nodes of its decision tree where it is
--- shown, the arms and alternatives to which no value comes, and what is missing
+-- what is reported of a function of this name: whether its match is exhaustive, the ranges that have one number in common,
+-- the nodes of its decision tree where it is shown, the arms and alternatives to which no value comes, and what is missing
 pub record ReportTree : Type 0 where
   pub name : List ℕ
   pub exhaustive : Bool
+  pub overlaps : List MOverlap
   pub tree : Option (List NodeTree)
   pub unreachable : List Unreachable
   pub witnesses : List WitnessTree
+
+-- two ranges that have one number in common
+abbrev pub overlap_view : Overlap → MOverlap
+overlap_view o = record { first = o.first; second = o.second; number = num_value o.value }
 
 -- a report on a function
 abbrev pub report_view : FnReport → ReportTree
 report_view r = record {
   name = r.name.now;
   exhaustive = r.exhaustive;
+  overlaps = map overlap_view r.overlaps.items;
   tree = option_map (λ nodes. map node_view nodes.items) r.tree;
   unreachable = r.unreachable.items;
   witnesses = map witness_view r.witnesses.items;

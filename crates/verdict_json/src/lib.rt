@@ -4,8 +4,8 @@
 //! one text, so that no entry but the one that is being written lies in memory as a whole. Each text is the text that
 //! `serde_json` gives for the value that `specs/Report.antt` states, byte for byte: `report_text` for the entries that
 //! were added, in their order, and `refusal_text` for a refusal that stands alone. Witnesses are written by `witness_text`,
-//! decision trees by `tree_text`. What a match does with one value (`OutcomeText`) has an output of its own, which
-//! `specs/Outcomes.antt` states.
+//! decision trees by `tree_text`. What a match does with one value (`OutcomeText`) and the counts of a generated file
+//! (`Summary`) have outputs of their own, which `specs/Outcomes.antt` and `specs/Summaries.antt` state.
 #![tactic(auto)]
 
 mod entry;
@@ -13,6 +13,7 @@ mod outcome;
 mod refusal;
 mod report;
 mod rules;
+mod summary;
 #[cfg(test)]
 mod tests;
 
@@ -21,3 +22,4 @@ pub use outcome::{AskedText, EndingText, HeldText, OutcomeText, outcome_bytes};
 pub use refusal::{Refusal, refusal_bytes};
 pub use report::{FnReport, ReportText};
 pub use rules::rule_name;
+pub use summary::{Summary, demo_bytes};

@@ -4,9 +4,9 @@ ghost use Rattle.serde_json.specs.Written.{compact_text, items_text};
 ghost use Rattle.serde_json.specs.View.{items_of};
 ghost use Rattle.tree_text.specs.Trees.{node_view};
 ghost use Rattle.verdict_json.specs.Report.{ReportEntry, JudgedFunction, RefusedFunction, report_text};
-ghost use Rattle.verdict_json.specs.Report.{function_data, unreachable_data};
+ghost use Rattle.verdict_json.specs.Report.{function_data, overlap_entry, unreachable_data};
 ghost use Rattle.verdict_json.specs.Rules.{IsRule};
-ghost use Rattle.verdict_json.specs.Trees.{report_view};
+ghost use Rattle.verdict_json.specs.Trees.{overlap_view, report_view};
 ghost use Rattle.verdict_json.specs.Writing.{HasEntries, flag_word, shown_tree_text};
 
 use crate::entry::{Unreachable, unreachable_entry};
@@ -14,7 +14,8 @@ use crate::refusal::{Refusal, refused_entry};
 use no_memory::NoMemory;
 use std::alloc::{AllocError, Global};
 use tree_text::{NamedNode, push_tree};
-use witness_text::{NamedWitness, push_comma, push_quoted, push_witnesses};
+use witness_text::{NamedWitness, push_comma, push_overlap, push_quoted, push_witnesses};
+use witnesses::Overlap;
 
 /// What is reported of a function.
 #[derive(Debug, Drop)]
@@ -23,6 +24,8 @@ pub struct FnReport<'a> {
     pub name: &'a str,
     /// Whether every value, all guards refusing, meets an arm.
     pub exhaustive: bool,
+    /// The pairs of range patterns that have exactly one number in common, ascending by their offsets and the number.
+    pub overlaps: Vec<Overlap>,
     /// The arms and alternatives that no value comes to, in reading order.
     pub unreachable: Vec<Unreachable>,
     /// The nodes of its decision tree, where it is shown; the root is the first.
@@ -54,6 +57,21 @@ fn push_unreachable(
             text.push(',')?;
         }
         text.push_str(unreachable_entry(alloc, entry)?.as_str())?;
+        later = true;
+    }
+    text.push(']')?;
+    Ok(())
+}
+
+// Adds the overlaps, with commas between them, and the bracket that closes them.
+fn push_overlaps(text: &mut String, overlaps: &[Overlap]) -> Result<(), NoMemory>
+    ensures { OnOk result (string_bytes text.new
+        ≡ string_bytes text.old ++ items_text false (items_of (map overlap_entry (map overlap_view overlaps.now)))) }
+{
+    let mut later = false;
+    for overlap in overlaps {
+        push_comma(text, later)?;
+        push_overlap(text, overlap.first, overlap.second, &overlap.value)?;
         later = true;
     }
     text.push(']')?;
@@ -93,7 +111,8 @@ fn push_function(alloc: Global, text: &mut String, report: &FnReport<'_>) -> Res
     text.push_str(flag_word(report.exhaustive))?;
     text.push_str(",\"name\":")?;
     push_quoted(alloc, text, report.name)?;
-    text.push_str(",\"overlaps\":[]")?;
+    text.push_str(",\"overlaps\":[")?;
+    push_overlaps(text, &report.overlaps)?;
     push_shown_tree(alloc, text, &report.tree)?;
     text.push_str(",\"unreachable\":[")?;
     push_unreachable(alloc, text, &report.unreachable)?;

@@ -1,17 +1,20 @@
 // The texts as the specification of the output gives them.
 use crate::{
-    AskedText, EndingText, FnReport, HeldText, OutcomeText, Refusal, ReportText, Unreachable,
-    outcome_bytes, refusal_bytes, rule_name,
+    AskedText, EndingText, FnReport, HeldText, OutcomeText, Refusal, ReportText, Summary,
+    Unreachable, demo_bytes, outcome_bytes, refusal_bytes, rule_name,
 };
 use match_model::Mode;
+use range_split::Num;
 use std::alloc::Global;
 use std::test::Fail;
 use witness_text::{FormName, NamedWitness};
+use witnesses::Overlap;
 
 const EMPTY: &[u8] = b"{\"functions\":[]}\n";
 
 const THREE: &[u8] = b"{\"functions\":[\
-{\"exhaustive\":true,\"name\":\"f\",\"overlaps\":[],\"unreachable\":[\
+{\"exhaustive\":true,\"name\":\"f\",\"overlaps\":[\
+{\"at\":19,\"value\":\"100\",\"with\":30},{\"at\":19,\"value\":\"-7\",\"with\":4294967297}],\"unreachable\":[\
 {\"arm\":2,\"at\":34,\"whole\":true},{\"arm\":3,\"at\":4294967296,\"whole\":false}],\"witnesses\":[]},\
 {\"exhaustive\":false,\"name\":\"g\",\"overlaps\":[],\"unreachable\":[],\"witnesses\":[\
 {\"text\":\"E::C\",\"tree\":[\"node\",\"E::C\",[]]},{\"text\":\"false\",\"tree\":[\"flag\",false]}]},\
@@ -40,6 +43,7 @@ fn with_refused(alloc: Global) -> Result<Vec<u8>, Fail> {
     let judged = FnReport {
         name: "g",
         exhaustive: true,
+        overlaps: Vec::new(alloc),
         unreachable: Vec::new(alloc),
         tree: None,
         witnesses: Vec::new(alloc),
@@ -61,10 +65,21 @@ fn three(alloc: Global) -> Result<Vec<u8>, Fail> {
     let mut first = FnReport {
         name: "f",
         exhaustive: true,
+        overlaps: Vec::new(alloc),
         unreachable: Vec::new(alloc),
         tree: None,
         witnesses: Vec::new(alloc),
     };
+    first.overlaps.push(Overlap {
+        first: 19,
+        second: 30,
+        value: Num::new(false, 100),
+    })?;
+    first.overlaps.push(Overlap {
+        first: 19,
+        second: 4294967297,
+        value: Num::new(true, 7),
+    })?;
     first.unreachable.push(Unreachable {
         arm: 2,
         at: 34,
@@ -78,6 +93,7 @@ fn three(alloc: Global) -> Result<Vec<u8>, Fail> {
     let mut second = FnReport {
         name: "g",
         exhaustive: false,
+        overlaps: Vec::new(alloc),
         unreachable: Vec::new(alloc),
         tree: None,
         witnesses: Vec::new(alloc),
@@ -90,6 +106,7 @@ fn three(alloc: Global) -> Result<Vec<u8>, Fail> {
     let mut third = FnReport {
         name: "h",
         exhaustive: false,
+        overlaps: Vec::new(alloc),
         unreachable: Vec::new(alloc),
         tree: None,
         witnesses: Vec::new(alloc),
@@ -170,5 +187,46 @@ fn outcomes(rt: HostRuntime) -> Result<(), Fail> {
         ending: EndingText::Missed,
     };
     assert_eq!(rt; outcome_bytes(alloc, &missed)?.as_slice(), MISSED);
+    Ok(())
+}
+
+const TEN: &[u8] =
+    b"{\"arms\":59,\"exhaustive\":5,\"functions\":10,\"overlaps\":10,\"unreachable\":4,\"witnesses\":5}\n";
+
+#[test]
+fn counts(rt: HostRuntime) -> Result<(), Fail> {
+    let ten = Summary {
+        arms: 59,
+        exhaustive: 5,
+        functions: 10,
+        overlaps: 10,
+        unreachable: 4,
+        witnesses: 5,
+    };
+    assert_eq!(rt; demo_bytes(rt.alloc(), &ten)?.as_slice(), TEN);
+    Ok(())
+}
+
+#[test]
+fn counted(rt: HostRuntime) -> Result<(), Fail> {
+    let alloc = rt.alloc();
+    let judged = FnReport {
+        name: "f",
+        exhaustive: true,
+        overlaps: Vec::new(alloc),
+        unreachable: Vec::new(alloc),
+        tree: None,
+        witnesses: Vec::new(alloc),
+    };
+    let two = Summary::new().with_judged(3, &judged)?.with_refused(4)?;
+    let expected = Summary {
+        arms: 7,
+        exhaustive: 1,
+        functions: 2,
+        overlaps: 0,
+        unreachable: 0,
+        witnesses: 0,
+    };
+    assert_eq!(rt; two, expected);
     Ok(())
 }

@@ -1,9 +1,7 @@
 use Rattle.std.proofs.Common.{◌^◌, subst, sym}
 use Rattle.decl_syntax.specs.Functions.{function_view}
-use Rattle.match_model.specs.declared.Width.TheVariants.{Endless}
 use Rattle.pat_context.specs.Views.{is_sure}
 use Rattle.pattern_arena.specs.Trees.{plain_match}
-use Rattle.tree_eval.specs.Nodes.{tree_nodes}
 use Rattle.tree_eval.specs.Views.{plain_value}
 use Rattle.type_table.specs.Tables.{table_program, table_type}
 use Rattle.value_text.specs.Reading.{IsUnreadValue}
@@ -19,7 +17,7 @@ pub read_value-requires-clause-of : goal.read_value-requires-clause-of
 read_value-requires-clause-of c = c.in_ok-m.ensures.type_is
 
 pub read_value-requires-clause-file : goal.read_value-requires-clause-file
-read_value-requires-clause-file c = (items_in c.args.source.now, Endless, c.requires.fine.sound.table_is)
+read_value-requires-clause-file c = (items_in c.args.source.now, c.args.source.now.options.width, c.requires.fine.sound.table_is)
 
 pub refused_at-requires : goal.refused_at-requires
 refused_at-requires c =

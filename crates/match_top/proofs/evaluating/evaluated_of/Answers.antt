@@ -1,6 +1,5 @@
 use Rattle.std.proofs.Common.{refl, sym, ap, subst}
 use Rattle.decl_syntax.specs.Functions.{function_view}
-use Rattle.match_model.specs.declared.Width.TheVariants.{Endless}
 use Rattle.pattern_rules.specs.Faults.{IsFirstPatternFault}
 use Rattle.verdict_json.specs.Rules.{IsRule}
 use Rattle.verdict_json.specs.declared.refusal.Refusal.{Refusal}
@@ -12,7 +11,7 @@ use Rattle.match_top.proofs.RuleNames.{fault_is_named}
 use Rattle.match_top.proofs.evaluating.evaluated_of.Goals as goal
 
 pub first_fault-requires : goal.first_fault-requires
-first_fault-requires c = (items_in c.args.source.now, Endless, c.requires.sound.table_is)
+first_fault-requires c = (items_in c.args.source.now, c.args.source.now.options.width, c.requires.sound.table_is)
 
 pub refused-requires : goal.refused-requires
 refused-requires c =

@@ -1,5 +1,4 @@
 use Rattle.std.proofs.Common.{◌∙◌, ap}
-use Rattle.match_model.specs.declared.Width.TheVariants.{Endless}
 use Rattle.pattern_arena.specs.Trees.{plain_match}
 use Rattle.tree_eval.specs.Nodes.{tree_nodes}
 use Rattle.tree_eval.specs.Views.{plain_value}
@@ -19,7 +18,7 @@ pub selected-requires-clause-forward : goal.selected-requires-clause-forward
 selected-requires-clause-forward c = c.requires.ready.1.tree_is.good.forward
 
 pub told-requires-clause-file : goal.told-requires-clause-file
-told-requires-clause-file c = (items_in c.args.source.now, Endless, c.requires.ready.1.match_is.table_is)
+told-requires-clause-file c = (items_in c.args.source.now, c.args.source.now.options.width, c.requires.ready.1.match_is.table_is)
 
 pub told-requires-clause-numbered : goal.told-requires-clause-numbered
 told-requires-clause-numbered c =

@@ -1,5 +1,4 @@
 use Rattle.decl_syntax.specs.Functions.{function_view}
-use Rattle.match_model.specs.declared.Width.TheVariants.{Endless}
 use Rattle.pattern_arena.specs.Trees.{plain_match}
 use Rattle.pattern_elaboration.specs.Arms.{IsMatchMade}
 use Rattle.pattern_rules.specs.ShownMatches.{IsShownMatch}
@@ -9,7 +8,7 @@ use Rattle.match_top.proofs.Matches.{is_match_of, sound_arm}
 use Rattle.match_top.proofs.judging.match_of.Goals as goal
 
 pub elaborate-requires : goal.elaborate-requires
-elaborate-requires c = (items_in c.args.source.now, Endless, c.requires.fine.sound.table_is)
+elaborate-requires c = (items_in c.args.source.now, c.args.source.now.options.width, c.requires.fine.sound.table_is)
 
 pub unreachable-requires : goal.unreachable-requires
 unreachable-requires c =

@@ -1,6 +1,7 @@
-use Rattle.std.proofs.Common.{refl, sym, ap, subst}
+use Rattle.std.proofs.Common.{refl, sym, ap, subst, arith}
+use Rattle.std.proofs.lemmas.List.{length-map}
+use Rattle.decl_syntax.specs.Items.{arm_view}
 use Rattle.decl_syntax.specs.Functions.{function_view}
-use Rattle.match_model.specs.declared.Width.TheVariants.{Endless}
 use Rattle.pattern_rules.specs.Faults.{IsFirstPatternFault}
 use Rattle.verdict_json.specs.Rules.{IsRule}
 use Rattle.verdict_json.specs.declared.refusal.Refusal.{Refusal}
@@ -11,7 +12,7 @@ use Rattle.match_top.proofs.RuleNames.{fault_is_named}
 use Rattle.match_top.proofs.reporting.add_function.Goals as goal
 
 pub first_fault-requires : goal.first_fault-requires
-first_fault-requires c = (items_in c.args.source.now, Endless, c.requires.sound.table_is)
+first_fault-requires c = (items_in c.args.source.now, c.args.source.now.options.width, c.requires.sound.table_is)
 
 pub add_refused-requires : goal.add_refused-requires
 add_refused-requires c =
@@ -20,7 +21,7 @@ add_refused-requires c =
     let told : IsFirstPatternFault (setting_in x) (function_view c.args.f.now) c.in-Some.fault.rule c.in-Some.fault.arm c.in-Some.fault.at =
     rw c.in-Some.is at c.in_ok-fault.ensures.found (setting_in x) at.item c.requires.sound.table_is refl at.there at.is in
     let named : IsRule c.in-Some.fault.rule = fault_is_named (setting_in x) (function_view c.args.f.now) _ _ _ told in
-    subst IsRule (sym (ap (λ (r : Refusal). r.rule) c.refusal_of.ensures)) named
+    subst IsRule (sym (ap (λ (r : Refusal). r.rule) c.refusal_of-refusal.ensures)) named
 
 pub returns-in-Some : goal.returns-in-Some
 returns-in-Some c = λ fs h.
@@ -28,14 +29,15 @@ returns-in-Some c = λ fs h.
     let at = c.requires.there in
     let told : IsFirstPatternFault (setting_in x) (function_view c.args.f.now) c.in-Some.fault.rule c.in-Some.fault.arm c.in-Some.fault.at =
     rw c.in-Some.is at c.in_ok-fault.ensures.found (setting_in x) at.item c.requires.sound.table_is refl at.there at.is in
-    c.add_refused.ensures c.args.command (items_in x) fs (numbered c.args.number (function_view c.args.f.now)) h
+    c.add_refused.ensures c.args.command (setting_in x) fs (numbered c.args.number (function_view c.args.f.now)) h
     (is_refused (record {
       rule = c.in-Some.fault.rule;
       arm = c.in-Some.fault.arm;
       at = c.in-Some.fault.at;
       fault = told;
-      tells = same_refusal _ _ _ _ c.as_str.ensures.value c.refusal_of.ensures;
+      tells = same_refusal _ _ _ _ c.as_str.ensures.value c.refusal_of-refusal.ensures;
     }))
+    (omega (arith, length-map c.args.f.now.arms.items arm_view, c.len.ensures))
 
 pub add_judged-requires-clause-fine : goal.add_judged-requires-clause-fine
 add_judged-requires-clause-fine c =

@@ -23,6 +23,9 @@ tree_of-requires-clause-few c =
 pub tree_of-requires-clause-shown : goal.tree_of-requires-clause-shown
 tree_of-requires-clause-shown c = (function_view c.args.f.now, c.in_ok-m.ensures)
 
+pub overlaps_on-requires : goal.overlaps_on-requires
+overlaps_on-requires c = (function_view c.args.f.now, c.in_ok-m.ensures)
+
 pub add_found-requires-clause-of : goal.add_found-requires-clause-of
 add_found-requires-clause-of c = c.in_ok-m.ensures.type_is
 
@@ -36,5 +39,6 @@ returns c = λ fs h.
       fine = c.requires.fine;
       type_is = c.in_ok-m.ensures.shown.type_is;
       verdict = c.in_ok-verdict_on.ensures f c.in_ok-m.ensures;
+      overlaps_are = c.in_ok-overlaps.ensures f c.in_ok-m.ensures;
       tree_is = c.in_ok-tree_of.ensures f c.in_ok-m.ensures;
     })

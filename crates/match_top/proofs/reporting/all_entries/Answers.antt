@@ -2,7 +2,7 @@ use Rattle.std.proofs.Common.{◌≡◌, ◌^◌, map, take, subst, List, Some}
 use Rattle.std.specs.Prelude.{slice_get}
 use Rattle.decl_syntax.specs.Items.{ItemTree, item_view}
 use Rattle.match_top.specs.Reports.{functions_of}
-use Rattle.match_top.specs.Reporting.{items_in}
+use Rattle.match_top.specs.Reporting.{setting_in}
 use Rattle.match_top.proofs.Entries.{few_here, reports_more, there_at}
 use Rattle.match_top.proofs.reporting.all_entries.Goals as goal
 
@@ -16,6 +16,6 @@ add_item-requires-clause-few c = few_here c.args.items.now c.loop-number.number 
 
 pub loop-number-preserved : goal.loop-number-preserved
 loop-number-preserved c =
-    reports_more c.args.command (items_in c.args.source.now) c.args.items.now c.loop-number.number c.index-items-number.result c.in_ok-so_far.so_far
+    reports_more c.args.command (setting_in c.args.source.now) c.args.items.now c.loop-number.number c.index-items-number.result c.in_ok-so_far.so_far
     c.loop-number-test.true c.index-items-number.is
     (c.in_ok-so_far.ensures (functions_of (map item_view (take c.loop-number.number c.args.items.now))) c.loop-number.invariant)

@@ -1,35 +1,50 @@
-use Rattle.std.proofs.Common.{◌≡◌, Some, subst, sym, List, ℕ, rules}
-use Rattle.match_top.specs.Answers.{Answers, taken}
-use Rattle.match_top.specs.Asked.{asked_view}
-use Rattle.match_top.specs.Words.{Form, form_of}
-use Rattle.std.specs.Io.KnownBytes.{Appends}
-use Rattle.match_top.specs.Writing.{AppendsPart}
-use Rattle.match_top.proofs.Answered.{taken_whole}
-use Rattle.match_top.proofs.Forms.{form_read}
+use Rattle.std.proofs.Common.{◌≡◌, ℕ, refl, subst}
+use Rattle.demo_file.specs.Generated.{demo_file}
+use Rattle.match_top.specs.Answers.{Answers}
+use Rattle.match_top.specs.DemoWords.{IsDemo, counts_request}
+use Rattle.match_top.proofs.Forms.{demo_or_form, no_number_is, same_number}
 use Rattle.match_top.proofs.top.run.Goals as goal
 
-pub returns-clause-part : goal.returns-clause-part
-returns-clause-part g c = λ _ form bytes formed told.
-    let is : asked_view c.in-Some.asked ≡ form = form_read c.in-Some.asked form (form_of c.args.words.now) c.in-Some.ensures formed in
-    let there : g.F.Files.holds c.args.files.now c.in-Some.asked.file.now ≡ Some bytes =
-    subst (λ (x : Form). g.F.Files.holds c.args.files.now x.file ≡ Some bytes) (sym is) told in
-    let same : c.deref.result.now ≡ taken bytes = search rules in
-    let text : c.deref-2.result.now ≡ c.in-Ok-answer_to.answer.text.items = search rules in (
-      c.in-Ok-answer_to.answer.text.items,
-      c.in-Ok-answer_to.answer.status,
-      subst (λ (x : Form). Answers x.request bytes c.in-Ok-answer_to.answer.text.items c.in-Ok-answer_to.answer.status) is
-          (c.in-Ok-answer_to.ensures.answers bytes same),
-      subst (λ (z : List ℕ). AppendsPart (g.K.Sink.written c.args.sink.now) (g.K.Sink.written c.write_text.new.sink) z) text c.in-Err.ensures.part,
-    )
+-- `demo N`
+pub returns-in-Some-clause-words : goal.returns-in-Some-clause-words
+returns-in-Some-clause-words g c =
+    let here : IsDemo c.args.words.now c.in-Some.n = (c.in-Some.ensures.number c.in-Some.n).0 refl in
+    (λ e. absurd (c.run_on_demo.ensures.words e), λ none. absurd (none.1 c.in-Some.n here))
 
-pub returns-in-Ok-write_text-clause-seen : goal.returns-in-Ok-write_text-clause-seen
-returns-in-Ok-write_text-clause-seen g c = λ verdict form formed.
-    let is : asked_view c.in-Some.asked ≡ form = form_read c.in-Some.asked form (form_of c.args.words.now) c.in-Some.ensures formed in
-    let whole : c.deref.result.now ≡ taken c.deref.result.now = taken_whole c.deref.result.now (search rules) in
-    let text : c.deref-2.result.now ≡ c.in-Ok-answer_to.answer.text.items = search rules in (
-      c.deref.result.now,
-      c.in-Ok-answer_to.answer.text.items,
-      subst (λ (x : Form). Answers x.request c.deref.result.now c.in-Ok-answer_to.answer.text.items c.in-Ok-answer_to.answer.status) is
-          (c.in-Ok-answer_to.ensures.answers c.deref.result.now whole),
-      subst (λ (z : List ℕ). Appends (g.K.Sink.written c.args.sink.now) (g.K.Sink.written c.write_text.new.sink) z) text c.in-Ok-write_text.ensures.whole,
-    )
+pub returns-in-Some-clause-part : goal.returns-in-Some-clause-part
+returns-in-Some-clause-part g c = λ _ form bytes formed told. demo_or_form c.args.words.now c.in-Some.n form ((c.in-Some.ensures.number c.in-Some.n).0 refl) formed
+
+pub returns-in-Some-clause-whole : goal.returns-in-Some-clause-whole
+returns-in-Some-clause-whole g c = λ _ form bytes formed told. demo_or_form c.args.words.now c.in-Some.n form ((c.in-Some.ensures.number c.in-Some.n).0 refl) formed
+
+pub returns-in-Some-clause-seen : goal.returns-in-Some-clause-seen
+returns-in-Some-clause-seen g c = λ _ form formed. demo_or_form c.args.words.now c.in-Some.n form ((c.in-Some.ensures.number c.in-Some.n).0 refl) formed
+
+pub returns-in-Some-clause-demo_part : goal.returns-in-Some-clause-demo_part
+returns-in-Some-clause-demo_part g c = λ fault n asked.
+    let same : c.in-Some.n ≡ n = same_number c.in-Some.n n ((c.in-Some.ensures.number n).1 asked) in
+    let there = c.run_on_demo.ensures.part fault in
+    (there.0, there.1, subst (λ (m : ℕ). Answers counts_request (demo_file m) there.0 there.1) same there.2, there.3)
+
+pub returns-in-Some-clause-demo_whole : goal.returns-in-Some-clause-demo_whole
+returns-in-Some-clause-demo_whole g c = λ verdict n asked.
+    let same : c.in-Some.n ≡ n = same_number c.in-Some.n n ((c.in-Some.ensures.number n).1 asked) in
+    let there = c.run_on_demo.ensures.whole verdict in
+    (there.0, subst (λ (m : ℕ). Answers counts_request (demo_file m) there.0 c.run_on_demo.result) same there.1, there.2)
+
+-- any other words
+pub returns-in-None-clause-words : goal.returns-in-None-clause-words
+returns-in-None-clause-words g c =
+    (λ e. (c.run_on_file.ensures.words.0 e, λ n asked. no_number_is n ((c.in-None.ensures.number n).1 asked)), λ none. c.run_on_file.ensures.words.1 none.0)
+
+pub returns-in-None-clause-demo_files : goal.returns-in-None-clause-demo_files
+returns-in-None-clause-demo_files g c = λ n asked. no_number_is n ((c.in-None.ensures.number n).1 asked)
+
+pub returns-in-None-clause-demo_decided : goal.returns-in-None-clause-demo_decided
+returns-in-None-clause-demo_decided g c = λ n asked. no_number_is n ((c.in-None.ensures.number n).1 asked)
+
+pub returns-in-None-clause-demo_part : goal.returns-in-None-clause-demo_part
+returns-in-None-clause-demo_part g c = λ _ n asked. no_number_is n ((c.in-None.ensures.number n).1 asked)
+
+pub returns-in-None-clause-demo_whole : goal.returns-in-None-clause-demo_whole
+returns-in-None-clause-demo_whole g c = λ _ n asked. no_number_is n ((c.in-None.ensures.number n).1 asked)

@@ -1,0 +1,2 @@
+pub mod ArmLists
+pub mod Pieces

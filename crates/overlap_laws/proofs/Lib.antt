@@ -1,0 +1,5 @@
+pub mod Candidates
+pub mod SameSpans
+pub mod SomeList
+pub mod SomeOverlaps
+pub mod Written

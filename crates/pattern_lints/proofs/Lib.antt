@@ -1,0 +1,27 @@
+pub mod Matched
+pub mod AlongWays
+pub mod HeadParts
+pub mod PieceHeads
+pub mod PartsCommon
+pub mod RowLengths
+pub mod Leaves
+pub mod AlongSteps
+pub mod Sizes
+pub mod Told
+pub mod Touches
+pub mod PlacedMeets
+pub mod Decided
+pub mod Numbered
+pub mod SpotLaws
+pub mod Tries
+pub mod OneSpan
+pub mod Middle
+pub mod Noting
+pub mod Walking
+pub mod Arms
+pub mod LowList
+pub mod LowOrder
+pub mod OverlapOrder
+pub mod PairList
+pub mod Whole
+mod FlagMatch

@@ -1,0 +1,9 @@
+pub mod Views
+pub mod Along
+pub mod Meeting
+pub mod Lengths
+pub mod Spots
+pub mod Pairs
+pub mod Finding
+pub mod Lows
+pub mod Pairing

@@ -1,0 +1,1 @@
+fn f(x:usize){match x{_ if g()=>1,_=>2}}

@@ -1,0 +1,1 @@
+fn f(x:&(usize,u8)){match x{(0..=65535,mut a)=>1}}

@@ -1,0 +1,1 @@
+fn f(x:&(u8,&u8)){match x{(mut a,&b)=>1}}

@@ -1,0 +1,1 @@
+fn f(x:usize){match x{_=>1}}

@@ -1,0 +1,1 @@
+fn f(x:&Option<u8>){match x{Some(ref y)=>1,_=>2}}

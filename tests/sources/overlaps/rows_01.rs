@@ -1,0 +1,17 @@
+fn the_same_item_from_the_front(x:&[u8]){match x{[0..=5,..]=>1,[5..=9]=>2,_=>3}}
+fn the_same_item_from_the_back(x:&[u8]){match x{[..,0..=5]=>1,[..,5..=9]=>2,_=>3}}
+fn the_first_item_is_the_last_of_a_row_of_one(x:&[u8]){match x{[0..=5,..]=>1,[..,5..=9]=>2,_=>3}}
+fn from_the_front_and_from_the_back_of_a_row_of_three(x:&[u8]){match x{[_,_,0..=5]=>1,[..,5..=9,_]=>2,[..,5..=7]=>3,_=>4}}
+fn the_second_from_the_front_and_from_the_back(x:&[u8]){match x{[_,0..=5,..]=>1,[..,5..=9,_]=>2,_=>3}}
+fn lengths_that_differ(x:&[u8]){match x{[0..=5]=>1,[5..=9,_]=>2,_=>3}}
+fn a_row_too_long_for_that_item(x:&[u8]){match x{[0..=5,_,..]=>1,[..,5..=9]=>2,_=>3}}
+fn other_items_that_do_not_meet(x:&[u8]){match x{[0..=5,1,..]=>1,[5..=9,2,..]=>2,_=>3}}
+fn other_items_that_meet_in_a_longer_row(x:&[u8]){match x{[0..=5,1,..]=>1,[5..=9,..,2]=>2,_=>3}}
+fn other_items_that_meet_in_no_row(x:&[u8]){match x{[0..=5,1]=>1,[5..=9,..,2]=>2,_=>3}}
+fn one_pair_at_two_items(x:&[u8]){match x{[0..=5,0..=5]=>1,[5..=9,..]=>2,[..,5..=9]=>3,_=>4}}
+fn of_an_array(x:[u8;3]){match x{[0..=5,..]=>1,[5..=9,_,_]=>2,_=>3}}
+fn the_middle_of_an_array_from_both_sides(x:[u8;3]){match x{[_,0..=5,..]=>1,[..,5..=9,_]=>2,_=>3}}
+fn ends_of_a_long_array(x:[u8;4000000000]){match x{[0..=5,..]=>1,[..,5..=9]=>2,[5..=7,..,0..=5]=>3,_=>4}}
+fn with_a_name_for_the_rest(x:&[u8]){match x{[0..=5,a@..]=>1,[5..=9,a@..,_]=>2,_=>3}}
+fn rows_of_rows(x:&[[u8;2]]){match x{[[0..=5,_],..]=>1,[..,[5..=9,0]]=>2,_=>3}}
+fn of_one_arm(x:&[u8]){match x{[0..=5,..]|[..,5..=9]=>1,_=>2}}
