@@ -256,7 +256,7 @@ module _ {T : Type 0} (IsType : T → Type 0) (IsValue : T → Bool → MValue �
 
       rows : (r : MShape) → ctor_of p ≡ RowCtor r → Decided (PiecesMeet IsValue cx t sure (Some p) g spot)
       rows r e =
-          let l = tried_lengths (cx.set_of t) (Some p) g in
+          let l = tried_lengths (cx.set_of t) spot (Some p) g in
           by_iff ((n : ℕ) × (l.0 ≤ n) × (n < l.0 + l.1) × RowsMeet IsValue cx t sure (Some p) g spot n) (PiecesMeet IsValue cx t sure (Some p) g spot)
           (λ x. pieces_of_rows IsType IsValue cx values parts t sure (Some p) g spot x.0 x.3)
           (λ x. let z = rows_of_pieces IsType IsValue cx values parts t sure (Some p) g spot r e x in

@@ -1,5 +1,5 @@
 -- Rows that two patterns match, by their length; longer ones than those tried add nothing.
-use Rattle.std.proofs.Common.{◌≡◌, ◌<◌, ◌≤◌, ◌⊎◌, inl, inr, ℕ, ◌+◌, ◌-◌, max, Bool, true, false, List, length, cond, nat_eq, nat_lt, Some, None, IsTrue, refl, sym, ap, ◌∙◌, subst, arith}
+use Rattle.std.proofs.Common.{◌≡◌, ◌<◌, ◌≤◌, ◌⊎◌, inl, inr, ℕ, ◌+◌, ◌-◌, max, Bool, true, false, List, length, slice_get, cond, nat_eq, nat_lt, Some, None, IsTrue, refl, sym, ap, ◌∙◌, subst, arith}
 use Rattle.std.proofs.lemmas.Bool.{cases_lt}
 use Rattle.match_model.specs.Values.{MValue}
 use Rattle.match_model.specs.Constructors.{MShape, FixedShape, LongerShape, least_length, MCtor, SingleCtor, PointCtor, LaterCtor, OtherTextCtor, WildCtor, OrCtor, VariantCtor, FlagCtor, NumbersCtor, TextCtor, RowCtor, MSet, SingleSet, PointSet, FlagSet, TextSet, OpaqueSet, NothingSet, VariantSet, NumberSet, RowSet, Elementary, OneLength, elementary_ctor, is_of_set, belongs, has_piece}
@@ -8,9 +8,9 @@ use Rattle.match_model.specs.ContextLaws.{ValuesLaw, PartsLaw, parts_count}
 use Rattle.match_model.specs.ArenaPatterns.{MDePat, ctor_of, subs_of}
 use Rattle.match_model.specs.WellTyped.{IsTyped, IsHeadTyped}
 use Rattle.match_model.specs.Rows.{Head}
-use Rattle.match_model.proofs.Basics.{nat_equal, nat_itself, untrue}
+use Rattle.match_model.proofs.Basics.{both, nat_equal, nat_itself, untrue}
 use Rattle.pattern_lints.specs.Meeting.{head_matches, head_ctor, IsSharp, Common, head_by, part_head, place_of, front_by, back_by, head_front, head_back, AllMeet, Skipped, Spot, Stands, spot_part, PiecesMeet, RowsMeet}
-use Rattle.pattern_lints.specs.Lengths.{tried_lengths, IsSharpHead, HasSub, IsSpotOf}
+use Rattle.pattern_lints.specs.Lengths.{is_longer, leaves_room, greatest_alone, slice_lengths, tried_lengths, IsSharpHead, HasSub, IsSpotOf}
 use Rattle.pattern_lints.proofs.HeadParts.{lt_true, lt_false, is_lt, not_lt, is_le, le_true}
 use Rattle.pattern_lints.proofs.PieceHeads.{SharpTyped, typed_sharp, length_belongs}
 use Rattle.pattern_lints.proofs.PartsCommon.{settled}
@@ -97,6 +97,60 @@ stand_shorter c d F B n i j l (inr x) (inr y) e =
     let b : x.0 ≤ B = x.2 in
     let same : x.0 ≡ y.0 = omega (arith, z, a, b, l) in
     x.3 (F + B) (omega arith) ∙ ap (λ (k : ℕ). F + B - k) same ∙ sym (y.3 (F + B) (omega arith))
+
+-- the same item of a shorter row: those at the front stay, those at the back move
+abbrev squeeze : (F B n k : ℕ) → ℕ
+squeeze F B n k = cond (nat_lt k F) k (k - (F + B - n))
+
+squeeze_below : (F B n k : ℕ) → F ≤ n → B ≤ n → n ≤ F + B → k < F + B → squeeze F B n k < n
+squeeze_below F B n k u w l h = go (nat_lt k F) refl
+  where
+    go : (t : Bool) → nat_lt k F ≡ t → cond t k (k - (F + B - n)) < n
+    go true t = let below : k < F = lt_true k F t in omega (arith, below, u)
+    go false t = let past : F ≤ k = lt_false k F t in omega (arith, past, u, w, l, h)
+
+-- a pattern with a rest has none for an item of the longer row, or the one that it has for that of the shorter row
+wider_same : {T : Type 0} (f b F B n k : ℕ) (ps : List (MDePat T)) → f ≤ F → b ≤ B → f + b ≤ n → F ≤ n → B ≤ n → n ≤ F + B → k < F + B →
+    (head_by (RowCtor (LongerShape f b)) ps (F + B) k ≡ None)
+    ⊎ (head_by (RowCtor (LongerShape f b)) ps (F + B) k ≡ head_by (RowCtor (LongerShape f b)) ps n (squeeze F B n k))
+wider_same {T} f b F B n k ps u w has x y l h = go (nat_lt k F) (nat_lt k f) (nat_lt b (F + B - k)) refl refl refl
+  where
+    go : (t s r : Bool) → nat_lt k F ≡ t → nat_lt k f ≡ s → nat_lt b (F + B - k) ≡ r →
+        (cond s (slice_get ps k) (cond r None (slice_get ps (f + b - (F + B - k)))) ≡ None)
+        ⊎ (cond s (slice_get ps k) (cond r None (slice_get ps (f + b - (F + B - k)))) ≡ head_by (RowCtor (LongerShape f b)) ps n (cond t k (k - (F + B - n))))
+    go true true r t s e = inr (rw s refl)
+    go t false true t' s e = inl refl
+    go true false false t s e =
+        let below : k < F = lt_true k F t in
+        let few : F + B - k ≤ b = lt_false b (F + B - k) e in
+        absurd (omega (arith, below, few, w))
+    go false true r t s e =
+        let past : F ≤ k = lt_false k F t in
+        let below : k < f = lt_true k f s in
+        absurd (omega (arith, past, below, u))
+    go false false false t s e =
+        let past : F ≤ k = lt_false k F t in
+        let few : F + B - k ≤ b = lt_false b (F + B - k) e in
+        let same : n - (k - (F + B - n)) ≡ F + B - k = omega (arith, past, x, y, l, h) in
+        let first : nat_lt (k - (F + B - n)) f ≡ false = not_lt (k - (F + B - n)) f (omega (arith, past, few, has, x, y, l, h)) in
+        let second : nat_lt b (F + B - k) ≡ false = e in
+        inr (rw (first, same, second) refl)
+
+-- the pattern has rows of the greatest length, and for each item none or what it has for that of the shorter row
+record Widens {T : Type 0} (h : Head T) (F B n : ℕ) : Type 0 where
+  has : has_piece (head_ctor h) (RowCtor (FixedShape (F + B))) ≡ true
+  item : (k : ℕ) → k < F + B → (part_head h (F + B) k ≡ None) ⊎ (part_head h (F + B) k ≡ part_head h n (squeeze F B n k))
+
+widens_none : {T : Type 0} (F B n : ℕ) → Widens {T = T} None F B n
+widens_none F B n = record { has = refl; item = λ k l. inl refl }
+
+widens_longer : {T : Type 0} (p : MDePat T) (f b F B n : ℕ) → ctor_of p ≡ RowCtor (LongerShape f b) → f ≤ F → b ≤ B → f + b ≤ n →
+    F ≤ n → B ≤ n → n ≤ F + B → Widens (Some p) F B n
+widens_longer p f b F B n e u w has x y l = record {
+  has = subst (λ c. has_piece c (RowCtor (FixedShape (F + B))) ≡ true) (sym e) (is_le (f + b) (F + B) (omega (arith, u, w)));
+  item = λ k h. subst (λ c. (head_by c (subs_of p) (F + B) k ≡ None) ⊎ (head_by c (subs_of p) (F + B) k ≡ head_by c (subs_of p) n (squeeze F B n k))) (sym e)
+      (wider_same f b F B n k (subs_of p) u w has x y l h);
+}
 
 -- what is left out of the longer row is what is left out of the shorter one
 skip_shorter : (c : MCtor) (F B n i k : ℕ) → F + B < n → k < F + B → Places c F B i → shift F B n k ≡ place_of c n i → k ≡ place_of c (F + B) i
@@ -195,6 +249,38 @@ module _ {T : Type 0} (IsType : T → Type 0) (IsValue : T → Bool → MValue �
         second = subst (λ (x : Head T). head_matches x c.value ≡ true) (sym (eg.same n k (omega (arith, l)) below)) c.second;
       }
 
+  -- rows of which each item is written by one of the two are matched where shorter ones are, with no two patterns at one part
+  wider : (t : T) (sure : Bool) (h g : Head T) (F B n : ℕ) → IsType t → cx.set_of t ≡ RowSet None → Widens h F B n → Widens g F B n →
+      F ≤ n → B ≤ n → n ≤ F + B → RowsMeet IsValue cx t sure h g None n → RowsMeet IsValue cx t sure h g None (F + B)
+  wider t sure h g F B n d set wh wg x y l m = record {
+    allowed = slices t (F + B) set;
+    first = wh.has;
+    second = wg.has;
+    stand = tt;
+    all = λ k below free. one k below (m.all (squeeze F B n k) (squeeze_below F B n k x y l below) (λ s. s));
+  }
+    where
+      item : (k : ℕ) → cx.sub (RowCtor (FixedShape n)) t (squeeze F B n k) ≡ cx.sub (RowCtor (FixedShape (F + B))) t k
+      item k = parts.items t (FixedShape n) (FixedShape (F + B)) (squeeze F B n k) k d
+          (length_belongs (cx.set_of t) n (slices t n set)) (length_belongs (cx.set_of t) (F + B) (slices t (F + B) set))
+
+      free : (e : Head T) (v : MValue) → e ≡ None → head_matches e v ≡ true
+      free e v z = subst (λ (x : Head T). head_matches x v ≡ true) (sym z) refl
+
+      part : (e o : Head T) (v : MValue) → (e ≡ None) ⊎ (e ≡ o) → head_matches o v ≡ true → head_matches e v ≡ true
+      part e o v (inl z) h = free e v z
+      part e o v (inr z) h = subst (λ (x : Head T). head_matches x v ≡ true) (sym z) h
+
+      one : (k : ℕ) → k < F + B →
+          Common IsValue (cx.sub (RowCtor (FixedShape n)) t (squeeze F B n k)) sure (part_head h n (squeeze F B n k)) (part_head g n (squeeze F B n k)) →
+          Common IsValue (cx.sub (RowCtor (FixedShape (F + B))) t k) sure (part_head h (F + B) k) (part_head g (F + B) k)
+      one k below c = record {
+        value = c.value;
+        is = subst (λ u. IsValue u sure c.value) (item k) c.is;
+        first = part (part_head h (F + B) k) (part_head h n (squeeze F B n k)) c.value (wh.item k below) c.first;
+        second = part (part_head g (F + B) k) (part_head g n (squeeze F B n k)) c.value (wg.item k below) c.second;
+      }
+
   -- how a pattern has the rows of one length
   data HasRows (p : MDePat T) (n : ℕ) : Type 0 where
     fixed : ctor_of p ≡ RowCtor (FixedShape n) → length (subs_of p) ≡ n → HasRows p n
@@ -253,6 +339,19 @@ module _ {T : Type 0} (IsType : T → Type 0) (IsValue : T → Bool → MValue �
           (subst (λ c. front_by c (length (subs_of p)) ≤ F) e u)
           (subst (λ c. back_by c ≤ B) e w)
 
+  -- a pattern that leaves room goes on to longer rows
+  widens_of : (t : T) (h : Head T) (F B n : ℕ) → IsType t → IsHeadTyped cx t h → IsSharpHead h → has_piece (head_ctor h) (RowCtor (FixedShape n)) ≡ true →
+      leaves_room h ≡ true → head_front h ≤ F → head_back h ≤ B → F ≤ n → B ≤ n → n ≤ F + B → Widens h F B n
+  widens_of t None F B n d h s has room u w x y l = widens_none F B n
+  widens_of t (Some p) F B n d h s has room u w x y l = go (has_rows t p n d h s has)
+    where
+      go : HasRows p n → Widens (Some p) F B n
+      go (fixed e c) = untrue (subst (λ c. is_longer c ≡ true) e room)
+      go (longer f b e c z) =
+          widens_longer p f b F B n e
+          (subst (λ c. front_by c (length (subs_of p)) ≤ F) e u)
+          (subst (λ c. back_by c ≤ B) e w) z x y l
+
   -- a length that is tried, where rows of it meet
   pub record IsTriedLength (t : T) (sure : Bool) (h g : Head T) (spot : Spot) (low count : ℕ) : Type 0 where
     pub number : ℕ
@@ -263,7 +362,7 @@ module _ {T : Type 0} (IsType : T → Type 0) (IsValue : T → Bool → MValue �
   -- where rows of some length meet, rows of one of those tried do
   pub one_is_tried : (t : T) (sure : Bool) (h g : Head T) (spot : Spot) (n : ℕ) → IsType t → IsHeadTyped cx t h → IsHeadTyped cx t g →
       IsSharpHead h → IsSharpHead g → IsSpotOf h g spot → RowsMeet IsValue cx t sure h g spot n →
-      IsTriedLength t sure h g spot (tried_lengths (cx.set_of t) h g).0 (tried_lengths (cx.set_of t) h g).1
+      IsTriedLength t sure h g spot (tried_lengths (cx.set_of t) spot h g).0 (tried_lengths (cx.set_of t) spot h g).1
   one_is_tried t sure h g spot n d ht gt hs gs within m = go (cx.set_of t) refl
     where
       F : ℕ
@@ -272,23 +371,51 @@ module _ {T : Type 0} (IsType : T → Type 0) (IsValue : T → Bool → MValue �
       B : ℕ
       B = max (head_back h) (head_back g)
 
-      slice : cx.set_of t ≡ RowSet None → IsTriedLength t sure h g spot (tried_lengths (RowSet None) h g).0 (tried_lengths (RowSet None) h g).1
-      slice set = elim (cases_lt (F + B) n) [
-        | inl l ↦ record {
-          number = F + B;
-          from_low = omega arith;
-          below = omega arith;
-          meet = shorter t sure h g spot F B n d set (ends_of t h F B n d ht hs m.first (omega arith) (omega arith) l)
-              (ends_of t g F B n d gt gs m.second (omega arith) (omega arith) l) within l m;
-        }
-        | inr l ↦ (
-            let a = least_within t h n d ht hs m.first in
-            let b = least_within t g n d gt gs m.second in
-            record { number = n; from_low = omega (arith, a, b); below = omega (arith, l); meet = m })
+      least_h : head_front h + head_back h ≤ n
+      least_h = least_within t h n d ht hs m.first
+
+      least_g : head_front g + head_back g ≤ n
+      least_g = least_within t g n d gt gs m.second
+
+      past : cx.set_of t ≡ RowSet None → F + B < n → RowsMeet IsValue cx t sure h g spot (F + B)
+      past set l =
+          shorter t sure h g spot F B n d set (ends_of t h F B n d ht hs m.first (omega arith) (omega arith) l)
+          (ends_of t g F B n d gt gs m.second (omega arith) (omega arith) l) within l m
+
+      within_front : F ≤ n
+      within_front = omega (arith, least_h, least_g)
+
+      within_back : B ≤ n
+      within_back = omega (arith, least_h, least_g)
+
+      greatest : (spot : Spot) → greatest_alone spot h g ≡ true → cx.set_of t ≡ RowSet None → n ≤ F + B → RowsMeet IsValue cx t sure h g spot n →
+          RowsMeet IsValue cx t sure h g spot (F + B)
+      greatest (Some s) room set l m = untrue room
+      greatest None room set l m =
+          let r = both (leaves_room h) (leaves_room g) room in
+          wider t sure h g F B n d set
+          (widens_of t h F B n d ht hs m.first r.0 (omega arith) (omega arith) within_front within_back l)
+          (widens_of t g F B n d gt gs m.second r.1 (omega arith) (omega arith) within_front within_back l)
+          within_front within_back l m
+
+      slice : cx.set_of t ≡ RowSet None → (alone : Bool) → greatest_alone spot h g ≡ alone →
+          IsTriedLength t sure h g spot (slice_lengths alone h g).0 (slice_lengths alone h g).1
+      slice set true a = record {
+        number = F + B;
+        from_low = omega arith;
+        below = omega arith;
+        meet = elim (cases_lt (F + B) n) [
+          | inl l ↦ past set l
+          | inr l ↦ greatest spot a set l m
+        ];
+      }
+      slice set false a = elim (cases_lt (F + B) n) [
+        | inl l ↦ record { number = F + B; from_low = omega arith; below = omega arith; meet = past set l }
+        | inr l ↦ record { number = n; from_low = omega (arith, least_h, least_g); below = omega (arith, l); meet = m }
       ]
 
-      go : (set : MSet) → cx.set_of t ≡ set → IsTriedLength t sure h g spot (tried_lengths set h g).0 (tried_lengths set h g).1
-      go (RowSet None) e = slice e
+      go : (set : MSet) → cx.set_of t ≡ set → IsTriedLength t sure h g spot (tried_lengths set spot h g).0 (tried_lengths set spot h g).1
+      go (RowSet None) e = slice e (greatest_alone spot h g) refl
       go (RowSet (Some k)) e =
           let same : k ≡ n = nat_equal k n (subst (λ (s : MSet). is_of_set s (OneLength n) ≡ true) e m.allowed) in
           record { number = n; from_low = omega (arith, same); below = omega (arith, same); meet = m }
@@ -302,15 +429,15 @@ module _ {T : Type 0} (IsType : T → Type 0) (IsValue : T → Bool → MValue �
       go (NumberSet x y) e = untrue (subst (λ (s : MSet). is_of_set s (OneLength n) ≡ true) e m.allowed)
 
 -- each length that is tried is one of the type's
-pub tried_allowed : {T : Type 0} (set : MSet) (r : MShape) (h g : Head T) (n : ℕ) → belongs set (RowCtor r) ≡ true → (tried_lengths set h g).0 ≤ n →
-    n < (tried_lengths set h g).0 + (tried_lengths set h g).1 → is_of_set set (OneLength n) ≡ true
-tried_allowed (RowSet None) r h g n b l u = refl
-tried_allowed (RowSet (Some k)) r h g n b l u = let same : k ≡ n = omega (arith, l, u) in subst (λ (x : ℕ). nat_eq k x ≡ true) same (nat_itself k)
-tried_allowed SingleSet r h g n b l u = untrue b
-tried_allowed PointSet r h g n b l u = untrue b
-tried_allowed FlagSet r h g n b l u = untrue b
-tried_allowed TextSet r h g n b l u = untrue b
-tried_allowed OpaqueSet r h g n b l u = untrue b
-tried_allowed NothingSet r h g n b l u = untrue b
-tried_allowed (VariantSet x y) r h g n b l u = untrue b
-tried_allowed (NumberSet x y) r h g n b l u = untrue b
+pub tried_allowed : {T : Type 0} (set : MSet) (r : MShape) (spot : Spot) (h g : Head T) (n : ℕ) → belongs set (RowCtor r) ≡ true → (tried_lengths set spot h g).0 ≤ n →
+    n < (tried_lengths set spot h g).0 + (tried_lengths set spot h g).1 → is_of_set set (OneLength n) ≡ true
+tried_allowed (RowSet None) r spot h g n b l u = refl
+tried_allowed (RowSet (Some k)) r spot h g n b l u = let same : k ≡ n = omega (arith, l, u) in subst (λ (x : ℕ). nat_eq k x ≡ true) same (nat_itself k)
+tried_allowed SingleSet r spot h g n b l u = untrue b
+tried_allowed PointSet r spot h g n b l u = untrue b
+tried_allowed FlagSet r spot h g n b l u = untrue b
+tried_allowed TextSet r spot h g n b l u = untrue b
+tried_allowed OpaqueSet r spot h g n b l u = untrue b
+tried_allowed NothingSet r spot h g n b l u = untrue b
+tried_allowed (VariantSet x y) r spot h g n b l u = untrue b
+tried_allowed (NumberSet x y) r spot h g n b l u = untrue b

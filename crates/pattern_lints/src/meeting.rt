@@ -203,7 +203,7 @@ fn rows_meet<'a, C: PatCx>(
         (tree p.entry.now)) (plain_head q.entry) spot) }
 {
     let set = cx.set(ty);
-    let (low, count) = lengths(&set, p, q);
+    let (low, count) = lengths(&set, p, q, spot);
     for i in 0..count {
         if row_meets(cx, ty, validity, p, q, spot, low + i) {
             return true;

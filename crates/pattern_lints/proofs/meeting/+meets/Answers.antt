@@ -556,8 +556,8 @@ rows_meet-row_meets-requires g t c κs within =
     let same = ctor_of-tree c.args.p.now ∙ c.requires.row.1 in
     let sharp = tree_sharp c.args.p.now (subst IsSharp (sym c.requires.row.1) tt) in
     let b = subst (λ d. belongs (context.set_of c.args.ty) d ≡ true) same (typed_sharp context c.args.ty (tree c.args.p.now) c.requires.first sharp).belongs in
-    let low = c.lengths-low.ensures.first ∙ ap (λ s. (tried_lengths s h k).0) c.set-set.ensures in
-    let count = c.lengths-low.ensures.count ∙ ap (λ s. (tried_lengths s h k).1) c.set-set.ensures in (
+    let low = c.lengths-low.ensures.first ∙ ap (λ s. (tried_lengths s c.args.spot h k).0) c.set-set.ensures in
+    let count = c.lengths-low.ensures.count ∙ ap (λ s. (tried_lengths s c.args.spot h k).1) c.set-set.ensures in (
       omega (arith, c.decreases),
       (
         within.0,
@@ -575,7 +575,7 @@ rows_meet-row_meets-requires g t c κs within =
                     c.requires.second,
                     (
                       c.requires.within,
-                      tried_allowed (context.set_of c.args.ty) c.requires.row.0 h k (c.lengths-low.result.0 + c.loop-i.i) b (omega (arith, low)) (omega (arith, low, count, c.loop-i-test.true)),
+                      tried_allowed (context.set_of c.args.ty) c.requires.row.0 c.args.spot h k (c.lengths-low.result.0 + c.loop-i.i) b (omega (arith, low)) (omega (arith, low, count, c.loop-i-test.true)),
                     ),
                   ),
                 ),
@@ -612,8 +612,8 @@ rows_meet-returns g t c m =
     let sharp = tree_sharp c.args.p.now (subst IsSharp (sym c.requires.row.1) tt) in
     let z = rows_of_pieces (g.C.PatCx.is_type cx) iv context (g.met.C.PatCx.values cx) (g.met.C.PatCx.parts cx) c.args.ty sure h k c.args.spot c.requires.row.0 (ctor_of-tree c.args.p.now ∙ c.requires.row.1) m in
     let x = one_is_tried (g.C.PatCx.is_type cx) iv context (g.met.C.PatCx.values cx) (g.met.C.PatCx.parts cx) c.args.ty sure h k c.args.spot z.0 c.requires.ty c.requires.first c.requires.second sharp c.requires.also_sharp c.requires.within z.1 in
-    let low = c.lengths-low.ensures.first ∙ ap (λ s. (tried_lengths s h k).0) c.set-set.ensures in
-    let count = c.lengths-low.ensures.count ∙ ap (λ s. (tried_lengths s h k).1) c.set-set.ensures in
+    let low = c.lengths-low.ensures.first ∙ ap (λ s. (tried_lengths s c.args.spot h k).0) c.set-set.ensures in
+    let count = c.lengths-low.ensures.count ∙ ap (λ s. (tried_lengths s c.args.spot h k).1) c.set-set.ensures in
     c.loop-i.invariant x.number (omega (arith, low, x.from_low)) (omega (arith, low, count, x.below, c.loop-i-test.false)) x.meet
 
 pub any_meets-loop-s-init : goal.any_meets-loop-s-init
