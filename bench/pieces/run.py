@@ -1,17 +1,18 @@
 #!/usr/bin/env python3
 """Times `present` on columns of n, 2n and 4n heads of each kind, beside the same in plain Rust.
 
-    bench/pieces/run.py [RUNS]
+    bench/pieces/run.py [RUNS] [--only WORD]
 
 Writes a copy of the crates and the program of program/ (its files without their last `.txt`) into a temporary folder, proves and
 builds it with `rt run`, and plain.rs with `rustc -O`. Then both run in turn, RUNS times in all (5 if no number is given). For each
 column it prints the least processor time of `present`, half of how much longer twice as many heads take, and the time beside
-that of plain Rust; that the two tell the same of each column is checked.
+that of plain Rust; that the two tell the same of each column is checked. `--only WORD` takes the kinds whose name has the word.
 """
+import argparse
 import pathlib
+import re
 import shutil
 import subprocess
-import sys
 import tempfile
 
 HERE = pathlib.Path(__file__).resolve().parent
@@ -26,9 +27,19 @@ KINDS = (
 )
 GROWTH = 1.2
 RATIO = 1.5
+# The line of both programs that goes over the kinds.
+LOOP = re.compile(r"for kind in 0\.\.\w+ \{")
 
 
-def build(folder):
+def narrow(source, target, kinds):
+    """Copies a program's file, which is to go over the kinds from the first to the last of these alone."""
+    text, count = LOOP.subn("for kind in %d..%d {" % (kinds[0], kinds[-1] + 1), source.read_text())
+    if count != 1:
+        raise SystemExit("%s does not go over the kinds in one place" % source)
+    target.write_text(text)
+
+
+def build(folder, kinds=range(len(KINDS))):
     """A copy of the crates with the program."""
     for crate in CRATES:
         shutil.copytree(ROOT / "crates" / crate, folder / "crates" / crate, ignore=shutil.ignore_patterns("must-fail", "out"))
@@ -41,6 +52,8 @@ def build(folder):
         target = program / source.relative_to(HERE / "program").with_suffix("")
         target.parent.mkdir(parents=True, exist_ok=True)
         shutil.copy(source, target)
+    narrow(HERE / "program" / "src" / "main.rt.txt", program / "src" / "main.rt", kinds)
+    narrow(HERE / "plain.rs", folder / "plain.rs", kinds)
     return program
 
 
@@ -62,12 +75,19 @@ def least(runs):
 
 
 def main():
-    count = int(sys.argv[1]) if len(sys.argv) > 1 else 5
+    words = argparse.ArgumentParser(description="Times the pieces of columns, beside the same in plain Rust.")
+    words.add_argument("runs", nargs="?", type=int, default=5)
+    words.add_argument("--only", default="", metavar="WORD")
+    words = words.parse_args()
+    count = words.runs
+    kinds = [number for number, name in enumerate(KINDS) if words.only in name]
+    if not kinds:
+        raise SystemExit("no kind has the word %s" % words.only)
     proved, plain = [], []
     with tempfile.TemporaryDirectory() as name:
         folder = pathlib.Path(name)
-        program = build(folder)
-        subprocess.run(["rustc", "-O", "--edition", "2024", "-o", str(folder / "plain"), str(HERE / "plain.rs")], check=True)
+        program = build(folder, kinds)
+        subprocess.run(["rustc", "-O", "--edition", "2024", "-o", str(folder / "plain"), str(folder / "plain.rs")], check=True)
         done = subprocess.run(["rt", "run"], cwd=program, capture_output=True, text=True)
         if done.returncode:
             raise SystemExit(done.stdout + done.stderr)
@@ -80,6 +100,8 @@ def main():
     missed = []
     before = {}
     for (kind, heads), (what, took) in sorted(proved.items()):
+        if kind not in kinds:
+            continue
         if plain[(kind, heads)][0] != what:
             raise SystemExit("plain Rust differs: %s %d: %s, %s" % (KINDS[kind], heads, plain[(kind, heads)][0], what))
         beside = plain[(kind, heads)][1]
@@ -90,7 +112,7 @@ def main():
         if ratio > RATIO or grown and grown[0] > GROWTH:
             missed.append("%s %d" % (KINDS[kind], heads))
         before[kind] = (took, beside)
-    print("\n%d of %d columns miss a goal: %s" % (len(missed), len(proved), ", ".join(missed)))
+    print("\n%d of %d columns miss a goal: %s" % (len(missed), 3 * len(kinds), ", ".join(missed)))
 
 
 if __name__ == "__main__":

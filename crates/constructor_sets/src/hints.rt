@@ -2,11 +2,9 @@
 // few kinds of them, and a head with the ends of one before has its pieces too. These are hints alone: whoever takes one
 // tests it, so any answer is right, and no contract speaks of them.
 use crate::Span;
-use crate::heads::least_length;
 use no_memory::NoMemory;
 use pat_context::Ctor;
 use range_split::End;
-use slice_split::Shape;
 use std::alloc::Global;
 
 // How many keys are told apart.
@@ -70,7 +68,6 @@ fn low_key(head: &Ctor) -> usize {
         Ctor::Variant(k) => (*k % 512) as usize,
         Ctor::Numbers(range) => end_key(&range.low),
         Ctor::Text(text) => text.len() % KEYS,
-        Ctor::Row(shape) => (least_length(*shape) % 512) as usize,
         _ => 0,
     }
 }
@@ -79,7 +76,6 @@ fn low_key(head: &Ctor) -> usize {
 fn high_key(head: &Ctor) -> usize {
     match head {
         Ctor::Numbers(range) => end_key(&range.high),
-        Ctor::Row(Shape::Longer { .. }) => KEYS - 1,
         _ => low_key(head),
     }
 }

@@ -1,24 +1,23 @@
 // The pieces of a set of constructors by the heads of a column.
-ghost use Rattle.std.specs.Prelude.{◌≡◌, ◌<◌, ◌^◌, None, IsTrue, IfOk, OnOk, map, length, true};
+ghost use Rattle.std.specs.Prelude.{◌≡◌, ◌<◌, ◌^◌, IsTrue, IfOk, OnOk, map, length, true};
 ghost use Rattle.std.specs.List.{All, list_any, filter_map};
 ghost use Rattle.std.specs.Str.{IsUtf8};
 ghost use Rattle.match_model.specs.Constructors.{VariantSet, NumberSet, SingleSet, PointSet, FlagSet, TextSet};
-ghost use Rattle.match_model.specs.Constructors.{RowSet, VariantCtor, TextCtor, RowCtor};
+ghost use Rattle.match_model.specs.Constructors.{VariantCtor, TextCtor};
 ghost use Rattle.match_model.specs.ContextLaws.{RangesAscend};
 ghost use Rattle.match_model.specs.Pieces.{range_of, text_of, AreNamed, each_below};
 ghost use Rattle.range_split.specs.Splits.{plain_ranges, HasRoomBelow, HasRoomAbove};
-ghost use Rattle.slice_split.specs.Shapes.{plain_shapes, plain_pieces};
 ghost use Rattle.range_split.specs.Ranges.{plain_range};
 ghost use Rattle.pat_context.specs.Views.{plain_ctor, plain_set, plain_second};
 ghost use Rattle.constructor_sets.specs.Columns.{is_head, writes, plain_ctors, plain_flagged, plain_texts};
-ghost use Rattle.constructor_sets.specs.Columns.{IsSetSplit, AreVariantMarks, shape_of, AddsRanges, IsVariantBelow};
+ghost use Rattle.constructor_sets.specs.Columns.{IsSetSplit, AreVariantMarks, AddsRanges, IsVariantBelow};
 
 use crate::arrays::array;
 use crate::heads::is_written;
+use crate::lengths::slices;
 use no_memory::NoMemory;
 use pat_context::{Ctor, CtorSet};
 use range_split::{Range, split};
-use slice_split::{Shape, split_lengths};
 use std::alloc::Global;
 
 // The pieces of the set, in order, each with whether a head of the column that is no wildcard has it.
@@ -237,41 +236,4 @@ fn as_text(text: &str) -> &str
     ensures utf8 { IsUtf8 result.now }
 {
     text
-}
-
-// The pieces of rows of every length.
-fn slices<'a>(alloc: Global, column: &[Ctor<'a>]) -> Result<Vec<(Ctor<'a>, bool)>, NoMemory>
-    requires { All (λ h. IsTrue (is_head (RowSet None) h)) (plain_ctors column.now) }
-    ensures { IfOk result (λ v. IsSetSplit (RowSet None) (plain_ctors column.now) (plain_flagged v.items)) }
-{
-    let shapes = shapes_of(alloc, column)?;
-    let lengths = split_lengths(alloc, None, &shapes)?;
-    row_pieces(alloc, &lengths)
-}
-
-// The pieces of rows with these shapes.
-fn row_pieces<'a>(
-    alloc: Global,
-    lengths: &[(Shape, bool)],
-) -> Result<Vec<(Ctor<'a>, bool)>, NoMemory>
-    ensures { IfOk result (λ v. plain_flagged v.items ≡ map (λ p. (RowCtor p.0, p.1)) (plain_pieces lengths.now)) }
-{
-    let mut pieces = Vec::with_capacity(alloc, lengths.len())?;
-    for (shape, present) in lengths {
-        pieces.push((Ctor::Row(*shape), *present))?;
-    }
-    Ok(pieces)
-}
-
-// The shapes of the column.
-fn shapes_of(alloc: Global, column: &[Ctor]) -> Result<Vec<Shape>, NoMemory>
-    ensures { IfOk result (λ v. plain_shapes v.items ≡ filter_map shape_of (plain_ctors column.now)) }
-{
-    let mut shapes = Vec::with_capacity(alloc, column.len())?;
-    for head in column {
-        if let Ctor::Row(shape) = *head {
-            shapes.push(shape)?;
-        }
-    }
-    Ok(shapes)
 }

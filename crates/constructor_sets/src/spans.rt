@@ -11,6 +11,7 @@ ghost use Rattle.constructor_sets.specs.Spans.{HoldsBelow, FailsAt, IsFirst, IsE
 use crate::Span;
 use crate::heads::{has_piece, starts_before};
 use crate::hints::Hints;
+use crate::known::spans_by_length;
 use no_memory::NoMemory;
 use pat_context::{Ctor, CtorSet};
 use std::alloc::Global;
@@ -48,7 +49,7 @@ fn row_spans(
 {
     match len {
         Some(_) => spans_of_all(alloc, pieces, heads),
-        None => spans_of(alloc, pieces, heads),
+        None => spans_by_length(alloc, pieces, heads),
     }
 }
 
@@ -162,7 +163,7 @@ fn flag_span(pieces: &[Ctor], head: &Ctor, of_false: Span, of_true: Span) -> Spa
 
 // Which of the pieces the head has. Heads often have the ends of one before, or stand in order, or come from two sides in
 // turn, so it is looked for at the span of a head `like` it and beside the spans of the two heads before.
-fn span_of(pieces: &[Ctor], head: &Ctor, like: Span, near: Span, old: Span) -> Span
+pub(crate) fn span_of(pieces: &[Ctor], head: &Ctor, like: Span, near: Span, old: Span) -> Span
     requires rising { AllPairs Precedes (plain_ctors pieces.now) }
     requires head { IsTrue (is_written (plain_ctor head.now)) }
     ensures { IsSpan (plain_ctors pieces.now) (plain_ctor head.now) (plain_span result) }
