@@ -39,7 +39,7 @@ fn main(rt: HostRuntime) -> io::Result<()> {
         };
         let lexed = start.elapsed(&rt)?.as_millis();
         let begun = Instant::now(&rt)?;
-        let outcome = match decl_parser::parse(rt.alloc(), tokens.as_slice()) {
+        let outcome = match decl_parser::parse(rt.alloc(), &tokens) {
             Ok(_) => "file",
             Err(ParseFault::Syntax { .. }) => "syntax",
             Err(ParseFault::Wide { .. }) => "wide",

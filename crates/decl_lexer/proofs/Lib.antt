@@ -6,10 +6,10 @@ pub mod NameLemmas
 pub mod PieceRests
 pub mod Rests
 pub mod Sources
-pub mod TablesLemmas
+pub mod BoolLemmas
+pub mod StoredLemmas
 pub mod TextLemmas
 pub mod Valid
-pub mod Cursor
 pub mod NumberLemmas
 pub mod QuoteRests
 pub mod TextSteps

@@ -3,7 +3,7 @@ use Rattle.std.proofs.Common.{◌≡◌, ℕ, zero, suc, ◌+◌, ◌-◌, Bool,
 use Rattle.std.proofs.lemmas.Bool.{eqb-true, and_parts}
 use Rattle.decl_lexer.specs.Gaps.{comment_end, IsInside, closes, nests, goes_on}
 use Rattle.decl_lexer.specs.Text.{begins_with}
-use Rattle.decl_lexer.proofs.TablesLemmas.{not_equal}
+use Rattle.decl_lexer.proofs.BoolLemmas.{not_equal}
 use lib.Chars.{codes}
 
 one_less : (d : ℕ) → suc d - 1 ≡ d

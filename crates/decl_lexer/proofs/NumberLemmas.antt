@@ -3,7 +3,7 @@ use Rattle.std.proofs.Common.{◌≡◌, ◌≢◌, ℕ, ◌+◌, ◌*◌, ◌<�
 use Rattle.std.proofs.lemmas.Bool.{eqb-true, lt-ltb}
 use Rattle.std.specs.Char.{digit_value, is_digit}
 use Rattle.decl_lexer.specs.Numbers.{behind_digits, has_digit, has_other_digit, number_from}
-use Rattle.decl_lexer.proofs.TablesLemmas.{not_equal}
+use Rattle.decl_lexer.proofs.BoolLemmas.{not_equal}
 
 -- what a digit at the front adds
 pub record IsDigitStep (radix base c : ℕ) (all cs : List ℕ) : Type 0 where

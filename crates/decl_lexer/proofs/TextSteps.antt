@@ -13,7 +13,7 @@ use Rattle.decl_lexer.specs.Escapes.{escape}
 use Rattle.decl_lexer.specs.Texts.{is_ordinary, TextRead, with_front, text_breaks, begins_line_end, behind_blanks, text_from, has_hashes, raw_from}
 use Rattle.decl_lexer.proofs.Rests.{EndsIn, itself, past}
 use Rattle.decl_lexer.proofs.QuoteRests.{EscapeEnds, escape_ends}
-use Rattle.decl_lexer.proofs.TablesLemmas.{not_equal}
+use Rattle.decl_lexer.proofs.BoolLemmas.{not_equal}
 
 abbrev done : List ℕ → List ℕ → TextRead
 done value rest = Ok (value, rest)

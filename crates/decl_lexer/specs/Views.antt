@@ -5,6 +5,11 @@ use Rattle.std.specs.declared.alloc.Global.{Global}
 use Rattle.decl_lexer.specs.declared.marks.Mark.{Mark}
 use Rattle.decl_lexer.specs.declared.token.TokenKind.{TokenKind}
 use Rattle.decl_lexer.specs.declared.token.TokenKind.TheVariants as kinds
+use Rattle.decl_lexer.specs.declared.token.Token as seen
+use Rattle.decl_lexer.specs.declared.read.ReadKind.{ReadKind}
+use Rattle.decl_lexer.specs.declared.read.ReadKind.TheVariants as read
+use Rattle.decl_lexer.specs.declared.read.ReadToken.{ReadToken}
+use Rattle.decl_lexer.specs.Lexing.{Placed}
 use Rattle.decl_lexer.specs.declared.pieces.Piece as declared
 use Rattle.decl_lexer.specs.declared.pieces.Piece.TheVariants as pieces
 use Rattle.decl_lexer.specs.declared.pieces.PieceError.{PieceError}
@@ -22,23 +27,46 @@ char_view p = (p.0, chars p.1.now)
 
 -- a token's kind, without where its text lies in memory
 abbrev pub lexeme_view : TokenKind → Lexeme
-lexeme_view (kinds.Name name) = Named (string_bytes name.value.text) name.value.raw
+lexeme_view (kinds.Name text raw) = Named (string_bytes text.now) raw
 lexeme_view (kinds.Word word) = Keyword word
 lexeme_view (kinds.Mark mark) = Marked mark
 lexeme_view kinds.Lifetime = Lifetime
 lexeme_view (kinds.Small value) = Integer (Some value) [] true
-lexeme_view (kinds.Int integer) = Integer integer.value.value (string_bytes integer.value.suffix) integer.value.decimal
+lexeme_view (kinds.Int integer) = Integer integer.now.value (string_bytes integer.now.suffix) integer.now.decimal
 lexeme_view kinds.Float = Float
 lexeme_view (kinds.Char c) = Character c
 lexeme_view (kinds.Byte b) = Byte b
-lexeme_view (kinds.Str text) = Text (string_bytes text.value)
+lexeme_view (kinds.Str text) = Text (string_bytes text.now)
 lexeme_view kinds.ByteStr = ByteText
 lexeme_view kinds.CStr = CText
+
+-- the same with its place
+abbrev pub token_view : seen.Token → Placed
+token_view t = record { lexeme = lexeme_view t.kind; from = t.from; to = t.to }
+
+-- the same of a token that was read
+abbrev pub read_view : ReadKind → Lexeme
+read_view (read.Name text raw) = Named (string_bytes text) raw
+read_view (read.Word word) = Keyword word
+read_view (read.Mark mark) = Marked mark
+read_view read.Lifetime = Lifetime
+read_view (read.Small value) = Integer (Some value) [] true
+read_view (read.Int integer) = Integer integer.value.value (string_bytes integer.value.suffix) integer.value.decimal
+read_view read.Float = Float
+read_view (read.Char c) = Character c
+read_view (read.Byte b) = Byte b
+read_view (read.Str text) = Text (string_bytes text)
+read_view read.ByteStr = ByteText
+read_view read.CStr = CText
+
+-- the same with its place
+abbrev pub read_token_view : ReadToken → Placed
+read_token_view t = record { lexeme = read_view t.kind; from = t.from; to = t.to }
 
 -- a piece, without where its text lies in memory
 abbrev pub piece_view : declared.Piece → Piece
 piece_view pieces.Gap = Gap
-piece_view (pieces.Token kind) = Token (lexeme_view kind)
+piece_view (pieces.Token kind) = Token (read_view kind)
 
 -- memory ran out, or this fault is what the definition gives
 abbrev pub Fails : {A : Type 0} → PieceError → Result A Fault → Type 0

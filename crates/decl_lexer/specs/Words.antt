@@ -1,5 +1,5 @@
 -- The keywords and their texts (the Rust Reference, "Keywords": strict and reserved ones, without `gen`, which is our own choice).
-use Rattle.std.specs.Prelude.{length, filter, ◌==◌, ℕ, Bool, not, List, [], ◌∷◌, Option}
+use Rattle.std.specs.Prelude.{ℕ, Bool, not, List, [], ◌∷◌, Option}
 use Rattle.std.specs.List.{list_any}
 use Rattle.std.specs.Str.{bytes_eq}
 use lib.Chars.{codes}
@@ -69,7 +69,3 @@ word_of text = with_text words text
 -- whether `r#` may stand before this name
 abbrev pub can_be_raw : List ℕ → Bool
 can_be_raw text = not (list_any (bytes_eq text) (codes "crate" ∷ codes "self" ∷ codes "super" ∷ codes "Self" ∷ codes "_" ∷ []))
-
--- the keywords of so many letters
-abbrev pub words_of : ℕ → List (List ℕ × Word)
-words_of n = filter (λ entry. length entry.0 == n) words

@@ -7,8 +7,8 @@ ghost use Rattle.decl_lexer.specs.Views.{GivesPiece};
 use crate::escapes::{Quoted, escape};
 use crate::names::{is_name_start, starts_name};
 use crate::pieces::{Piece, PieceError};
+use crate::read::ReadKind;
 use crate::text::{first_is, skip_first, split_first, split_name};
-use crate::token::TokenKind;
 use crate::words::can_be_raw;
 
 /// The character or lifetime that the text begins with; `inside` is the text behind its `'`.
@@ -26,7 +26,7 @@ pub fn quote_at<'a>(text: &'a str, inside: &'a str) -> Result<(Piece, &'a str), 
         return escaped_char_at(text, inside);
     }
     if !matches!(first, '\'' | '\n' | '\r' | '\t') && first_is('\'', behind) {
-        return Ok((Piece::Token(TokenKind::Char(first)), skip_first(behind)));
+        return Ok((Piece::Token(ReadKind::Char(first)), skip_first(behind)));
     }
     if first == 'r' && first_is('#', behind) && starts_name(skip_first(behind)) {
         return raw_lifetime_at(text, skip_first(behind));
@@ -56,7 +56,7 @@ pub fn byte_at<'a>(text: &'a str, inside: &'a str) -> Result<(Piece, &'a str), P
     }
     if first.is_ascii() && !matches!(first, '\'' | '\n' | '\r' | '\t') && first_is('\'', behind) {
         let byte = first as u32 as u8;
-        return Ok((Piece::Token(TokenKind::Byte(byte)), skip_first(behind)));
+        return Ok((Piece::Token(ReadKind::Byte(byte)), skip_first(behind)));
     }
     Err(PieceError::Fault {
         rule: 2,
@@ -80,7 +80,7 @@ fn escaped_char_at<'a>(text: &'a str, escaped: &'a str) -> Result<(Piece, &'a st
             rest: text,
         });
     }
-    Ok((Piece::Token(TokenKind::Char(c)), skip_first(behind)))
+    Ok((Piece::Token(ReadKind::Char(c)), skip_first(behind)))
 }
 
 /// A byte at the start of the text whose escape begins where `escaped` does.
@@ -100,7 +100,7 @@ fn escaped_byte_at<'a>(text: &'a str, escaped: &'a str) -> Result<(Piece, &'a st
         });
     }
     let byte = c as u32 as u8;
-    Ok((Piece::Token(TokenKind::Byte(byte)), skip_first(behind)))
+    Ok((Piece::Token(ReadKind::Byte(byte)), skip_first(behind)))
 }
 
 /// A raw lifetime at the start of the text, whose name `named` begins with.
@@ -114,7 +114,7 @@ fn raw_lifetime_at<'a>(text: &'a str, named: &'a str) -> Result<(Piece, &'a str)
             rest: text,
         });
     }
-    Ok((Piece::Token(TokenKind::Lifetime), rest))
+    Ok((Piece::Token(ReadKind::Lifetime), rest))
 }
 
 /// A lifetime at the start of the text, whose name `named` begins with.
@@ -128,5 +128,5 @@ fn lifetime_at<'a>(text: &'a str, named: &'a str) -> Result<(Piece, &'a str), Pi
             rest: text,
         });
     }
-    Ok((Piece::Token(TokenKind::Lifetime), rest))
+    Ok((Piece::Token(ReadKind::Lifetime), rest))
 }

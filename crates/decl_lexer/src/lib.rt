@@ -5,10 +5,10 @@
 //! Reference's chapter "Lexical structure". A source *lexes* where it is pieces from its start to its
 //! end; else its fault is the one behind the pieces that come before it (`specs/Lexing.antt`).
 //!
-//! [`lex`] gives all tokens or the first fault. [`next_token`] gives the first token at or behind a
-//! place, so that a reader need not hold all of them. [`name_form`] gives the form in which names
-//! are compared, [`word_of`] the keyword that a text is. The laws of `laws.rt` say that a source has
-//! one list of tokens or one fault.
+//! [`lex`] gives all tokens or the first fault. The [`Tokens`] take 16 bytes each, with their texts in
+//! lists beside them, and [`Rest::split_first`] shows them one after the other. [`name_form`] gives
+//! the form in which names are compared, [`word_of`] the keyword that a text is. The laws of `laws.rt`
+//! say that a source has one list of tokens or one fault.
 #![tactic(auto)]
 
 mod characters;
@@ -20,6 +20,8 @@ mod marks;
 mod names;
 mod numbers;
 mod pieces;
+mod read;
+mod stored;
 #[cfg(test)]
 mod tests;
 mod text;
@@ -31,8 +33,9 @@ mod written;
 pub use laws::{
     comments_nest, faults_are_known, one_fault, one_token_list, tokens_in_order, tokens_or_fault,
 };
-pub use lexing::{lex, name_form, next_token};
+pub use lexing::{lex, name_form};
 pub use marks::Mark;
-pub use token::{IntToken, LexFault, NameToken, Token, TokenKind};
+pub use stored::{Rest, Tokens};
+pub use token::{IntToken, LexFault, Token, TokenKind};
 pub use words::{Word, word_of};
 pub use written::push_name;

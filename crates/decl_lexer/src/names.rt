@@ -2,14 +2,13 @@
 ghost use Rattle.std.specs.Prelude.{◌≡◌, IfOk, chars, string_bytes, encode_utf8_all};
 ghost use Rattle.unicode_normalization.specs.Forms.{nfc};
 ghost use Rattle.decl_lexer.specs.Text.{first_passes};
-ghost use Rattle.decl_lexer.specs.Begins.{Named};
 ghost use Rattle.decl_lexer.specs.Names.{is_name_start, lexeme_of, name_at, raw_name_at};
-ghost use Rattle.decl_lexer.specs.Views.{GivesPiece, lexeme_view};
+ghost use Rattle.decl_lexer.specs.Views.{GivesPiece, read_view};
 
 use crate::marks::Mark;
 use crate::pieces::{Piece, PieceError};
+use crate::read::ReadKind;
 use crate::text::{split_first, split_name};
-use crate::token::{NameToken, TokenKind};
 use crate::words::{can_be_raw, word_of};
 use std::alloc::{AllocError, Global};
 use unicode_normalization::to_nfc;
@@ -40,31 +39,24 @@ pub fn raw_name_at<'a>(
         });
     }
     let text = in_nfc(alloc, name)?;
-    let kind = name_kind(alloc, text, true)?;
+    let kind = ReadKind::Name { text, raw: true };
     Ok((Piece::Token(kind), rest))
 }
 
 /// What a name is: a keyword, the mark `_`, or a name.
-fn kind_of(alloc: Global, name: &str) -> Result<TokenKind, AllocError>
-    ensures { IfOk result (λ kind. lexeme_view kind ≡ lexeme_of (chars name.now)) }
+fn kind_of(alloc: Global, name: &str) -> Result<ReadKind, AllocError>
+    ensures { IfOk result (λ kind. read_view kind ≡ lexeme_of (chars name.now)) }
 {
     if name == "_" {
-        return Ok(TokenKind::Mark(Mark::Underscore));
+        return Ok(ReadKind::Mark(Mark::Underscore));
     }
     match word_of(name) {
-        Some(word) => Ok(TokenKind::Word(word)),
+        Some(word) => Ok(ReadKind::Word(word)),
         None => {
             let text = in_nfc(alloc, name)?;
-            name_kind(alloc, text, false)
+            Ok(ReadKind::Name { text, raw: false })
         }
     }
-}
-
-/// The token of a name.
-fn name_kind(alloc: Global, text: String, raw: bool) -> Result<TokenKind, AllocError>
-    ensures { IfOk result (λ kind. lexeme_view kind ≡ Named (string_bytes text) raw) }
-{
-    Ok(TokenKind::Name(Box::new(alloc, NameToken { text, raw })?))
 }
 
 /// The text in NFC. ASCII text is in NFC already.

@@ -4,12 +4,13 @@ ghost use Rattle.std.specs.Char.{is_digit};
 ghost use Rattle.decl_lexer.specs.Text.{first_passes};
 ghost use Rattle.decl_lexer.specs.Numbers.{behind_digits, has_digit, has_other_digit, number_from, in_128_bits, suffix_of, behind_suffix, is_exponent_letter, behind_sign, has_exponent, behind_exponent, integer_at, based_at, float_at, fraction_at, is_point, decimal_at, number_at};
 ghost use Rattle.decl_lexer.specs.Begins.{Integer};
-ghost use Rattle.decl_lexer.specs.Views.{GivesPiece, lexeme_view};
+ghost use Rattle.decl_lexer.specs.Views.{GivesPiece, read_view};
 
 use crate::names::{is_name_start, starts_name};
 use crate::pieces::{Piece, PieceError};
+use crate::read::ReadKind;
 use crate::text::{first_is, skip_first, split_first, split_name};
-use crate::token::{IntToken, TokenKind};
+use crate::token::IntToken;
 use std::alloc::{AllocError, Global};
 
 /// The digits and underscores that a text begins with, read in a base.
@@ -129,12 +130,12 @@ fn integer_kind(
     value: Option<u128>,
     suffix: &str,
     decimal: bool,
-) -> Result<TokenKind, AllocError>
-    ensures { IfOk result (λ kind. lexeme_view kind ≡ Integer value suffix.now decimal) }
+) -> Result<ReadKind, AllocError>
+    ensures { IfOk result (λ kind. read_view kind ≡ Integer value suffix.now decimal) }
 {
     if decimal && suffix.is_empty() {
         if let Some(small) = small_value(value) {
-            return Ok(TokenKind::Small(small));
+            return Ok(ReadKind::Small(small));
         }
     }
     let suffix = String::from_str(alloc, suffix)?;
@@ -143,7 +144,7 @@ fn integer_kind(
         suffix,
         decimal,
     };
-    Ok(TokenKind::Int(Box::new(alloc, integer)?))
+    Ok(ReadKind::Int(Box::new(alloc, integer)?))
 }
 
 /// The value, where it is below 2^64.
@@ -163,7 +164,7 @@ fn float_at(behind: &str) -> (Piece, &str)
     ensures { GivesPiece (Ok result) (float_at (chars behind.now)) }
 {
     let (_, rest) = split_suffix(behind);
-    (Piece::Token(TokenKind::Float), rest)
+    (Piece::Token(ReadKind::Float), rest)
 }
 
 /// Cuts the text behind the suffix that it begins with, which may be empty.

@@ -14,16 +14,16 @@ use crate::gaps::{is_space, skip_comment, skip_line, skip_spaces};
 use crate::marks::{Mark, mark_of_one, mark_of_three, mark_of_two};
 use crate::names::{is_name_start, name_at, raw_name_at, starts_name};
 use crate::numbers::number_at;
+use crate::read::ReadKind;
 use crate::text::{first_is, pair_is, skip_first, split_first};
 use crate::texts::{raw_text_at, starts_raw_text, text_at};
-use crate::token::TokenKind;
 use std::alloc::{AllocError, Global};
 
 /// Whitespace or a comment, or a token.
 #[derive(Debug, Drop)]
 pub enum Piece {
     Gap,
-    Token(TokenKind),
+    Token(ReadKind),
 }
 
 /// Why no piece was read. A fault holds the text from there on.
@@ -155,7 +155,7 @@ fn mark_at(text: &str) -> Result<(Piece, &str), PieceError<'_>>
     ensures { GivesPiece result (mark_at (chars text.now)) }
 {
     match longest_mark(text) {
-        Some((mark, rest)) => Ok((Piece::Token(TokenKind::Mark(mark)), rest)),
+        Some((mark, rest)) => Ok((Piece::Token(ReadKind::Mark(mark)), rest)),
         None => Err(PieceError::Fault {
             rule: 2,
             rest: text,

@@ -1,5 +1,5 @@
 //! Each function that allocates, once, with memory enough.
-use crate::{LexFault, Token, TokenKind, lex, name_form, next_token};
+use crate::{LexFault, Token, TokenKind, lex, name_form};
 use std::process::Abort;
 use std::test::Fail;
 
@@ -10,9 +10,9 @@ const SOURCE: &str = "\u{feff} e\u{301} /* f */ 0x1F_u8 \"\\u{e9}\"";
 const PLACES: [(u64, u64); 3] = [(4, 7), (16, 23), (24, 32)];
 
 /// The name, the value or the text of a token.
-fn is_expected(number: usize, token: &Token) -> bool {
-    match &token.kind {
-        TokenKind::Name(name) => { number == 0 && name.text.as_str() == "\u{e9}" && !name.raw }
+fn is_expected(number: usize, token: Token<'_>) -> bool {
+    match token.kind {
+        TokenKind::Name { text, raw } => number == 0 && text.as_str() == "\u{e9}" && !raw,
         TokenKind::Int(int) => {
             number == 1 && int.value == Some(31) && int.suffix.as_str() == "u8"
         }
@@ -24,26 +24,19 @@ fn is_expected(number: usize, token: &Token) -> bool {
 #[test]
 fn a_source_is_cut(rt: HostRuntime) -> Result<(), Fail> {
     let tokens = lex(rt.alloc(), SOURCE.as_bytes()).ok().ok_or("no tokens")?;
-    assert_eq!(rt; tokens.len(), 3);
-    for (i, token) in tokens.iter().enumerate() {
+    let mut rest = tokens.rest();
+    for (i, place) in PLACES.iter().enumerate() {
+        let (token, behind) = rest.split_first().ok_or("too few tokens")?;
         assert!(rt; is_expected(i, token), "token {i}");
-        assert_eq!(rt; PLACES.get(i).copied(), Some((token.from, token.to)));
+        assert_eq!(rt; *place, (token.from, token.to));
+        rest = behind;
     }
+    assert!(rt; rest.split_first().is_none());
     let fault = matches!(
         lex(rt.alloc(), "a '".as_bytes()),
         Err(LexFault::Rule { rule: 2, at: 2 })
     );
     assert!(rt; fault);
-    Ok(())
-}
-
-#[test]
-fn one_token_is_read(rt: HostRuntime) -> Result<(), Fail> {
-    let token = next_token(rt.alloc(), "fn f", 2)
-        .ok()
-        .ok_or("no memory")?
-        .ok_or("no token")?;
-    assert_eq!(rt; (token.from, token.to), (3, 4));
     Ok(())
 }
 

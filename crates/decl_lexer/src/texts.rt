@@ -1,15 +1,15 @@
 //! Texts, byte texts, C texts, and the raw ones.
-ghost use Rattle.std.specs.Prelude.{◌≡◌, ◌∷◌, [], ◌<◌, ◌≤◌, true, false, length, drop, IfOk, MatchOption, chars, string_bytes, encode_utf8_all};
+ghost use Rattle.std.specs.Prelude.{◌≡◌, ◌∷◌, [], ◌<◌, ◌≤◌, true, false, length, drop, MatchOption, chars, string_bytes, encode_utf8_all};
 ghost use Rattle.std.specs.List.{take_while};
 ghost use Rattle.decl_lexer.specs.Text.{skip_while, first_passes};
 ghost use Rattle.decl_lexer.specs.Texts.{begins_line_end, behind_blanks, is_ordinary, text_from, text_at, is_hash, has_hashes, raw_from, is_raw_text, raw_text_at, text_lexeme};
-ghost use Rattle.decl_lexer.specs.Views.{GivesPiece, GivesText, lexeme_view};
+ghost use Rattle.decl_lexer.specs.Views.{GivesPiece, GivesText, read_view};
 
 use crate::escapes::{Quoted, escape};
 use crate::pieces::{Piece, PieceError};
+use crate::read::ReadKind;
 use crate::text::{first_is, skip_first, split_first};
-use crate::token::TokenKind;
-use std::alloc::{AllocError, Global};
+use std::alloc::Global;
 
 /// The text that `text` begins with, which goes on behind its opening quote as `inside`.
 #[inline(never)]
@@ -23,7 +23,7 @@ pub fn text_at<'a>(
 {
     match read_text(alloc, kind, text, inside) {
         Ok((value, rest)) => {
-            let token = kind_of_text(alloc, kind, value)?;
+            let token = kind_of_text(kind, value);
             Ok((Piece::Token(token), rest))
         }
         Err(e) => Err(e),
@@ -49,7 +49,7 @@ pub fn raw_text_at<'a>(
     }
     match read_raw(alloc, hashes, text, skip_first(rest)) {
         Ok((value, rest)) => {
-            let token = kind_of_text(alloc, kind, value)?;
+            let token = kind_of_text(kind, value);
             Ok((Piece::Token(token), rest))
         }
         Err(e) => Err(e),
@@ -141,13 +141,13 @@ fn read_raw<'a>(
 }
 
 /// The token of a text that stands for this.
-fn kind_of_text(alloc: Global, kind: Quoted, value: String) -> Result<TokenKind, AllocError>
-    ensures { IfOk result (λ token. lexeme_view token ≡ text_lexeme kind (string_bytes value)) }
+fn kind_of_text(kind: Quoted, value: String) -> ReadKind
+    ensures { read_view result ≡ text_lexeme kind (string_bytes value) }
 {
     match kind {
-        Quoted::Text => Ok(TokenKind::Str(Box::new(alloc, value)?)),
-        Quoted::Bytes => Ok(TokenKind::ByteStr),
-        Quoted::CText => Ok(TokenKind::CStr),
+        Quoted::Text => ReadKind::Str(value),
+        Quoted::Bytes => ReadKind::ByteStr,
+        Quoted::CText => ReadKind::CStr,
     }
 }
 

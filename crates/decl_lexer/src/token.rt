@@ -1,24 +1,17 @@
-//! Tokens, and why a source has none.
+//! Tokens as readers see them, and why a source has none.
 ghost use Rattle.std.specs.Prelude.{◌≡◌};
 
 use crate::marks::Mark;
 use crate::words::Word;
-use std::alloc::AllocFailed;
+use no_memory::NoMemory;
 
-/// A token and its place: the byte offsets in the file where it begins and where it ends.
+/// A token and its place: the byte offsets in the file where it begins and where it ends, both below 2^32.
 /// `from` is below `to`, and the byte at `to` is the first one behind it.
-#[derive(Debug, Drop)]
-pub struct Token {
-    pub kind: TokenKind,
+#[derive(Clone, Copy)]
+pub struct Token<'a> {
+    pub kind: TokenKind<'a>,
     pub from: u64,
     pub to: u64,
-}
-
-/// An identifier: its text in NFC, without its `r#`, and whether it had one.
-#[derive(Debug, Drop)]
-pub struct NameToken {
-    pub text: String,
-    pub raw: bool,
 }
 
 /// An integer literal. `value` is `None` from 2^128 on, `suffix` is as written, or empty, and `decimal` says that no base
@@ -30,12 +23,13 @@ pub struct IntToken {
     pub decimal: bool,
 }
 
-/// What a token is. What takes more than eight bytes stands behind a box, so that a token takes 32.
+/// What a token is. Its texts stand in the lists of its source's `Tokens`.
 ///
 /// Source: the Rust Reference, "Tokens".
-#[derive(Debug, Drop)]
-pub enum TokenKind {
-    Name(Box<NameToken>),
+#[derive(Clone, Copy)]
+pub enum TokenKind<'a> {
+    /// An identifier: its text in NFC, without its `r#`, and whether it had one.
+    Name { text: &'a String, raw: bool },
     Word(Word),
     Mark(Mark),
     /// A lifetime or a raw lifetime.
@@ -43,12 +37,12 @@ pub enum TokenKind {
     /// A decimal integer below 2^64 without a suffix.
     Small(u64),
     /// Any other integer.
-    Int(Box<IntToken>),
+    Int(&'a IntToken),
     Float,
     Char(char),
     Byte(u8),
     /// A text, with a line feed for each CR LF and with its escapes read.
-    Str(Box<String>),
+    Str(&'a String),
     ByteStr,
     CStr,
 }
@@ -64,12 +58,12 @@ pub enum LexFault {
     NoMemory,
 }
 
-impl<T: Drop> From<AllocFailed<T>> for LexFault {
-    ghost use Rattle.decl_lexer.specs.declared.token.LexFault.TheVariants.{NoMemory};
+impl From<NoMemory> for LexFault {
+    ghost use Rattle.decl_lexer.specs.declared.token.LexFault.TheVariants as faults;
 
-    ghost from_gives = { λ _ e. e ≡ NoMemory };
+    ghost from_gives = { λ _ e. e ≡ faults.NoMemory };
 
-    fn from(_e: AllocFailed<T>) -> Self {
+    fn from(_e: NoMemory) -> Self {
         LexFault::NoMemory
     }
 }

@@ -1,7 +1,7 @@
 //! The keywords.
-ghost use Rattle.std.specs.Prelude.{◌≡◌, IsTrue};
+ghost use Rattle.std.specs.Prelude.{◌≡◌, map, IsTrue};
 ghost use Rattle.decl_lexer.specs.Tables.{with_text};
-ghost use Rattle.decl_lexer.specs.Words.{word_of, words_of, can_be_raw};
+ghost use Rattle.decl_lexer.specs.Words.{word_of, can_be_raw};
 
 /// A keyword.
 #[derive(Clone, Copy, Debug, PartialEq, Eq)]
@@ -59,138 +59,127 @@ pub enum Word {
     Yield,
 }
 
-/// The keyword with this text.
+// The keywords by their first letters.
+const FROM_LARGE_S: [(&str, Word); 1] = [("Self", Word::SelfType)];
+
+const FROM_A: [(&str, Word); 4] = [
+    ("as", Word::As),
+    ("async", Word::Async),
+    ("await", Word::Await),
+    ("abstract", Word::Abstract),
+];
+
+const FROM_B: [(&str, Word); 3] = [
+    ("break", Word::Break),
+    ("become", Word::Become),
+    ("box", Word::Box),
+];
+
+const FROM_C: [(&str, Word); 3] = [
+    ("const", Word::Const),
+    ("continue", Word::Continue),
+    ("crate", Word::Crate),
+];
+
+const FROM_D: [(&str, Word); 2] = [("dyn", Word::Dyn), ("do", Word::Do)];
+
+const FROM_E: [(&str, Word); 3] = [
+    ("else", Word::Else),
+    ("enum", Word::Enum),
+    ("extern", Word::Extern),
+];
+
+const FROM_F: [(&str, Word); 4] = [
+    ("false", Word::False),
+    ("fn", Word::Fn),
+    ("for", Word::For),
+    ("final", Word::Final),
+];
+
+const FROM_I: [(&str, Word); 3] = [("if", Word::If), ("impl", Word::Impl), ("in", Word::In)];
+
+const FROM_L: [(&str, Word); 2] = [("let", Word::Let), ("loop", Word::Loop)];
+
+const FROM_M: [(&str, Word); 5] = [
+    ("match", Word::Match),
+    ("mod", Word::Mod),
+    ("move", Word::Move),
+    ("mut", Word::Mut),
+    ("macro", Word::Macro),
+];
+
+const FROM_O: [(&str, Word); 1] = [("override", Word::Override)];
+
+const FROM_P: [(&str, Word); 2] = [("pub", Word::Pub), ("priv", Word::Priv)];
+
+const FROM_R: [(&str, Word); 2] = [("ref", Word::Ref), ("return", Word::Return)];
+
+const FROM_S: [(&str, Word); 4] = [
+    ("self", Word::SelfValue),
+    ("static", Word::Static),
+    ("struct", Word::Struct),
+    ("super", Word::Super),
+];
+
+const FROM_T: [(&str, Word); 5] = [
+    ("trait", Word::Trait),
+    ("true", Word::True),
+    ("type", Word::TypeWord),
+    ("try", Word::Try),
+    ("typeof", Word::Typeof),
+];
+
+const FROM_U: [(&str, Word); 3] = [
+    ("unsafe", Word::Unsafe),
+    ("use", Word::Use),
+    ("unsized", Word::Unsized),
+];
+
+const FROM_V: [(&str, Word); 1] = [("virtual", Word::Virtual)];
+
+const FROM_W: [(&str, Word); 2] = [("where", Word::Where), ("while", Word::While)];
+
+const FROM_Y: [(&str, Word); 1] = [("yield", Word::Yield)];
+
+/// The keyword with this text. It is compared with the keywords that begin with its first letter alone.
 pub fn word_of(text: &str) -> Option<Word>
     ensures { result ≡ word_of text.now }
 {
-    let length = text.len();
-    if length < 2 {
-        return None;
-    }
-    match length {
-        2 => word_of_two(text),
-        3 => word_of_three(text),
-        4 => word_of_four(text),
-        5 => word_of_five(text),
-        6 => word_of_six(text),
-        7 => word_of_seven(text),
-        8 => word_of_eight(text),
+    let first = *text.as_bytes().first()?;
+    match first {
+        b'S' => among(text, &FROM_LARGE_S),
+        b'a' => among(text, &FROM_A),
+        b'b' => among(text, &FROM_B),
+        b'c' => among(text, &FROM_C),
+        b'd' => among(text, &FROM_D),
+        b'e' => among(text, &FROM_E),
+        b'f' => among(text, &FROM_F),
+        b'i' => among(text, &FROM_I),
+        b'l' => among(text, &FROM_L),
+        b'm' => among(text, &FROM_M),
+        b'o' => among(text, &FROM_O),
+        b'p' => among(text, &FROM_P),
+        b'r' => among(text, &FROM_R),
+        b's' => among(text, &FROM_S),
+        b't' => among(text, &FROM_T),
+        b'u' => among(text, &FROM_U),
+        b'v' => among(text, &FROM_V),
+        b'w' => among(text, &FROM_W),
+        b'y' => among(text, &FROM_Y),
         _ => None,
     }
 }
 
-/// The keyword of two letters with this text.
-fn word_of_two(text: &str) -> Option<Word>
-    ensures { result ≡ with_text (words_of 2) text.now }
+/// The keyword with this text among these.
+fn among(text: &str, words: &[(&str, Word)]) -> Option<Word>
+    ensures { result ≡ with_text (map (λ entry. (entry.0.now, entry.1)) words.now) text.now }
 {
-    match text {
-        "as" => Some(Word::As),
-        "fn" => Some(Word::Fn),
-        "if" => Some(Word::If),
-        "in" => Some(Word::In),
-        "do" => Some(Word::Do),
-        _ => None,
+    for (spelling, word) in words {
+        if *spelling == text {
+            return Some(*word);
+        }
     }
-}
-
-/// The keyword of three letters with this text.
-fn word_of_three(text: &str) -> Option<Word>
-    ensures { result ≡ with_text (words_of 3) text.now }
-{
-    match text {
-        "dyn" => Some(Word::Dyn),
-        "for" => Some(Word::For),
-        "let" => Some(Word::Let),
-        "mod" => Some(Word::Mod),
-        "mut" => Some(Word::Mut),
-        "pub" => Some(Word::Pub),
-        "ref" => Some(Word::Ref),
-        "use" => Some(Word::Use),
-        "box" => Some(Word::Box),
-        "try" => Some(Word::Try),
-        _ => None,
-    }
-}
-
-/// The keyword of four letters with this text.
-fn word_of_four(text: &str) -> Option<Word>
-    ensures { result ≡ with_text (words_of 4) text.now }
-{
-    match text {
-        "else" => Some(Word::Else),
-        "enum" => Some(Word::Enum),
-        "impl" => Some(Word::Impl),
-        "loop" => Some(Word::Loop),
-        "move" => Some(Word::Move),
-        "self" => Some(Word::SelfValue),
-        "Self" => Some(Word::SelfType),
-        "true" => Some(Word::True),
-        "type" => Some(Word::TypeWord),
-        "priv" => Some(Word::Priv),
-        _ => None,
-    }
-}
-
-/// The keyword of five letters with this text.
-fn word_of_five(text: &str) -> Option<Word>
-    ensures { result ≡ with_text (words_of 5) text.now }
-{
-    match text {
-        "async" => Some(Word::Async),
-        "await" => Some(Word::Await),
-        "break" => Some(Word::Break),
-        "const" => Some(Word::Const),
-        "crate" => Some(Word::Crate),
-        "false" => Some(Word::False),
-        "match" => Some(Word::Match),
-        "super" => Some(Word::Super),
-        "trait" => Some(Word::Trait),
-        "where" => Some(Word::Where),
-        "while" => Some(Word::While),
-        "final" => Some(Word::Final),
-        "macro" => Some(Word::Macro),
-        "yield" => Some(Word::Yield),
-        _ => None,
-    }
-}
-
-/// The keyword of six letters with this text.
-fn word_of_six(text: &str) -> Option<Word>
-    ensures { result ≡ with_text (words_of 6) text.now }
-{
-    match text {
-        "extern" => Some(Word::Extern),
-        "return" => Some(Word::Return),
-        "static" => Some(Word::Static),
-        "struct" => Some(Word::Struct),
-        "unsafe" => Some(Word::Unsafe),
-        "become" => Some(Word::Become),
-        "typeof" => Some(Word::Typeof),
-        _ => None,
-    }
-}
-
-/// The keyword of seven letters with this text.
-fn word_of_seven(text: &str) -> Option<Word>
-    ensures { result ≡ with_text (words_of 7) text.now }
-{
-    match text {
-        "unsized" => Some(Word::Unsized),
-        "virtual" => Some(Word::Virtual),
-        _ => None,
-    }
-}
-
-/// The keyword of eight letters with this text.
-fn word_of_eight(text: &str) -> Option<Word>
-    ensures { result ≡ with_text (words_of 8) text.now }
-{
-    match text {
-        "continue" => Some(Word::Continue),
-        "abstract" => Some(Word::Abstract),
-        "override" => Some(Word::Override),
-        _ => None,
-    }
+    None
 }
 
 /// Whether `r#` may stand before the text.

@@ -11,7 +11,7 @@ use crate::names::owned_name_at;
 use crate::parts::{attributes_at, type_at};
 use crate::runs::{Until, run_at};
 use decl_lexer::{Mark, TokenKind, Word};
-use decl_syntax::{Cursor, Field, Form, Seen, Stop, behind, behind_word};
+use decl_syntax::{Cursor, Field, Form, Seen, Stop, behind, behind_word, fitted};
 use std::alloc::Global;
 
 /// Whether a word comes next that begins what stands between the brackets of a visibility.
@@ -170,11 +170,11 @@ pub fn form_at(alloc: Global, at: Cursor<'_>) -> Result<(Form, Cursor<'_>), Stop
 {
     if let Some(rest) = behind(at, Mark::OpenRound) {
         let (parts, rest) = fields_at(alloc, false, rest)?;
-        return Ok((Form::Tuple(parts), rest));
+        return Ok((Form::Tuple(fitted(parts)), rest));
     }
     if let Some(rest) = behind(at, Mark::OpenCurly) {
         let (members, rest) = fields_at(alloc, true, rest)?;
-        return Ok((Form::Brace(members), rest));
+        return Ok((Form::Brace(fitted(members)), rest));
     }
     Ok((Form::Unit, at))
 }

@@ -12,7 +12,7 @@ ghost use Rattle.decl_parser.specs.FileReading.{file_attribute_at, ReadsItem};
 use crate::items::item_at;
 use crate::runs::{Until, run_at};
 use crate::widths::item_is_wide;
-use decl_lexer::{Mark, Token};
+use decl_lexer::{Mark, Tokens};
 use decl_syntax::{Cursor, File, Item, Stop, behind};
 use std::alloc::{AllocError, AllocFailed, Global};
 
@@ -50,10 +50,10 @@ impl<T: Drop> From<AllocFailed<T>> for ParseFault {
 /// of variants, of arms and of the nodes of patterns there are at most twice as many as tokens.
 ///
 /// Source: the Rust Reference, "Items"; which of them, and the limits, are our own choice.
-pub fn parse(alloc: Global, tokens: &[Token]) -> Result<File, ParseFault>
+pub fn parse(alloc: Global, tokens: &Tokens) -> Result<File, ParseFault>
     ensures file { IfOk result (λ f. IsFile (units (tokens_view tokens.now)) (file_view f)) }
     ensures fault { IfErr result (IsFaultOf (units (tokens_view tokens.now))) }
-    ensures counts { IfOk result (λ f. HasAtMost (2 * length tokens.now) (file_view f)) }
+    ensures counts { IfOk result (λ f. HasAtMost (2 * length (tokens_view tokens.now)) (file_view f)) }
 {
     let mut items = Vec::new(alloc);
     let mut rest = start_of_items(alloc, Cursor::new(tokens))?;

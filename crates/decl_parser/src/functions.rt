@@ -10,7 +10,9 @@ use crate::arms::arms_at;
 use crate::parts::type_at;
 use crate::runs::{Until, run_at};
 use decl_lexer::{Mark, Word};
-use decl_syntax::{Arm, Cursor, Stop, Ty, behind, behind_word, name_at, skip_mark, skip_word};
+use decl_syntax::{
+    Arm, Cursor, Stop, Ty, behind, behind_word, fitted, name_at, skip_mark, skip_word,
+};
 use std::alloc::Global;
 
 /// What is known of a function but its name: the type of its parameter, the byte offset of the `*` in
@@ -37,6 +39,7 @@ pub fn function_at(alloc: Global, at: Cursor<'_>) -> Result<(Body, Cursor<'_>), 
     let Some(rest) = behind(rest, Mark::CloseCurly) else {
         return Err(Stop::Syntax);
     };
+    let arms = fitted(arms);
     Ok((Body { param, deref, arms }, rest))
 }
 

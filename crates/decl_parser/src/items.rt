@@ -12,6 +12,7 @@ use crate::parts::attributes_at;
 use decl_lexer::{Mark, Word};
 use decl_syntax::{
     Cursor, EnumItem, FnItem, Item, ItemKind, Stop, StructItem, UseItem, behind, behind_word,
+    fitted,
 };
 use std::alloc::Global;
 
@@ -57,6 +58,7 @@ fn enum_at(alloc: Global, at: Cursor<'_>) -> Result<(ItemKind, Cursor<'_>), Stop
         return Err(Stop::Syntax);
     };
     let (variants, rest) = variants_at(alloc, rest)?;
+    let variants = fitted(variants);
     Ok((ItemKind::Enum(EnumItem { name, variants }), rest))
 }
 

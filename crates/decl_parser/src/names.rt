@@ -5,7 +5,7 @@ ghost use Rattle.decl_syntax.specs.Reading.{Gives};
 ghost use Rattle.decl_parser.specs.DeclarationReading.{name_list_at, names_at};
 
 use decl_lexer::Mark;
-use decl_syntax::{Cursor, Stop, behind, name_at};
+use decl_syntax::{Cursor, Stop, behind, fitted, name_at};
 use std::alloc::Global;
 
 /// A name, and the place behind it.
@@ -55,5 +55,5 @@ pub fn names_at(alloc: Global, at: Cursor<'_>) -> Result<(Option<Vec<String>>, C
         return Err(Stop::Syntax);
     };
     let (names, rest) = name_list_at(alloc, rest)?;
-    Ok((Some(names), rest))
+    Ok((Some(fitted(names)), rest))
 }

@@ -12,7 +12,7 @@ use Rattle.decl_lexer.specs.contracts.words.Word as word_contract
 use Rattle.decl_lexer.specs.Begins.{Lexeme, Named, Keyword, Marked, Lifetime, Integer}
 use Rattle.decl_lexer.specs.Views.{lexeme_view}
 use Rattle.decl_lexer.specs.Lexing.{Placed}
-use Rattle.decl_lexer.specs.Tokens.{tokens_view}
+use Rattle.decl_lexer.specs.Stored.{rest_view}
 use Rattle.decl_syntax.specs.declared.cursor.Cursor.{Cursor}
 use Rattle.decl_syntax.specs.declared.cursor.Half.{Half}
 use Rattle.decl_syntax.specs.declared.cursor.Unit as declared
@@ -52,12 +52,12 @@ pending_view (Some half) = second_half half.mark half.to ∷ []
 
 -- the tokens behind a place
 unfoldable pub left : Cursor → List Placed
-left c = pending_view c.pending ++ units (tokens_view c.tokens.now)
+left c = pending_view c.pending ++ units (rest_view c.rest)
 
 -- a token without where its text lies in memory
 abbrev pub seen_view : Seen → Lexeme
 seen_view (seen.Mark mark) = Marked mark
-seen_view (seen.Other kind) = lexeme_view kind.now
+seen_view (seen.Other kind) = lexeme_view kind
 
 -- the same with its place
 abbrev pub unit_view : declared.Unit → Placed

@@ -54,7 +54,7 @@ pub fn mark_of(unit: Unit<'_>) -> Option<Mark>
 {
     match unit.kind {
         Seen::Mark(mark) => Some(mark),
-        Seen::Other(TokenKind::Mark(mark)) => Some(*mark),
+        Seen::Other(TokenKind::Mark(mark)) => Some(mark),
         _ => None,
     }
 }
@@ -91,7 +91,7 @@ fn first_word<'a>(word: Option<&'a String>, unit: Unit<'a>) -> Option<&'a String
         return Some(word);
     }
     match unit.kind {
-        Seen::Other(TokenKind::Name(name)) => Some(&name.text),
+        Seen::Other(TokenKind::Name { text, .. }) => Some(text),
         _ => None,
     }
 }

@@ -1,10 +1,9 @@
 //! A place in a list of tokens, and one step from there.
 ghost use Rattle.std.specs.Prelude.{◌≡◌, ◌∷◌, [], MatchOption, option_map, string_bytes};
-ghost use Rattle.decl_lexer.specs.Lexing.{Placed};
-ghost use Rattle.decl_lexer.specs.Tokens.{tokens_view};
+ghost use Rattle.decl_lexer.specs.Stored.{tokens_view, rest_view};
 ghost use Rattle.decl_syntax.specs.Units.{units, left, unit_view, doubled, behind, is_mark, is_word, is_lifetime, token_at, name_of, flag_at, integer_of, from_of};
 
-use decl_lexer::{Mark, Token, TokenKind, Word};
+use decl_lexer::{Mark, Rest, TokenKind, Tokens, Word};
 
 /// The second mark of a token `&&` or `>>`, which ends at byte `to` and begins one byte before.
 #[derive(Clone, Copy, Debug)]
@@ -13,18 +12,18 @@ pub struct Half {
     to: u64,
 }
 
-/// A place in a list of tokens, in which each `&&` and `>>` is two marks.
+/// A place in the tokens of a source, in which each `&&` and `>>` is two marks.
 #[derive(Clone, Copy)]
 pub struct Cursor<'a> {
     pending: Option<Half>,
-    tokens: &'a [Token],
+    rest: Rest<'a>,
 }
 
 /// What a token is: a mark, or anything else.
 #[derive(Clone, Copy)]
 pub enum Seen<'a> {
     Mark(Mark),
-    Other(&'a TokenKind),
+    Other(TokenKind<'a>),
 }
 
 /// A token or half of one, from byte `from` up to byte `to`.
@@ -36,8 +35,8 @@ pub struct Unit<'a> {
 }
 
 /// The mark of which a token is two.
-fn doubled(kind: &TokenKind) -> Option<Mark>
-    ensures { result ≡ doubled kind.now }
+fn doubled(kind: TokenKind<'_>) -> Option<Mark>
+    ensures { result ≡ doubled kind.entry }
 {
     match kind {
         TokenKind::Mark(Mark::And) => Some(Mark::Ampersand),
@@ -48,13 +47,20 @@ fn doubled(kind: &TokenKind) -> Option<Mark>
 
 impl<'a> Cursor<'a> {
     /// The place before the first token.
-    #[tactic(auto, unfolding(crate::specs::Units::left))]
-    pub fn new(tokens: &'a [Token]) -> Cursor<'a>
+    pub fn new(tokens: &'a Tokens) -> Cursor<'a>
         ensures { left result ≡ units (tokens_view tokens.now) }
+    {
+        Cursor::before(tokens.rest())
+    }
+
+    /// The place before these tokens.
+    #[tactic(auto, unfolding(crate::specs::Units::left))]
+    fn before(rest: Rest<'a>) -> Cursor<'a>
+        ensures { left result ≡ units (rest_view rest.entry) }
     {
         Cursor {
             pending: None,
-            tokens,
+            rest,
         }
     }
 
@@ -66,7 +72,7 @@ impl<'a> Cursor<'a> {
         if let Some(half) = self.pending {
             let kind = Seen::Mark(half.mark);
             let from = half.to.saturating_sub(1);
-            let rest = Cursor::new(self.tokens);
+            let rest = Cursor::before(self.rest);
             return Some((
                 Unit {
                     kind,
@@ -76,18 +82,18 @@ impl<'a> Cursor<'a> {
                 rest,
             ));
         }
-        let (first, tokens) = self.tokens.split_first()?;
+        let (first, rest) = self.rest.split_first()?;
         let (from, to) = (first.from, first.to);
-        match doubled(&first.kind) {
+        match doubled(first.kind) {
             Some(mark) => {
                 let kind = Seen::Mark(mark);
                 let pending = Some(Half { mark, to });
                 let to = to.saturating_sub(1);
-                Some((Unit { kind, from, to }, Cursor { pending, tokens }))
+                Some((Unit { kind, from, to }, Cursor { pending, rest }))
             }
             None => {
-                let kind = Seen::Other(&first.kind);
-                Some((Unit { kind, from, to }, Cursor::new(tokens)))
+                let kind = Seen::Other(first.kind);
+                Some((Unit { kind, from, to }, Cursor::before(rest)))
             }
         }
     }
@@ -117,7 +123,7 @@ pub fn behind(at: Cursor<'_>, mark: Mark) -> Option<Cursor<'_>>
             }
         }
         Seen::Other(TokenKind::Mark(other)) => {
-            if *other == mark {
+            if other == mark {
                 return Some(rest);
             }
         }
@@ -132,7 +138,7 @@ pub fn behind_word(at: Cursor<'_>, word: Word) -> Option<Cursor<'_>>
 {
     let (first, rest) = at.next()?;
     if let Seen::Other(TokenKind::Word(other)) = first.kind {
-        if *other == word {
+        if other == word {
             return Some(rest);
         }
     }
@@ -156,7 +162,7 @@ pub fn name_at(at: Cursor<'_>) -> Option<(&String, Cursor<'_>)>
 {
     let (first, rest) = at.next()?;
     match first.kind {
-        Seen::Other(TokenKind::Name(name)) => Some((&name.text, rest)),
+        Seen::Other(TokenKind::Name { text, .. }) => Some((text, rest)),
         _ => None,
     }
 }
@@ -198,7 +204,7 @@ pub fn integer_at(at: Cursor<'_>) -> Option<(Option<u128>, &str, Cursor<'_>)>
 {
     let (first, rest) = at.next()?;
     match first.kind {
-        Seen::Other(TokenKind::Small(value)) => Some((Some(*value as u128), "", rest)),
+        Seen::Other(TokenKind::Small(value)) => Some((Some(value as u128), "", rest)),
         Seen::Other(TokenKind::Int(int)) => Some((int.value, int.suffix.as_str(), rest)),
         _ => None,
     }

@@ -7,6 +7,7 @@ ghost use Rattle.decl_syntax.specs.EndGrammar.{begins_end};
 ghost use Rattle.decl_syntax.specs.EndReading.{literal_of, negated_of, end_of, range_mark_of, segment_of, segment_view, segments_at, end_at, range_behind, range_at, path_tree_at};
 
 use crate::cursor::{Cursor, Seen, behind};
+use crate::lists::fitted;
 use crate::stop::Stop;
 use crate::tree::{IntLit, Lit, PatKind, Path, RangePat};
 use decl_lexer::{IntToken, Mark, TokenKind, Word};
@@ -48,9 +49,9 @@ pub fn literal_at(alloc: Global, at: Cursor<'_>) -> Result<(Lit, Cursor<'_>), St
     match kind {
         TokenKind::Word(Word::True) => Ok((Lit::Flag(true), rest)),
         TokenKind::Word(Word::False) => Ok((Lit::Flag(false), rest)),
-        TokenKind::Char(c) => Ok((Lit::Char(*c), rest)),
-        TokenKind::Byte(b) => Ok((Lit::Byte(*b), rest)),
-        TokenKind::Small(size) => Ok((small(false, *size), rest)),
+        TokenKind::Char(c) => Ok((Lit::Char(c), rest)),
+        TokenKind::Byte(b) => Ok((Lit::Byte(b), rest)),
+        TokenKind::Small(size) => Ok((small(false, size), rest)),
         TokenKind::Int(int) => Ok((integer(alloc, false, int)?, rest)),
         TokenKind::Str(text) => Ok((Lit::Str(String::from_str(alloc, text.as_str())?), rest)),
         TokenKind::Float | TokenKind::ByteStr | TokenKind::CStr => Ok((Lit::Other, rest)),
@@ -69,7 +70,7 @@ pub fn negated_at(alloc: Global, at: Cursor<'_>) -> Result<(Lit, Cursor<'_>), St
         return Err(Stop::Syntax);
     };
     match kind {
-        TokenKind::Small(size) => Ok((small(true, *size), rest)),
+        TokenKind::Small(size) => Ok((small(true, size), rest)),
         TokenKind::Int(int) => Ok((integer(alloc, true, int)?, rest)),
         TokenKind::Float => Ok((Lit::Other, rest)),
         _ => Err(Stop::Syntax),
@@ -87,9 +88,9 @@ fn one_token_end(alloc: Global, at: Cursor<'_>) -> Result<(Lit, Cursor<'_>), Sto
         return Err(Stop::Syntax);
     };
     match kind {
-        TokenKind::Char(c) => Ok((Lit::Char(*c), rest)),
-        TokenKind::Byte(b) => Ok((Lit::Byte(*b), rest)),
-        TokenKind::Small(size) => Ok((small(false, *size), rest)),
+        TokenKind::Char(c) => Ok((Lit::Char(c), rest)),
+        TokenKind::Byte(b) => Ok((Lit::Byte(b), rest)),
+        TokenKind::Small(size) => Ok((small(false, size), rest)),
         TokenKind::Int(int) => Ok((integer(alloc, false, int)?, rest)),
         TokenKind::Float => Ok((Lit::Other, rest)),
         _ => Err(Stop::Syntax),
@@ -105,7 +106,7 @@ fn segment_at(at: Cursor<'_>) -> Option<(&str, bool, Cursor<'_>)>
         return None;
     };
     match kind {
-        TokenKind::Name(name) => Some((name.text.as_str(), true, rest)),
+        TokenKind::Name { text, .. } => Some((text.as_str(), true, rest)),
         TokenKind::Word(Word::Crate) => Some(("crate", false, rest)),
         TokenKind::Word(Word::SelfValue) => Some(("self", false, rest)),
         TokenKind::Word(Word::Super) => Some(("super", false, rest)),
@@ -129,7 +130,10 @@ pub fn path_at(alloc: Global, at: Cursor<'_>) -> Result<(Path, Cursor<'_>), Stop
         plain &= is_name;
         match behind(after, Mark::PathSeparator) {
             Some(behind) => rest = behind,
-            None => return Ok((Path { names, plain }, after)),
+            None => {
+                let names = fitted(names);
+                return Ok((Path { names, plain }, after));
+            }
         }
     }
 }
@@ -186,7 +190,7 @@ pub fn begins_end(at: Cursor<'_>) -> bool
                 | TokenKind::Small(_)
                 | TokenKind::Int(_)
                 | TokenKind::Float
-                | TokenKind::Name(_)
+                | TokenKind::Name { .. }
                 | TokenKind::Word(Word::Crate | Word::SelfValue | Word::Super | Word::SelfType)
         ),
     }

@@ -20,6 +20,7 @@ mod ends;
 mod items;
 mod laws;
 mod levels;
+mod lists;
 mod pattern;
 mod stop;
 #[cfg(test)]
@@ -36,6 +37,7 @@ pub use items::{
     Arm, EnumItem, Field, File, FnItem, Form, Item, ItemKind, StructItem, UseItem, Variant,
 };
 pub use laws::{levels_suffice, one_attribute_list, one_pattern, one_type};
+pub use lists::fitted;
 pub use pattern::read_pattern;
 pub use stop::Stop;
 pub use tree::{Attr, FieldPat, IntLit, Lit, Pat, PatKind, Path, RangePat};

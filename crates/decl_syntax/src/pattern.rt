@@ -14,6 +14,7 @@ use crate::attributes::attributes_at;
 use crate::cursor::{Cursor, Seen, Unit, behind, name_at, skip_mark, skip_word};
 use crate::ends::{begins_end, literal_at, negated_at, path_at, range_at};
 use crate::levels::fits;
+use crate::lists::fitted;
 use crate::stop::Stop;
 use crate::tree::{FieldPat, Pat, PatKind, Path};
 use decl_lexer::{Mark, TokenKind, Word};
@@ -137,9 +138,9 @@ fn field_name(alloc: Global, unit: Unit<'_>) -> Result<String, Stop>
 {
     let width = unit.to.saturating_sub(unit.from);
     match unit.kind {
-        Seen::Other(TokenKind::Name(name)) => Ok(String::from_str(alloc, name.text.as_str())?),
+        Seen::Other(TokenKind::Name { text, .. }) => Ok(String::from_str(alloc, text.as_str())?),
         Seen::Other(TokenKind::Small(value)) => {
-            number_name(alloc, Some(*value as u128), true, width)
+            number_name(alloc, Some(value as u128), true, width)
         }
         Seen::Other(TokenKind::Int(int)) => number_name(alloc, int.value, int.decimal, width),
         _ => Err(Stop::Syntax),
@@ -258,7 +259,7 @@ fn unbound_at(alloc: Global, levels: u32, at: Cursor<'_>) -> Result<(PatKind, Cu
     }
     if let Some(rest) = behind(at, Mark::OpenSquare) {
         let (items, rest) = items_at(alloc, levels, true, rest)?;
-        return Ok((PatKind::Slice(items), rest));
+        return Ok((PatKind::Slice(fitted(items)), rest));
     }
     if let Some(rest) = behind(at, Mark::Ampersand) {
         return point_pattern(alloc, levels, rest);
@@ -288,11 +289,13 @@ fn path_pattern_at(
     let (path, rest) = path_at(alloc, at)?;
     if let Some(rest) = behind(rest, Mark::OpenRound) {
         let (items, rest) = items_at(alloc, levels, false, rest)?;
+        let items = fitted(items);
         let path = Box::new(alloc, path)?;
         return Ok((PatKind::TupleForm { path, items }, rest));
     }
     if let Some(rest) = behind(rest, Mark::OpenCurly) {
         let (fields, dotted, rest) = fields_at(alloc, levels, rest)?;
+        let fields = fitted(fields);
         let path = Box::new(alloc, path)?;
         return Ok((
             PatKind::Brace {
@@ -450,7 +453,7 @@ fn tuple_behind(
     };
     let (mut items, rest) = items_at(alloc, levels, false, rest)?;
     items.insert(0, first)?;
-    Ok((PatKind::Tuple(items), rest))
+    Ok((PatKind::Tuple(fitted(items)), rest))
 }
 
 /// An alternative: a range, or else a pattern that is none.
@@ -507,7 +510,7 @@ fn or_of(from: u64, mut all: Vec<Pat>) -> Option<Pat>
     if all.len() < 2 {
         return all.pop();
     }
-    let kind = PatKind::Or(all);
+    let kind = PatKind::Or(fitted(all));
     Some(Pat { from, kind })
 }
 

@@ -10,7 +10,7 @@ fn a_type_is_read(rt: HostRuntime) -> Result<(), Fail> {
     let tokens = lex(alloc, "(&'a mut A<B<u8>>, [u8; 0x10usize])".as_bytes())
         .ok()
         .ok_or("no tokens")?;
-    let (found, rest) = read_type(alloc, Cursor::new(tokens.as_slice()))
+    let (found, rest) = read_type(alloc, Cursor::new(&tokens))
         .ok()
         .ok_or("no type")?;
     assert!(rt; rest.next().is_none());
@@ -27,7 +27,7 @@ fn a_pattern_is_read(rt: HostRuntime) -> Result<(), Fail> {
     let alloc = rt.alloc();
     let source = "| A::B{ref a, #[b] c: [-1..=2, d @ .., 'e']} | (\"f\", .., (3))";
     let tokens = lex(alloc, source.as_bytes()).ok().ok_or("no tokens")?;
-    let (found, rest) = read_pattern(alloc, Cursor::new(tokens.as_slice()))
+    let (found, rest) = read_pattern(alloc, Cursor::new(&tokens))
         .ok()
         .ok_or("no pattern")?;
     assert!(rt; rest.next().is_none());
@@ -46,7 +46,7 @@ fn attributes_are_read(rt: HostRuntime) -> Result<(), Fail> {
     let tokens = lex(alloc, "#[a] #[b(c)] x".as_bytes())
         .ok()
         .ok_or("no tokens")?;
-    let (found, rest) = read_attributes(alloc, Cursor::new(tokens.as_slice()))
+    let (found, rest) = read_attributes(alloc, Cursor::new(&tokens))
         .ok()
         .ok_or("no attributes")?;
     assert_eq!(rt; found.len(), 2);

@@ -12,6 +12,7 @@ ghost use Rattle.decl_lexer.specs.declared.marks.Mark.TheVariants as marks;
 use crate::cursor::{
     Cursor, behind, behind_lifetime, integer_at, name_at, skip_lifetime, skip_word,
 };
+use crate::lists::fitted;
 use crate::stop::Stop;
 use decl_lexer::{Mark, Word};
 use std::alloc::Global;
@@ -94,7 +95,7 @@ fn round_type(alloc: Global, levels: u32, at: Cursor<'_>) -> Result<(Ty, Cursor<
     };
     let (mut parts, rest) = tuple_parts(alloc, levels, rest)?;
     parts.insert(0, first)?;
-    Ok((Ty::Tuple(parts), rest))
+    Ok((Ty::Tuple(fitted(parts)), rest))
 }
 
 /// A type behind an opening square bracket.
@@ -146,6 +147,7 @@ fn named_type<'a>(
     match behind(at, Mark::Less) {
         Some(rest) => {
             let (args, rest) = type_args(alloc, levels, rest)?;
+            let args = fitted(args);
             Ok((Ty::Named { name, args }, rest))
         }
         None => {

@@ -22,7 +22,7 @@ use crate::refusals::{refused_at, refused_in};
 use crate::reporting::{Reported, report_on};
 use crate::source::Source;
 use crate::words::{Command, Question, Request};
-use decl_lexer::{LexFault, Token, lex};
+use decl_lexer::{LexFault, Tokens, lex};
 use decl_parser::{ParseFault, parse};
 use decl_syntax::File;
 use no_memory::NoMemory;
@@ -79,11 +79,11 @@ fn judged(alloc: Global, request: &Request<'_>, source: &[u8]) -> Result<Answer,
 fn answer_to_tokens(
     alloc: Global,
     request: &Request<'_>,
-    tokens: Vec<Token>,
+    tokens: Tokens,
 ) -> Result<Answer, NoMemory>
-    requires few { length tokens.items ≤ longest_source }
-    requires lexed { (source : List ℕ) × HasTokens source (tokens_view tokens.items) }
-    ensures answers { IfOk result (λ a. IsAnswerToTokens (request_view request.now) (tokens_view tokens.items) a.text.items a.status) }
+    requires few { length (tokens_view tokens) ≤ longest_source }
+    requires lexed { (source : List ℕ) × HasTokens source (tokens_view tokens) }
+    ensures answers { IfOk result (λ a. IsAnswerToTokens (request_view request.now) (tokens_view tokens) a.text.items a.status) }
     ensures verdict { IfOk result (λ a. IsVerdict a.status) }
 {
     let fault = match file_of(alloc, tokens) {
@@ -98,10 +98,10 @@ fn answer_to_tokens(
 }
 
 // The file that tokens spell, or else their fault. The tokens are given back, before anything is made of the file.
-fn file_of(alloc: Global, tokens: Vec<Token>) -> Result<File, ParseFault>
-    ensures file { IfOk result (λ f. IsFile (units (tokens_view tokens.items)) (file_view f)) }
-    ensures fault { IfErr result (IsFaultOfTokens (units (tokens_view tokens.items))) }
-    ensures counts { IfOk result (λ f. HasAtMost (2 * length tokens.items) (file_view f)) }
+fn file_of(alloc: Global, tokens: Tokens) -> Result<File, ParseFault>
+    ensures file { IfOk result (λ f. IsFile (units (tokens_view tokens)) (file_view f)) }
+    ensures fault { IfErr result (IsFaultOfTokens (units (tokens_view tokens))) }
+    ensures counts { IfOk result (λ f. HasAtMost (2 * length (tokens_view tokens)) (file_view f)) }
 {
     parse(alloc, &tokens)
 }

@@ -18,7 +18,7 @@ use Rattle.decl_lexer.specs.Numbers.{behind_digits, number_from}
 use Rattle.decl_lexer.specs.Escapes.{escape, digit_count}
 use Rattle.decl_lexer.specs.Texts.{text_from, with_front}
 use Rattle.decl_lexer.specs.Pieces.{piece_at}
-use Rattle.decl_lexer.proofs.TablesLemmas.{not_equal}
+use Rattle.decl_lexer.proofs.BoolLemmas.{not_equal}
 use Rattle.witness_text.specs.Literals.{escaped, code_escape}
 use Rattle.value_syntax.proofs.LexedNames.{and_left, and_right}
 use Rattle.value_syntax.proofs.LexedNumbers.{bound, sixteen, last_digit, glyph_value, glyph_plain, written_number}

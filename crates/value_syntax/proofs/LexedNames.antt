@@ -19,7 +19,7 @@ use Rattle.decl_lexer.specs.Texts.{is_hash, is_raw_text}
 use Rattle.decl_lexer.specs.Words.{word_of, can_be_raw}
 use Rattle.decl_lexer.specs.Names.{is_name_start, lexeme_of, name_at, raw_name_at}
 use Rattle.decl_lexer.specs.Pieces.{piece_at}
-use Rattle.decl_lexer.proofs.TablesLemmas.{not_equal}
+use Rattle.decl_lexer.proofs.BoolLemmas.{not_equal}
 use Rattle.value_syntax.specs.Canonical.{IsName}
 
 -- what may follow a name or a number in a written value

@@ -27,7 +27,7 @@ pub fn read_written(alloc: Global, text: &str) -> Result<WrittenValue, ReadFault
         Err(LexFault::Rule { .. }) => return Err(ReadFault::Syntax),
         Err(LexFault::NoMemory) => return Err(ReadFault::NoMemory),
     };
-    match whole_value(alloc, Cursor::new(tokens.as_slice())) {
+    match whole_value(alloc, Cursor::new(&tokens)) {
         Ok(value) => Ok(value),
         Err(Stop::Syntax) => Err(ReadFault::Syntax),
         Err(Stop::Memory) => Err(ReadFault::NoMemory),
@@ -85,9 +85,9 @@ fn literal_at(alloc: Global, at: Cursor<'_>) -> Result<(WrittenValue, Cursor<'_>
     match kind {
         TokenKind::Word(Word::True) => Ok((WrittenValue::Flag(true), rest)),
         TokenKind::Word(Word::False) => Ok((WrittenValue::Flag(false), rest)),
-        TokenKind::Char(c) => Ok((WrittenValue::Char(*c), rest)),
-        TokenKind::Byte(b) => Ok((WrittenValue::Byte(*b), rest)),
-        TokenKind::Small(size) => Ok((small(alloc, false, *size), rest)),
+        TokenKind::Char(c) => Ok((WrittenValue::Char(c), rest)),
+        TokenKind::Byte(b) => Ok((WrittenValue::Byte(b), rest)),
+        TokenKind::Small(size) => Ok((small(alloc, false, size), rest)),
         TokenKind::Int(int) => Ok((integer(alloc, false, int)?, rest)),
         TokenKind::Str(text) => {
             let text = String::from_str(alloc, text.as_str())?;
@@ -108,7 +108,7 @@ fn negated_at(alloc: Global, at: Cursor<'_>) -> Result<(WrittenValue, Cursor<'_>
         return Err(Stop::Syntax);
     };
     match kind {
-        TokenKind::Small(size) => Ok((small(alloc, true, *size), rest)),
+        TokenKind::Small(size) => Ok((small(alloc, true, size), rest)),
         TokenKind::Int(int) => Ok((integer(alloc, true, int)?, rest)),
         _ => Err(Stop::Syntax),
     }
@@ -151,13 +151,13 @@ fn unknown_at(at: Cursor<'_>) -> Result<(WrittenValue, Cursor<'_>), Stop>
     let Some((first, rest)) = at.next() else {
         return Err(Stop::Syntax);
     };
-    let Seen::Other(TokenKind::Name(name)) = first.kind else {
+    let Seen::Other(TokenKind::Name { text, raw }) = first.kind else {
         return Err(Stop::Syntax);
     };
-    if name.raw {
+    if raw {
         return Err(Stop::Syntax);
     }
-    match unknown_word(name.text.as_str()) {
+    match unknown_word(text.as_str()) {
         Some(value) => Ok((value, rest)),
         None => Err(Stop::Syntax),
     }

@@ -2,7 +2,7 @@ use Rattle.std.proofs.Common.{rules, ◌≡◌, chars, ℕ, List, Ok, sym, subst
 use Rattle.std.specs.Str.{IsUtf8}
 use Rattle.decl_lexer.specs.Begins.{Gap, Token}
 use Rattle.decl_lexer.specs.Pieces.{piece_at}
-use Rattle.decl_lexer.specs.Views.{lexeme_view}
+use Rattle.decl_lexer.specs.Views.{read_view}
 use Rattle.decl_lexer.specs.Lexing.{Finds, End, nothing}
 use Rattle.decl_lexer.proofs.LexLemmas.{cut, token_found, gap_found, within, fault_found}
 use Rattle.decl_lexer.proofs.lexing.first_token.Goals as goal
@@ -19,9 +19,9 @@ returns-in-Token c =
     let behind = c.in-Some.behind.now in
     let after = c.in-Ok.after.now in
     let u : IsUtf8 after = search rules in
-    let read : piece_at c.in-Some.first (chars behind) ≡ Ok (Token (lexeme_view c.in-Token.kind), chars after) = rw c.in-Token.is at c.in-Ok.ensures in
+    let read : piece_at c.in-Some.first (chars behind) ≡ Ok (Token (read_view c.in-Token.kind), chars after) = rw c.in-Token.is at c.in-Ok.ensures in
     let k = cut c.in-Some.first rest behind after _ c.gaps.invariant.utf8 u c.in-Some.ensures.cases read in
-    c.gaps.invariant.first _ (token_found c.gaps.at c.in-Some.first rest behind after (lexeme_view c.in-Token.kind) c.in-Some.ensures.cases k read)
+    c.gaps.invariant.first _ (token_found c.gaps.at c.in-Some.first rest behind after (read_view c.in-Token.kind) c.in-Some.ensures.cases k read)
 
 pub gaps-smaller : goal.gaps-smaller
 gaps-smaller c =

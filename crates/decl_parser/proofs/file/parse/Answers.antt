@@ -1,7 +1,7 @@
-use Rattle.std.proofs.Common.{length, map, ap, ◌∙◌, arith}
+use Rattle.std.proofs.Common.{length, map, ap, ◌∙◌, arith, refl}
 use Rattle.std.proofs.lemmas.Result.{err_from_is_err_and}
 use Rattle.std.proofs.lemmas.List.{map_push, length-map}
-use Rattle.decl_lexer.specs.Tokens.{token_view, tokens_view}
+use Rattle.decl_lexer.specs.Tokens.{tokens_view}
 use Rattle.decl_syntax.specs.Units.{units, left, unit_view}
 use Rattle.decl_syntax.specs.Items.{item_view}
 use Rattle.decl_parser.specs.ItemGrammar.{nothing}
@@ -41,7 +41,7 @@ items-preserved c =
 
 pub returns-in_default-clause-counts : goal.returns-in_default-clause-counts
 returns-in_default-clause-counts c =
-    file_has_at_most (tokens_view c.args.tokens.now) (length c.args.tokens.now) (map item_view c.items.items.items) (length-map c.args.tokens.now token_view)
+    file_has_at_most (tokens_view c.args.tokens.now) (length (tokens_view c.args.tokens.now)) (map item_view c.items.items.items) refl
     (record {
       start = c.items.invariant.start;
       head = c.items.invariant.head;

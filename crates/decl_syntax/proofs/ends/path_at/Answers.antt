@@ -25,6 +25,6 @@ parts-preserved c =
 pub returns-in-None : goal.returns-in-None
 unfolding path_tree_at
 returns-in-None c =
-    let g = gathered c.parts.invariant.0 (segment_view c.in-Some.text.now c.in-Some.is_name) (map string_bytes c.parts.names.items) (map string_bytes c.push.new.self.items) c.parts.plain c.parts.invariant.1 c.parts.invariant.2
-    (ap (map string_bytes) c.in_ok-push.ensures.items ∙ map_push string_bytes c.parts.names.items c.in_ok-from_str.field-0 ∙ ap (λ t. map string_bytes c.parts.names.items ++ t ∷ []) c.in_ok-from_str.ensures.ok) in
+    let g = gathered c.parts.invariant.0 (segment_view c.in-Some.text.now c.in-Some.is_name) (map string_bytes c.parts.names.items) (map string_bytes c.fitted-names.result.items) c.parts.plain c.parts.invariant.1 c.parts.invariant.2
+    (ap (map string_bytes) (c.fitted-names.ensures ∙ c.in_ok-push.ensures.items) ∙ map_push string_bytes c.parts.names.items c.in_ok-from_str.field-0 ∙ ap (λ t. map string_bytes c.parts.names.items ++ t ∷ []) c.in_ok-from_str.ensures.ok) in
     rw (parts_end marks.PathSeparator (token_at segment_of) segment_shrinks c.parts.invariant.0 (left c.parts.rest) (segments_at (left c.args.at)) c.parts.invariant.3 _ _ (sym c.in-Some.ensures) c.in-None.ensures, g.0, g.1) refl

@@ -7,8 +7,8 @@ use Rattle.match_top.proofs.answering.judged.Goals as goal
 
 pub returns-in-Ok-clause-answers : goal.returns-in-Ok-clause-answers
 returns-in-Ok-clause-answers c =
-    let lexed : HasTokens c.args.source.now (tokens_view c.in-Ok.tokens.items) = search rules in
-    tokens_answer (request_view c.args.request.now) c.args.source.now (tokens_view c.in-Ok.tokens.items) _ lexed c.answer_to_tokens.ensures.answers
+    let lexed : HasTokens c.args.source.now (tokens_view c.in-Ok.tokens) = search rules in
+    tokens_answer (request_view c.args.request.now) c.args.source.now (tokens_view c.in-Ok.tokens) _ lexed c.answer_to_tokens.ensures.answers
 
 pub returns-in-Err-Rule-clause-answers : goal.returns-in-Err-Rule-clause-answers
 returns-in-Err-Rule-clause-answers c =

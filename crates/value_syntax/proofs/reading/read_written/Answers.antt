@@ -1,4 +1,4 @@
-use Rattle.std.proofs.Common.{rules, ◌≡◌, ◌∙◌, ap, subst}
+use Rattle.std.proofs.Common.{rules, ◌≡◌, subst}
 use Rattle.decl_lexer.specs.Tokens.{tokens_view, IsFaultOf}
 use Rattle.decl_syntax.specs.Units.{left, units}
 use Rattle.value_syntax.specs.Trees.{written_view}
@@ -16,17 +16,15 @@ returns-in-Err-Rule-clause-none c =
 pub returns-in-Ok-whole_value-clause-written : goal.returns-in-Ok-whole_value-clause-written
 returns-in-Ok-whole_value-clause-written c =
     let same : c.as_bytes.result.now ≡ c.args.text.now = search rules in
-    let slice : c.as_slice.result.now ≡ c.in-Ok.tokens.items = search rules in
-    let ts = tokens_view c.in-Ok.tokens.items in
-    let us : left c.new.result ≡ units ts = c.new.ensures ∙ ap (λ xs. units (tokens_view xs)) slice in
+    let ts = tokens_view c.in-Ok.tokens in
+    let us : left c.new.result ≡ units ts = c.new.ensures in
     spelled_by c.args.text.now c.as_bytes.result.now ts (left c.new.result)
     (written_view c.in-Ok-whole_value.value) same c.in-Ok.ensures.tokens us c.in-Ok-whole_value.ensures
 
 pub returns-in-Err-Syntax-clause-none : goal.returns-in-Err-Syntax-clause-none
 returns-in-Err-Syntax-clause-none c =
     let same : c.as_bytes.result.now ≡ c.args.text.now = search rules in
-    let slice : c.as_slice.result.now ≡ c.in-Ok.tokens.items = search rules in
-    let ts = tokens_view c.in-Ok.tokens.items in
-    let us : left c.new.result ≡ units ts = c.new.ensures ∙ ap (λ xs. units (tokens_view xs)) slice in
+    let ts = tokens_view c.in-Ok.tokens in
+    let us : left c.new.result ≡ units ts = c.new.ensures in
     unspelled_by c.args.text.now c.as_bytes.result.now ts (left c.new.result) same c.in-Ok.ensures.tokens us
     (subst (λ e. Fails e (whole_value (left c.new.result))) c.in-Err-Syntax.field-0-is c.in-Err-Syntax.ensures)

@@ -1,0 +1,83 @@
+-- Lists that grow leave the tokens as they were.
+use Rattle.std.proofs.Common.{◌≡◌, ℕ, zero, suc, Bool, true, false, cond, List, [], ◌∷◌, ◌++◌, map, length, Some, refl, sym, ap, ◌∙◌, subst, append_assoc}
+use Rattle.std.specs.Prelude.{slice_get, String}
+use Rattle.std.specs.Global.{Global}
+use Rattle.std.specs.List.{list_any}
+use Rattle.std.proofs.lemmas.List.{append-nil, map-append}
+use Rattle.indexmap.specs.IndexSet.{insert_key}
+use Rattle.decl_lexer.specs.Lexing.{Placed}
+use Rattle.decl_lexer.specs.declared.stored.Lists.{Lists}
+use Rattle.decl_lexer.specs.declared.stored.Stored.{Stored}
+use Rattle.decl_lexer.specs.declared.read.ReadToken.{ReadToken}
+use Rattle.decl_lexer.specs.Begins.{Named}
+use Rattle.decl_lexer.specs.Views.{read_view, read_token_view}
+use Rattle.decl_lexer.specs.Stored.{lexeme_in, name_entry, placed_in, Grew, Grows, IsEntry}
+
+get_front : {A : Type 0} (xs ys : List A) (i : ℕ) (x : A) → slice_get xs i ≡ Some x → slice_get (xs ++ ys) i ≡ Some x
+get_front [] ys i x h = absurd cc
+get_front (y ∷ xs) ys zero x h = h
+get_front (y ∷ xs) ys (suc i) x h = get_front xs ys i x h
+
+get_next : {A : Type 0} (xs : List A) (y : A) (ys : List A) → slice_get (xs ++ y ∷ ys) (length xs) ≡ Some y
+get_next [] y ys = refl
+get_next (x ∷ xs) y ys = get_next xs y ys
+
+pub grew_same : {A : Type 0} (xs : List A) → Grew xs xs
+grew_same xs = ([], sym (append-nil xs))
+
+pub grew_push : {A : Type 0} (xs ys : List A) (x : A) → ys ≡ xs ++ x ∷ [] → Grew xs ys
+grew_push xs ys x e = (x ∷ [], e)
+
+grew_on : {A : Type 0} (xs ys zs : List A) → Grew xs ys → Grew ys zs → Grew xs zs
+grew_on xs ys zs g h = (g.0 ++ h.0, h.1 ∙ (ap (λ l. l ++ h.0) g.1 ∙ append_assoc xs g.0 h.0))
+
+pub grew_insert : {A : Type 0} (eq : A → A → Bool) (ks new : List A) (k : A) → new ≡ insert_key eq ks k → Grew ks new
+grew_insert {A} eq ks new k e = go (list_any (eq k) ks) e
+  where
+    go : (b : Bool) → new ≡ cond b ks (ks ++ k ∷ []) → Grew ks new
+    go true f = ([], f ∙ sym (append-nil ks))
+    go false f = (k ∷ [], f)
+
+-- an entry stays where it is
+pub get_in_longer : {A : Type 0} (xs ys : List A) (i : ℕ) (x : A) → Grew xs ys → slice_get xs i ≡ Some x → slice_get ys i ≡ Some x
+get_in_longer xs ys i x g h = subst (λ l. slice_get l i ≡ Some x) (sym g.1) (get_front xs g.0 i x h)
+
+-- an entry that was appended stays where it is
+pub get_pushed : {A : Type 0} (old new longer : List A) (x : A) (n : ℕ) → new ≡ old ++ x ∷ [] → n ≡ length old → Grew new longer → slice_get longer n ≡ Some x
+get_pushed old new longer x n e k g =
+    get_in_longer new longer n x g
+    (subst (λ l. slice_get l n ≡ Some x) (sym e) (subst (λ m. slice_get (old ++ x ∷ []) m ≡ Some x) (sym k) (get_next old x [])))
+
+pub grows_same : (l : Lists) → Grows l l
+grows_same l = (grew_same l.names.keys, grew_same l.large.items, grew_same l.integers.items, grew_same l.texts.items)
+
+pub grows_on : (a b c : Lists) → Grows a b → Grows b c → Grows a c
+grows_on a b c g h = (
+  grew_on a.names.keys b.names.keys c.names.keys g.0 h.0,
+  grew_on a.large.items b.large.items c.large.items g.1 h.1,
+  grew_on a.integers.items b.integers.items c.integers.items g.2 h.2,
+  grew_on a.texts.items b.texts.items c.texts.items g.3 h.3,
+)
+
+-- the tokens with one more, in lists that grew
+pub one_more : (lists between longer : Lists) (stored : List Stored) (t : Stored) (placed : Placed) →
+    ((l : Lists) → Grows lists l → map (placed_in l) stored ≡ map (placed_in lists) stored) →
+    Grows lists between → Grows between longer → placed_in longer t ≡ placed →
+    map (placed_in longer) (stored ++ t ∷ []) ≡ map (placed_in lists) stored ++ placed ∷ []
+one_more lists between longer stored t placed whole g h shown =
+    map-append (placed_in longer) stored (t ∷ [])
+    ∙ (ap (λ xs. xs ++ placed_in longer t ∷ []) (whole longer (grows_on lists between longer g h))
+    ∙ ap (λ p. map (placed_in lists) stored ++ p ∷ []) shown)
+
+-- a name stays where it is
+pub name_shown : (keys longer : List (String Global)) (bytes : List ℕ) (n : ℕ) (raw : Bool) → IsEntry bytes (slice_get keys n) → Grew keys longer → name_entry raw (slice_get longer n) ≡ Named bytes raw
+name_shown keys longer bytes n raw e g = ap (name_entry raw) (get_in_longer keys longer n e.0 g e.1) ∙ ap (λ b. Named b raw) e.2
+
+-- a token that was read is the last one
+pub pushed : (lists between longer : Lists) (stored new : List Stored) (t : Stored) (token : ReadToken) →
+    ((l : Lists) → Grows lists l → map (placed_in l) stored ≡ map (placed_in lists) stored) →
+    Grows lists between → Grows between longer → new ≡ stored ++ t ∷ [] → lexeme_in longer t.kind ≡ read_view token.kind → t.from ≡ token.from → t.to ≡ token.to →
+    map (placed_in longer) new ≡ map (placed_in lists) stored ++ read_token_view token ∷ []
+pushed lists between longer stored new t token whole g h e kind from to =
+    let shown : placed_in longer t ≡ read_token_view token = rw (kind, from, to) refl in
+    ap (map (placed_in longer)) e ∙ one_more lists between longer stored t (read_token_view token) whole g h shown

@@ -1,0 +1,32 @@
+//! A token as it is read, which owns its text.
+use crate::marks::Mark;
+use crate::token::IntToken;
+use crate::words::Word;
+
+/// A token that was read, and its place: the byte offsets in the file where it begins and where it ends.
+#[derive(Debug, Drop)]
+pub struct ReadToken {
+    pub kind: ReadKind,
+    pub from: u64,
+    pub to: u64,
+}
+
+/// What a token is that was read. An integer stands behind a box, since it is much larger than the others.
+#[derive(Debug, Drop)]
+pub enum ReadKind {
+    /// An identifier: its text in NFC, without its `r#`, and whether it had one.
+    Name { text: String, raw: bool },
+    Word(Word),
+    Mark(Mark),
+    Lifetime,
+    /// A decimal integer below 2^64 without a suffix.
+    Small(u64),
+    /// Any other integer.
+    Int(Box<IntToken>),
+    Float,
+    Char(char),
+    Byte(u8),
+    Str(String),
+    ByteStr,
+    CStr,
+}

@@ -1,0 +1,257 @@
+//! Tokens as they are kept: 16 bytes each, with their texts in lists beside them.
+ghost use Rattle.std.specs.Prelude.{◌≡◌, ◌++◌, ◌∷◌, [], length, string_bytes, slice_get, IfOk, OnOk, MatchOption};
+ghost use Rattle.decl_lexer.specs.Views.{read_view, lexeme_view, token_view, read_token_view};
+ghost use Rattle.decl_lexer.specs.Stored.{lexeme_in, Grew, Grows, IsEntry, Shows, IsWhole, tokens_view, rest_view, name_entry, large_entry, integer_entry, text_entry};
+
+use crate::marks::Mark;
+use crate::read::{ReadKind, ReadToken};
+use crate::token::{IntToken, Token, TokenKind};
+use crate::words::Word;
+use indexmap::IndexSet;
+use no_memory::NoMemory;
+use std::alloc::Global;
+
+/// What a token is: its payload in four bytes, or the number of its entry in a list.
+#[derive(Clone, Copy, Debug)]
+enum StoredKind {
+    Name(u32),
+    RawName(u32),
+    Word(Word),
+    Mark(Mark),
+    Lifetime,
+    Small(u32),
+    Large(u32),
+    Int(u32),
+    Float,
+    Char(char),
+    Byte(u8),
+    Str(u32),
+    ByteStr,
+    CStr,
+}
+
+/// A token with its place, in 16 bytes.
+#[derive(Clone, Copy, Debug)]
+struct Stored {
+    kind: StoredKind,
+    from: u32,
+    to: u32,
+}
+
+/// What the tokens of a source stand for that takes more than four bytes: the texts of names, each once, decimal integers
+/// from 2^32 on without a suffix, all other integers, and texts.
+#[derive(Drop)]
+struct Lists {
+    names: IndexSet<String>,
+    large: Vec<u64>,
+    integers: Vec<Box<IntToken>>,
+    texts: Vec<String>,
+}
+
+/// The tokens of a source, in their order. Each takes 16 bytes, and the text of a name is kept once.
+#[derive(Drop)]
+pub struct Tokens {
+    stored: Vec<Stored>,
+    lists: Lists,
+}
+
+/// The tokens of a source from one of them on.
+#[derive(Clone, Copy)]
+pub struct Rest<'a> {
+    stored: &'a [Stored],
+    lists: &'a Lists,
+}
+
+/// The number in 32 bits; from 2^32 on it counts as want of memory.
+fn narrow(number: u64) -> Result<u32, NoMemory>
+    ensures { IfOk result (λ n. n ≡ number) }
+{
+    if number <= u32::MAX as u64 {
+        Ok(number as u32)
+    } else {
+        Err(NoMemory)
+    }
+}
+
+/// Appends the entry, and gives its number.
+fn put<T: Drop>(list: &mut Vec<T>, entry: T) -> Result<u32, NoMemory>
+    ensures list { OnOk result (list.new.items ≡ list.old.items ++ entry ∷ []) }
+    ensures number { IfOk result (λ n. n ≡ length list.old.items) }
+{
+    let number = narrow(list.len() as u64)?;
+    list.push(entry)?;
+    Ok(number)
+}
+
+/// The number of the text among the names, to which it is added where it is new.
+fn put_name(names: &mut IndexSet<String>, text: String) -> Result<u32, NoMemory>
+    ensures grew { OnOk result (Grew names.old.keys names.new.keys) }
+    ensures entry { IfOk result (λ n. IsEntry (string_bytes text) (slice_get names.new.keys n)) }
+{
+    let (at, _new) = names.insert_full(text)?;
+    let number = narrow(at as u64)?;
+    Ok(number)
+}
+
+impl Lists {
+    /// No entries.
+    fn new(alloc: Global) -> Lists {
+        Lists {
+            names: IndexSet::new(alloc),
+            large: Vec::new(alloc),
+            integers: Vec::new(alloc),
+            texts: Vec::new(alloc),
+        }
+    }
+
+    /// Keeps what a token is that was read; its text goes into a list.
+    fn keep(&mut self, kind: ReadKind) -> Result<StoredKind, NoMemory>
+        ensures grows { OnOk result (Grows self.old self.new) }
+        ensures shows { IfOk result (λ k. Shows self.new k (read_view kind)) }
+    {
+        match kind {
+            ReadKind::Name { text, raw: false } => {
+                Ok(StoredKind::Name(put_name(&mut self.names, text)?))
+            }
+            ReadKind::Name { text, raw: true } => {
+                Ok(StoredKind::RawName(put_name(&mut self.names, text)?))
+            }
+            ReadKind::Small(number) => match narrow(number) {
+                Ok(small) => Ok(StoredKind::Small(small)),
+                Err(_) => Ok(StoredKind::Large(put(&mut self.large, number)?)),
+            },
+            ReadKind::Int(integer) => Ok(StoredKind::Int(put(&mut self.integers, integer)?)),
+            ReadKind::Str(text) => Ok(StoredKind::Str(put(&mut self.texts, text)?)),
+            ReadKind::Word(word) => Ok(StoredKind::Word(word)),
+            ReadKind::Mark(mark) => Ok(StoredKind::Mark(mark)),
+            ReadKind::Lifetime => Ok(StoredKind::Lifetime),
+            ReadKind::Float => Ok(StoredKind::Float),
+            ReadKind::Char(c) => Ok(StoredKind::Char(c)),
+            ReadKind::Byte(byte) => Ok(StoredKind::Byte(byte)),
+            ReadKind::ByteStr => Ok(StoredKind::ByteStr),
+            ReadKind::CStr => Ok(StoredKind::CStr),
+        }
+    }
+
+    /// What a kept token is. A number without an entry, which no token has, shows a lifetime.
+    fn kind(&self, kind: StoredKind) -> TokenKind<'_>
+        ensures { lexeme_view result ≡ lexeme_in self.now kind }
+    {
+        match kind {
+            StoredKind::Name(number) => self.name(number, false),
+            StoredKind::RawName(number) => self.name(number, true),
+            StoredKind::Word(word) => TokenKind::Word(word),
+            StoredKind::Mark(mark) => TokenKind::Mark(mark),
+            StoredKind::Lifetime => TokenKind::Lifetime,
+            StoredKind::Small(number) => TokenKind::Small(number as u64),
+            StoredKind::Large(number) => self.large(number),
+            StoredKind::Int(number) => self.integer(number),
+            StoredKind::Float => TokenKind::Float,
+            StoredKind::Char(c) => TokenKind::Char(c),
+            StoredKind::Byte(byte) => TokenKind::Byte(byte),
+            StoredKind::Str(number) => self.text(number),
+            StoredKind::ByteStr => TokenKind::ByteStr,
+            StoredKind::CStr => TokenKind::CStr,
+        }
+    }
+
+    /// The name with this number.
+    fn name(&self, number: u32, raw: bool) -> TokenKind<'_>
+        ensures { lexeme_view result ≡ name_entry raw (slice_get self.now.names.keys number) }
+    {
+        match self.names.get_index(number as usize) {
+            Some(text) => TokenKind::Name { text, raw },
+            None => TokenKind::Lifetime,
+        }
+    }
+
+    /// The decimal integer with this number.
+    fn large(&self, number: u32) -> TokenKind<'_>
+        ensures { lexeme_view result ≡ large_entry (slice_get self.now.large.items number) }
+    {
+        match self.large.get(number as usize) {
+            Some(value) => TokenKind::Small(*value),
+            None => TokenKind::Lifetime,
+        }
+    }
+
+    /// The integer with this number.
+    fn integer(&self, number: u32) -> TokenKind<'_>
+        ensures { lexeme_view result ≡ integer_entry (slice_get self.now.integers.items number) }
+    {
+        match self.integers.get(number as usize) {
+            Some(integer) => TokenKind::Int(integer),
+            None => TokenKind::Lifetime,
+        }
+    }
+
+    /// The text with this number.
+    fn text(&self, number: u32) -> TokenKind<'_>
+        ensures { lexeme_view result ≡ text_entry (slice_get self.now.texts.items number) }
+    {
+        match self.texts.get(number as usize) {
+            Some(text) => TokenKind::Str(text),
+            None => TokenKind::Lifetime,
+        }
+    }
+}
+
+impl Tokens {
+    /// No tokens.
+    pub(crate) fn new(alloc: Global) -> Tokens
+        ensures view { tokens_view result ≡ [] }
+        ensures whole { IsWhole result }
+    {
+        Tokens {
+            stored: Vec::new(alloc),
+            lists: Lists::new(alloc),
+        }
+    }
+
+    /// Appends a token that was read. Places and entries from 2^32 on are want of memory.
+    pub(crate) fn push(&mut self, token: ReadToken) -> Result<(), NoMemory>
+        requires { IsWhole self.old }
+        ensures view { OnOk result (tokens_view self.new ≡ tokens_view self.old ++ read_token_view token ∷ []) }
+        ensures whole { OnOk result (IsWhole self.new) }
+    {
+        let from = narrow(token.from)?;
+        let to = narrow(token.to)?;
+        let kind = self.lists.keep(token.kind)?;
+        self.stored.push(Stored { kind, from, to })?;
+        Ok(())
+    }
+
+    /// How many tokens there are.
+    pub fn len(&self) -> usize
+        ensures { result ≡ length (tokens_view self.now) }
+    {
+        self.stored.len()
+    }
+
+    /// All of the tokens.
+    pub fn rest(&self) -> Rest<'_>
+        ensures { rest_view result ≡ tokens_view self.now }
+    {
+        Rest {
+            stored: &self.stored,
+            lists: &self.lists,
+        }
+    }
+}
+
+impl<'a> Rest<'a> {
+    /// The first of the tokens, and those behind it.
+    pub fn split_first(self) -> Option<(Token<'a>, Rest<'a>)>
+        ensures { MatchOption result (rest_view self.entry ≡ [])
+            (λ p. rest_view self.entry ≡ token_view p.0 ∷ rest_view p.1) }
+    {
+        let (first, stored) = self.stored.split_first()?;
+        let kind = self.lists.kind(first.kind);
+        let (from, to) = (first.from as u64, first.to as u64);
+        let rest = Rest {
+            stored,
+            lists: self.lists,
+        };
+        Some((Token { kind, from, to }, rest))
+    }
+}
