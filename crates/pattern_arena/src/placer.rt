@@ -1,8 +1,9 @@
 // Placing patterns in an arena.
-ghost use Rattle.std.specs.Prelude.{◌≡◌, IfOk};
+ghost use Rattle.std.specs.Prelude.{◌≡◌, [], IfOk};
 
 use crate::{Bound, CheckedArm, DePat};
 use bumpalo::Bump;
+use bumpalo::collections::into_bump_slice;
 use no_memory::NoMemory;
 use std::alloc::Global;
 
@@ -52,5 +53,20 @@ impl<'a> Placer<'a> {
     {
         let placed = self.arena.try_alloc_slice_copy(arms)?;
         Ok(placed)
+    }
+
+    /// An empty list in the arena with room for so many things, which may grow beyond. The only error is want of memory.
+    pub fn list_with_room<E: Copy>(&self, room: usize) -> Result<Vec<E, &'a Bump<Global>>, NoMemory>
+        ensures { IfOk result (λ list. list.items ≡ []) }
+    {
+        let list = Vec::with_capacity(self.arena, room)?;
+        Ok(list)
+    }
+
+    /// Places what stands in a list of the arena, where it stands already. It takes no memory.
+    pub fn place_list<E: Copy>(&self, list: Vec<E, &'a Bump<Global>>) -> &'a [E]
+        ensures { result.now ≡ list.entry.items }
+    {
+        into_bump_slice(list)
     }
 }

@@ -111,6 +111,9 @@ fn what_was_placed_stands(rt: HostRuntime) -> Result<(), Fail> {
     let (before, next) = placed_patterns_stand(&placer, placed, &[flag(Ctor::Wild, 3)]);
     assert_eq!(rt; before[1].uid, 2);
     assert_eq!(rt; next?[0].uid, 3);
+    let mut arms = placer.list_with_room(1)?;
+    arms.push(flag_arm(true, 4))?;
+    assert_eq!(rt; placer.place_list(arms)[0].pat.uid, 4);
     Ok(())
 }
 

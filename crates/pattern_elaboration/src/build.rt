@@ -88,8 +88,26 @@ pub fn over<'a>(
         → AreMade (IsOf any) from next.old (map tree subs.now)
         → IfOk result (λ p. IsMade (IsOf any) from next.new (tree p)) }
 {
-    let uid = fresh(next)?;
     let subs = placer.place_subs(subs)?;
+    over_placed(next, ctor, ty, at, subs)
+}
+
+/// The same, where the others stand in the arena already.
+pub fn over_placed<'a>(
+    next: &mut u64,
+    ctor: Ctor<'a>,
+    ty: TyId,
+    at: u64,
+    subs: &'a [DePat<'a, TyId>],
+) -> Result<DePat<'a, TyId>, NoMemory>
+    ensures tree { IfOk result (λ p. tree p
+        ≡ de_pat (plain_ctor ctor.entry) ty next.old at (de_pats_of (map tree subs.now)) []) }
+    ensures next { IfOk result (λ p. next.new ≡ next.old + 1) }
+    ensures made { (any : AnyTable) (from : ℕ) → IsOf any ty
+        → AreMade (IsOf any) from next.old (map tree subs.now)
+        → IfOk result (λ p. IsMade (IsOf any) from next.new (tree p)) }
+{
+    let uid = fresh(next)?;
     let made = make(ctor, ty, uid, at, subs, &[]);
     Ok(made)
 }

@@ -49,7 +49,6 @@ pub fn elaborate<'a>(
         return Ok(None);
     };
     let arms = checked_arms(alloc, table, placer, &function.arms, ty)?;
-    let arms = placer.place_arms(&arms)?;
     let validity = validity_by(function.deref.is_some());
     Ok(Some(CheckedMatch { ty, validity, arms }))
 }
@@ -65,27 +64,27 @@ fn validity_by(is_behind: bool) -> Validity
     }
 }
 
-// The arms, whose patterns stand at this type.
+// The arms, whose patterns stand at this type. They are made where they stay, in the arena.
 fn checked_arms<'a>(
     alloc: Global,
     table: &TypeTable,
     placer: &Placer<'a>,
     arms: &[Arm],
     ty: TyId,
-) -> Result<Vec<CheckedArm<'a, TyId>>, NoMemory>
+) -> Result<&'a [CheckedArm<'a, TyId>], NoMemory>
     requires file { IsOfFile table.now }
     requires of { IsOf table.now ty }
     ensures shown { IfOk result (λ v. Each (IsArmShown table.now (table_type table.now ty))
-        (map arm_view arms.now) (map plain_arm v.items)) }
-    ensures made { IfOk result (λ v. (to : ℕ) × AreMade (IsOf table.now) 0 to (arm_trees v.items)) }
+        (map arm_view arms.now) (map plain_arm v.now)) }
+    ensures made { IfOk result (λ v. (to : ℕ) × AreMade (IsOf table.now) 0 to (arm_trees v.now)) }
 {
-    let mut checked = Vec::new(alloc);
+    let mut checked = placer.list_with_room(arms.len())?;
     let mut next = 0;
     for arm in arms {
         let made = checked_arm(alloc, table, placer, &mut next, arm, ty)?;
         checked.push(made)?;
     }
-    Ok(checked)
+    Ok(placer.place_list(checked))
 }
 
 // An arm, whose pattern stands at this type.

@@ -10,7 +10,7 @@ ghost use Rattle.pattern_elaboration.specs.Numbered.{AreMade};
 ghost use Rattle.pattern_elaboration.specs.Walking.{PatternShown, ShapeShown, BoundShown, MadeHere};
 ghost use Rattle.pattern_elaboration.specs.Walking.{PartsShown, FieldsShown, ItemsShown, ChoicesShown};
 
-use crate::build::{over, standing_as};
+use crate::build::{over, over_placed, standing_as};
 use crate::forms::{Listed, form_behind, put, put_field, row_behind, tuple_behind};
 use crate::leaves::{bare_name, binding, named, path_form, wildcard};
 use crate::literals::{literal, range_pattern};
@@ -395,11 +395,11 @@ fn elaborate_or<'a>(
     ensures made { IfOk result (MadeHere table.now next.old next.new) }
 {
     let choices = elaborate_alternatives(alloc, table, placer, next, all, here)?;
-    let made = over(placer, next, Ctor::Or, here.ty, 0, &choices)?;
+    let made = over_placed(next, Ctor::Or, here.ty, 0, choices)?;
     Ok(made)
 }
 
-// Alternatives, each at its offset.
+// Alternatives, each at its offset. They are made where they stay, in the arena.
 #[cycle(walk)]
 fn elaborate_alternatives<'a>(
     alloc: Global,
@@ -408,18 +408,18 @@ fn elaborate_alternatives<'a>(
     next: &mut u64,
     all: &Vec<Pat>,
     here: Place,
-) -> Result<Vec<DePat<'a, TyId>>, NoMemory>
+) -> Result<&'a [DePat<'a, TyId>], NoMemory>
     requires file { IsOfFile table.now }
     requires of { IsOf table.now here.ty }
     ensures shown { IfOk result (λ v. ChoicesShown table.now (table_type table.now here.ty) here.mode
-        (patterns_from (map pattern_view all.now.items)) v.items) }
-    ensures made { IfOk result (λ v. AreMade (IsOf table.now) next.old next.new (trees v.items)) }
+        (patterns_from (map pattern_view all.now.items)) v.now) }
+    ensures made { IfOk result (λ v. AreMade (IsOf table.now) next.old next.new (trees v.now)) }
 {
-    let mut choices = Vec::new(alloc);
+    let mut choices = placer.list_with_room(all.len())?;
     for alternative in all {
         let pattern = elaborate_pattern(alloc, table, placer, next, alternative, here)?;
         let made = standing_as(placer, next, alternative, pattern)?;
         choices.push(made)?;
     }
-    Ok(choices)
+    Ok(placer.place_list(choices))
 }

@@ -35,6 +35,6 @@ returns-clause-shown c =
     let table = c.args.table.now in
     let arms = c.args.arms.now in
     let enough : length arms ≤ c.loop-arm.arm-index = omega arith in
-    subst (λ (xs : List Arm). Each (IsArmShown table (table_type table c.args.ty)) (map arm_view xs)
-    (map plain_arm c.loop-arm.checked.items))
-    (take_all c.loop-arm.arm-index arms enough) c.loop-arm.invariant.shown
+    rw c.place_list.ensures (subst (λ (xs : List Arm). Each (IsArmShown table (table_type table c.args.ty))
+    (map arm_view xs) (map plain_arm c.loop-arm.checked.items))
+    (take_all c.loop-arm.arm-index arms enough) c.loop-arm.invariant.shown)

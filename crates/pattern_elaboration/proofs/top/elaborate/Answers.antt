@@ -28,26 +28,24 @@ returns-clause-shown c = λ s i is at fn fine sound.
     let table = c.args.table.now in
     let f = function_view c.args.function.now in
     let t = table_type table c.in-Some.ty in
-    let ds = c.in_ok-arms.arms.items in
+    let ds = c.in_ok-arms.arms.now in
     let told : Some (t, c.in-Some.field-0-1) ≡ scrutinee_by (parameter_type s f) (is_some f.deref)
     = c.in-Some.ensures.told ∙ ap scrutinee_of (parameter_there s table is c.args.item i f at fn) in
-    let placed : c.in_ok-arms-2.arms.now ≡ ds = c.in_ok-arms-2.ensures ∙ c.deref-2.ensures.value in
     let each : Each (IsArmShown table t) f.arms (map plain_arm ds)
     = subst (λ (arms : List Arm). Each (IsArmShown table t) (map arm_view arms)
     (map plain_arm ds)) c.deref.ensures.value c.in_ok-arms.ensures.shown in
     match_shown table s f t c.in_ok-arms.ensures.made.0
     (plain_match {T = TyId}
-    (record { ty = c.in-Some.ty; validity = c.validity_by-validity.result; arms = c.in_ok-arms-2.arms })) ds
+    (record { ty = c.in-Some.ty; validity = c.validity_by-validity.result; arms = c.in_ok-arms.arms })) ds
     is sound (scrutinee_there (parameter_type s f) t f.deref c.in-Some.field-0-1 told) refl
     (ap is_sure c.validity_by-validity.ensures ∙ (ap (λ (b : Bool). is_sure (validity_by b)) c.is_some.ensures
     ∙ sure_by f.deref))
-    (ap (map plain_arm) placed) each c.in_ok-arms.ensures.made.1
+    refl each c.in_ok-arms.ensures.made.1
 
 pub returns-clause-made : goal.returns-clause-made
 returns-clause-made c =
-    let placed : c.in_ok-arms-2.arms.now ≡ c.in_ok-arms.arms.items = c.in_ok-arms-2.ensures ∙ c.deref-2.ensures.value in
     match_made c.args.table.now c.in_ok-arms.ensures.made.0
     (plain_match {T = TyId}
-    (record { ty = c.in-Some.ty; validity = c.validity_by-validity.result; arms = c.in_ok-arms-2.arms }))
-    c.in_ok-arms.arms.items
-    c.in-Some.ensures.of (ap (map plain_arm) placed) c.in_ok-arms.ensures.made.1
+    (record { ty = c.in-Some.ty; validity = c.validity_by-validity.result; arms = c.in_ok-arms.arms }))
+    c.in_ok-arms.arms.now
+    c.in-Some.ensures.of refl c.in_ok-arms.ensures.made.1

@@ -510,23 +510,20 @@ pub elaborate_or-returns : goal.elaborate_or-returns
 elaborate_or-returns t c = record {
   shown = λ from s is fit.
       or_shown c.args.table.now s c.args.here.ty c.elaborate_alternatives.new.next c.args.here.mode
-      (list_of c.args.all.now.items) c.deref.result.now (tree c.in_ok-made.made)
-      c.in_ok-made.ensures.tree (ap (λ (ps : List (DePat TyId)). shown_list c.args.table.now ps) c.deref.ensures.value
-      ∙ c.in_ok-choices.ensures.shown s is fit);
-  made = c.in_ok-made.ensures.made c.args.table.now c.args.next.now c.requires.of
-      (subst (λ (ps : List (DePat TyId)). AreMade (IsOf c.args.table.now) c.args.next.now
-      c.elaborate_alternatives.new.next (trees ps)) (sym c.deref.ensures.value) c.in_ok-choices.ensures.made);
+      (list_of c.args.all.now.items) c.in_ok-choices.choices.now (tree c.in_ok-made.made)
+      c.in_ok-made.ensures.tree (c.in_ok-choices.ensures.shown s is fit);
+  made = c.in_ok-made.ensures.made c.args.table.now c.args.next.now c.requires.of c.in_ok-choices.ensures.made;
 }
 
 pub elaborate_alternatives-loop-alternative-init : goal.elaborate_alternatives-loop-alternative-init
 elaborate_alternatives-loop-alternative-init t c = record {
   made = subst (λ (ps : List (DePat TyId)). AreMade (IsOf c.args.table.now) c.args.next.now c.args.next.now
-      (trees ps)) (sym c.new-choices.ensures.items) (made_none (IsOf c.args.table.now) c.args.next.now);
+      (trees ps)) (sym c.in_ok-choices.ensures) (made_none (IsOf c.args.table.now) c.args.next.now);
   shown = λ s is fit. (
     fit,
     ap (λ (ps : List (DePat TyId)). shown_list c.args.table.now ps ++ built_choices s
         (table_type c.args.table.now c.args.here.ty) c.args.here.mode (list_of c.args.all.now.items))
-        c.new-choices.ensures.items,
+        c.in_ok-choices.ensures,
   );
 }
 
@@ -556,7 +553,7 @@ elaborate_alternatives-returns t c =
     let i = c.loop-alternative.alternative-index in
     let le : length items ≤ i = omega arith in
     let u = table_type c.args.table.now c.args.here.ty in
-    record {
+    rw c.place_list.ensures record {
       shown = λ s is fit.
           let inv = c.loop-alternative.invariant.shown s is fit in
           sym (append-nil (shown_list c.args.table.now c.loop-alternative.choices.items))
