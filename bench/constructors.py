@@ -168,7 +168,7 @@ def measured(words, name, first, ours, step, word):
         ratio = own / max(other, 1e-9)
         growth = own / before[0] if before and before[0] > 0 else 0.0
         steepness = other / before[1] if before else 0.0
-        print(f"{name:<24} {n:>6} {1000 * own:10.2f} {1000 * other:10.3f} {ratio:8.1f} {growth:8.2f} {steepness:8.2f}", flush=True)
+        print(f"{name:<24} {n:>6} {1000 * own:10.3f} {1000 * other:10.3f} {ratio:8.1f} {growth:8.2f} {steepness:8.2f}", flush=True)
         if own > SHORTEST:
             fine = fine and ratio <= LONGEST_RATIO
             fine = fine and (before is None or before[0] <= SHORTEST or growth <= STEEPEST * steepness)

@@ -56,7 +56,7 @@ heads_of_none WildCtor first count = listed-wildcards first count
 heads_of_none _ first count = refl
 
 -- a leaf that writes no part lists none
-no_parts : {T : Type 0} (h : Head T) (first count : ℕ) → writes_parts h ≡ false → listed first (leaf_parts count h) ≡ []
+pub no_parts : {T : Type 0} (h : Head T) (first count : ℕ) → writes_parts h ≡ false → listed first (leaf_parts count h) ≡ []
 no_parts None first count e = listed-wildcards first count
 no_parts (Some (de_pat c t uid at no_de_pats binds)) first count e = heads_of_none c first count
 no_parts (Some (de_pat c t uid at (more_de_pats p ps) binds)) first count e = untrue (sym e)
@@ -147,7 +147,7 @@ span_lacks first end i s l m e = lacks first end i s.0 s.1 l m e
     lacks : (first end i a b : ℕ) → first ≤ i → i < end → (nat_lt a end && nat_lt first b) ≡ false → (nat_le a i && nat_lt i b) ≡ false
     lacks first end i a b l m e = grind (arith, nat_tests)
 
-span_covers : (first end i : ℕ) (s : ℕ × ℕ) → first ≤ i → i < end → (nat_le s.0 first && nat_le end s.1) ≡ true → span_has i (Some s) ≡ true
+pub span_covers : (first end i : ℕ) (s : ℕ × ℕ) → first ≤ i → i < end → (nat_le s.0 first && nat_le end s.1) ≡ true → span_has i (Some s) ≡ true
 span_covers first end i s l m e = has first end i s.0 s.1 l m e
   where
     has : (first end i a b : ℕ) → first ≤ i → i < end → (nat_le a first && nat_le end b) ≡ true → (nat_le a i && nat_lt i b) ≡ true
@@ -176,7 +176,7 @@ module _ {T : Type 0} (missing : Bool) (a : Apart T) (spans : List Span) where
   abbrev ss : List (ℕ × ℕ)
   ss = plain_spans spans
 
-  abbrev at : (i count : ℕ) → List ℕ → List (WantedRow T)
+  abbrev pub at : (i count : ℕ) → List ℕ → List (WantedRow T)
   at i count ks = entered_rows missing a count (leaves_listed (apart_leaves a) (having ss i ks))
 
   at_append : (i count : ℕ) (xs ys : List ℕ) → at i count (xs ++ ys) ≡ at i count xs ++ at i count ys
@@ -190,7 +190,7 @@ module _ {T : Type 0} (missing : Bool) (a : Apart T) (spans : List Span) where
       ∙ map-append (asked_view cols) (opened missing a.taken.number a.next count (apart_rows a) (leaves_listed leaves (having ss i xs))) (opened missing a.taken.number a.next count (apart_rows a) (leaves_listed leaves (having ss i ys)))
 
   module _ (k : ℕ) (l : SparseLeaf T) (x : SparseAsked T) (s : ℕ × ℕ) (leaf : slice_get (apart_leaves a) k ≡ Some l) (row : slice_get (apart_rows a) l.row ≡ Some x) (span : slice_get ss k ≡ Some s) where
-    abbrev view : (count : ℕ) → WantedRow T
+    abbrev pub view : (count : ℕ) → WantedRow T
     view count = asked_view (columns missing a count l x) (one missing a count l x)
 
     at_has : (i count : ℕ) → span_has i (Some s) ≡ true → at i count (k ∷ []) ≡ view count ∷ []
@@ -203,10 +203,10 @@ module _ {T : Type 0} (missing : Bool) (a : Apart T) (spans : List Span) where
     at_not : (i count : ℕ) → span_has i (Some s) ≡ false → at i count (k ∷ []) ≡ []
     at_not i count h = ap (λ c. entered_rows missing a count (leaves_listed (apart_leaves a) (cond c (k ∷ []) []))) (ap (span_has i) span ∙ h)
 
-    more_has : (i count : ℕ) (xs : List ℕ) → span_has i (Some s) ≡ true → at i count (xs ++ k ∷ []) ≡ at i count xs ++ view count ∷ []
+    pub more_has : (i count : ℕ) (xs : List ℕ) → span_has i (Some s) ≡ true → at i count (xs ++ k ∷ []) ≡ at i count xs ++ view count ∷ []
     more_has i count xs h = at_append i count xs (k ∷ []) ∙ ap (λ ys. at i count xs ++ ys) (at_has i count h)
 
-    more_not : (i count : ℕ) (xs : List ℕ) → span_has i (Some s) ≡ false → at i count (xs ++ k ∷ []) ≡ at i count xs
+    pub more_not : (i count : ℕ) (xs : List ℕ) → span_has i (Some s) ≡ false → at i count (xs ++ k ∷ []) ≡ at i count xs
     more_not i count xs h = at_append i count xs (k ∷ []) ∙ ap (λ ys. at i count xs ++ ys) (at_not i count h) ∙ append-nil (at i count xs)
 
     module _ (marks : Marks) (first end : ℕ) (seen kept : List ℕ) (so_far : IsCutSoFar (is_marked marks) missing a spans first end seen kept) where

@@ -39,6 +39,7 @@ pub mod Having
 pub mod Pieces
 pub mod Enough
 pub mod Cuts
+pub mod Repeated
 pub mod FirstRows
 pub mod FirstFrames
 mod TwoArms

@@ -1,5 +1,5 @@
 -- Leaves of a column that matter where a piece of it is entered, and rows that are bare whatever piece that is.
-use Rattle.std.specs.Prelude.{◌≡◌, ◌≤◌, ◌<◌, ℕ, Bool, true, false, not, ◌&&◌, ◌||◌, nat_eq, List, ◌++◌, length, None, Some, slice_get}
+use Rattle.std.specs.Prelude.{◌≡◌, ◌≤◌, ◌<◌, ℕ, Bool, true, false, not, ◌&&◌, ◌||◌, nat_eq, nat_le, List, [], ◌∷◌, ◌++◌, length, None, Some, slice_get}
 use Rattle.std.specs.List.{All, list_all}
 use Rattle.match_model.specs.ArenaPatterns.{de_pat, MDePats, no_de_pats, more_de_pats}
 use Rattle.match_model.specs.Rows.{Head, is_wild}
@@ -72,3 +72,16 @@ pub record IsCutSoFar {T : Type 0} (m : Question → Bool) (missing : Bool) (a :
   pub met : All (λ k. span_meets first end (slice_get (plain_spans spans) k) ≡ true) kept
   pub enough : (i : ℕ) → first ≤ i → i < end →
       AreEnough m missing a (leaves_listed (apart_leaves a) (having (plain_spans spans) i seen)) (leaves_listed (apart_leaves a) (having (plain_spans spans) i kept))
+
+-- the leaf that was kept last is of the row, writes no part, and has all pieces of the part
+pub record EndsWhole {T : Type 0} (a : Apart T) (spans : List Span) (first end row : ℕ) (kept : List ℕ) : Type 0 where
+  pub before : List ℕ
+  pub number : ℕ
+  pub leaf : SparseLeaf T
+  pub span : ℕ × ℕ
+  pub last : kept ≡ before ++ number ∷ []
+  pub got : slice_get (apart_leaves a) number ≡ Some leaf
+  pub spanned : slice_get (plain_spans spans) number ≡ Some span
+  pub same : leaf.row ≡ row
+  pub bare : writes_parts leaf.head ≡ false
+  pub whole : (nat_le span.0 first && nat_le end span.1) ≡ true

@@ -11,7 +11,7 @@ ghost use Rattle.pattern_matrix.specs.Parts.{plain_spans, pieces_in, pieces_left
 ghost use Rattle.pattern_matrix.specs.Views.{plain_row, plain_leaf, plain_pattern};
 ghost use Rattle.usefulness.specs.Marking.{is_marked};
 ghost use Rattle.usefulness.specs.States.{plain_asked, IsApart, apart_leaves, is_noted, scope_of};
-ghost use Rattle.usefulness.specs.Cutting.{writes_parts, is_bare_at, is_wanted_at, is_marked_at, is_idle_at, is_last_at, AreEnough, IsCutPart, IsCutSoFar};
+ghost use Rattle.usefulness.specs.Cutting.{writes_parts, is_bare_at, is_wanted_at, is_marked_at, is_idle_at, is_last_at, AreEnough, IsCutPart, IsCutSoFar, EndsWhole};
 
 use crate::Marks;
 use crate::done::are_marked;
@@ -111,8 +111,37 @@ fn covers(span: &Span, first: usize, end: usize) -> bool
     span.first <= first && end <= span.end
 }
 
-// Keeps the leaf with the number, where it has a piece of the part and is not idle. Tells whether it stops all values in
-// each piece of the part.
+// Tells whether the leaf is of the row with the number, writes no part, and has all pieces of the part.
+fn is_whole<'a, T: Copy>(leaf: &Leaf<'a, T>, span: &Span, part: &Part, row: usize) -> bool
+    ensures { result ≡ (nat_eq leaf.now.row row && (not (writes_parts (plain_leaf leaf.now).head) && (nat_le span.now.first part.now.first && nat_le part.now.end span.now.end))) }
+{
+    leaf.row == row && !writes_parts(leaf.head) && covers(span, part.first, part.end)
+}
+
+// Tells whether the leaf of the row comes again: the row has no guard, and the leaf that was kept last takes whatever this
+// one takes in the part, since it is of the same row, writes no part, and has all pieces of the part.
+fn is_repeated<'a, T: Copy>(
+    a: &Apart<'a, T>,
+    spans: &[Span],
+    part: &Part,
+    asked: &Asked<'a, T>,
+    leaf: &Leaf<'a, T>,
+    kept: &[usize],
+) -> bool
+    requires spans { length spans.now ≡ length a.now.leaves.items }
+    requires within { All (λ k. k < length spans.now) kept.now }
+    ensures guarded { result ≡ true → asked.now.row.guarded ≡ false }
+    ensures whole { result ≡ true → EndsWhole a.now spans.now part.now.first part.now.end leaf.now.row kept.now }
+{
+    if asked.row.guarded || kept.is_empty() {
+        return false;
+    }
+    let last = kept[kept.len() - 1];
+    is_whole(&a.leaves[last], &spans[last], part, leaf.row)
+}
+
+// Keeps the leaf with the number, where it has a piece of the part, is not idle and does not come again. Tells whether it
+// stops all values in each piece of the part.
 fn cut_one<'a, T: Copy>(
     reached: &Reached<'a, T>,
     a: &Apart<'a, T>,
@@ -125,6 +154,7 @@ fn cut_one<'a, T: Copy>(
     requires apart { IsApart (scope_of reached.now) a.now }
     requires spans { length spans.now ≡ length a.now.leaves.items }
     requires within { number < length spans.now }
+    requires kept { All (λ k. k < length spans.now) kept.old.items }
     ensures more { IfOk result (λ last. last ≡ false → (seen : List ℕ) → IsCutSoFar (is_noted reached.now) missing a.now spans.now part.now.first part.now.end seen kept.old.items
         → IsCutSoFar (is_noted reached.now) missing a.now spans.now part.now.first part.now.end (seen ++ number ∷ []) kept.new.items) }
     ensures last { IfOk result (λ last. last ≡ true → (seen rest : List ℕ) → IsCutSoFar (is_noted reached.now) missing a.now spans.now part.now.first part.now.end seen kept.old.items
@@ -137,6 +167,9 @@ fn cut_one<'a, T: Copy>(
         return Ok(false);
     }
     if is_idle(&reached.marks, asked, leaf, a.taken.number, missing) {
+        return Ok(false);
+    }
+    if is_repeated(a, spans, part, asked, leaf, kept.as_slice()) {
         return Ok(false);
     }
     kept.push(number)?;

@@ -4,9 +4,10 @@ use Rattle.constructor_sets.specs.Spans.{plain_span}
 use Rattle.pattern_matrix.specs.Views.{plain_leaf}
 use Rattle.pattern_matrix.proofs.Getting.{got-read}
 use Rattle.usefulness.specs.States.{plain_asked, is_noted, scope_of}
-use Rattle.usefulness.specs.Cutting.{IsCutSoFar}
+use Rattle.usefulness.specs.Cutting.{IsCutSoFar, EndsWhole}
 use Rattle.usefulness.proofs.Reading.{got_at, leaf_within}
 use Rattle.usefulness.proofs.Cuts.{step_apart, step_idle, step_kept, step_last}
+use Rattle.usefulness.proofs.Repeated.{step_repeated}
 use Rattle.usefulness.proofs.cutting.cut_one.Goals as goal
 
 pub index-asked-requires : goal.index-asked-requires
@@ -57,6 +58,27 @@ returns-then-is_idle-clause-more g c = λ e seen so_far.
     let got_row = got_at plain_asked a.rows.items leaf.row asked of_row c.index-asked.ensures in
     let got_span = got-read plain_span spans number none below in
     step_idle c.args.missing a spans number (plain_leaf leaf) (plain_asked asked) (plain_span span) got_leaf got_row got_span c.args.reached.now.marks part.first part.end seen kept so_far (sym c.is_idle.ensures ∙ c.if-is_idle.true)
+
+pub returns-then-is_repeated-clause-more : goal.returns-then-is_repeated-clause-more
+returns-then-is_repeated-clause-more g c = λ e seen so_far.
+    let a = c.args.a.now in
+    let part = c.args.part.now in
+    let spans = c.args.spans.now in
+    let number = c.args.number in
+    let kept = c.args.kept.now.items in
+    let leaf = c.index-leaf.result.now in
+    let asked = c.index-asked.result.now in
+    let none : Span = record { first = 0; end = 0 } in
+    let span = get_or spans number none in
+    let same = c.requires.spans in
+    let below = c.requires.within in
+    let within : number < length a.leaves.items = omega (arith, same, below) in
+    let of_row = leaf_within (scope_of c.args.reached.now) a c.requires.apart number leaf within c.index-leaf.ensures in
+    let got_leaf = got_at plain_leaf a.leaves.items number leaf within c.index-leaf.ensures in
+    let got_row = got_at plain_asked a.rows.items leaf.row asked of_row c.index-asked.ensures in
+    let got_span = got-read plain_span spans number none below in
+    step_repeated c.args.missing a spans (scope_of c.args.reached.now) c.requires.apart number (plain_leaf leaf) (plain_asked asked) (plain_span span) got_leaf got_row got_span c.args.reached.now.marks part.first part.end seen kept so_far
+    (c.is_repeated.ensures.guarded c.if-is_repeated.true) (subst (EndsWhole a spans part.first part.end leaf.row) c.as_slice.ensures.value (c.is_repeated.ensures.whole c.if-is_repeated.true))
 
 pub returns-then-whole-clause-more : goal.returns-then-whole-clause-more
 returns-then-whole-clause-more g c = λ e seen so_far.

@@ -1,0 +1,123 @@
+#!/usr/bin/env python3
+"""Measures judging alone, beside an engine in plain Rust, over the families of run.py, at N, 2N and 4N.
+
+    bench/families/alone.py [--only TEXT] [--times N] ENGINE [PROGRAM]
+    bench/families/alone.py --build PROGRAM
+
+ENGINE is the program that run.py takes. PROGRAM reads a match in the form of tests/engine/README.md and judges it so many times;
+`--build` makes it of the crates, the reader of tests/engine and program/ (files without their last `.txt`). What counts is the
+processor time of judging a match k + 1 times less that of judging it once, by k. So neither program reads, elaborates or prints while
+the clock runs, and times from 50 microseconds on are judged.
+
+It is built as `rt try` builds, which proves nothing, but by a copy of the toolchain's folder whose compiler is called with -O2 and
+without AddressSanitizer, since the times of what `rt try` makes say little. The columns and goals are those of run.py.
+"""
+import os
+import pathlib
+import shutil
+import subprocess
+import sys
+import tempfile
+
+HERE = pathlib.Path(__file__).resolve().parent
+ROOT = HERE.parent.parent
+sys.path.insert(0, str(HERE.parent))
+import constructors
+from constructors import over_families, told
+from measuring import OUT, least, write
+from run import FAMILIES
+
+CRATES = (
+    "no_memory", "match_model", "range_split", "slice_split", "pat_context", "pattern_arena", "constructor_sets", "witnesses",
+    "pattern_matrix", "usefulness", "witness_search",
+)
+READER = ("words", "types", "patterns")
+SHORTEST = 0.00005
+CLANG = """#!/usr/bin/env python3
+import os, sys
+words = ["-O2" if word == "-O0" else word for word in sys.argv[1:] if word != "-fsanitize=address"]
+os.execv("{tools}/clang", ["clang"] + words)
+"""
+LINKER = """#!/usr/bin/env python3
+import subprocess, sys
+words = ["{tools}/ld.lld"] + sys.argv[1:]
+status = subprocess.call(words)
+first, last = words.index("--whole-archive"), words.index("--no-whole-archive")
+words[first : last + 1] = []
+words[words.index("-o") + 1] = "{target}"
+subprocess.call(words)
+sys.exit(status)
+"""
+
+
+def link_all(source, target, but=()):
+    """A folder with links to all that stands in another one."""
+    target.mkdir(parents=True)
+    for it in source.iterdir():
+        if it.name not in but:
+            (target / it.name).symlink_to(it)
+
+
+def optimising(folder, target):
+    """A copy of the kit, by links, whose compiler optimises, and whose linker links the target too; the path of its `rt`."""
+    kit = pathlib.Path(os.path.realpath(shutil.which("rt"))).parent.parent
+    link_all(kit, folder, ("bin", "toolchain"))
+    link_all(kit / "bin", folder / "bin", ("rt", "rtlib.py"))
+    for name in ("rt", "rtlib.py"):
+        shutil.copy(kit / "bin" / name, folder / "bin" / name)
+    link_all(kit / "toolchain", folder / "toolchain", ("bin",))
+    tools = kit / "toolchain" / "bin"
+    link_all(tools, folder / "toolchain" / "bin", ("clang", "ld.lld"))
+    for name, text in (("clang", CLANG), ("ld.lld", LINKER)):
+        path = folder / "toolchain" / "bin" / name
+        path.write_text(text.format(tools=tools, target=target))
+        path.chmod(0o755)
+    return folder / "bin" / "rt"
+
+
+def copied(folder):
+    """A copy of the crates with the program."""
+    for crate in CRATES:
+        shutil.copytree(ROOT / "crates" / crate, folder / "crates" / crate, ignore=shutil.ignore_patterns("must-fail", "out"))
+    lines = (ROOT / "crates.txt").read_text().splitlines()
+    needed = [line for line in lines if line.split(":")[0] in CRATES]
+    (folder / "crates.txt").write_text("\n".join(needed + ["engine_times: %s bumpalo" % " ".join(CRATES)]) + "\n")
+    program = folder / "crates" / "engine_times"
+    (program / "src").mkdir(parents=True)
+    for name in READER:
+        shutil.copy(ROOT / "tests/engine/program/src" / f"{name}.rt.txt", program / "src" / f"{name}.rt")
+    shutil.copy(HERE / "program/src/main.rt.txt", program / "src/main.rt")
+    return program
+
+
+def build(target):
+    """Builds the program."""
+    with tempfile.TemporaryDirectory() as name:
+        folder = pathlib.Path(name)
+        rt = optimising(folder / "kit", target)
+        program = copied(folder / "repository")
+        done = subprocess.run([str(rt), "try"], cwd=program, input="", capture_output=True, text=True)
+        if not os.path.isfile(target):
+            sys.exit(done.stdout + done.stderr)
+
+
+def times(program, path):
+    """How often the match is judged in about a tenth of a second, at most 4,096 times."""
+    once = least(["sh", "-c", f"exec {program} 2 < {path}"], 1)[0]
+    return max(1, min(4096, int(0.1 / max(once, 1e-5))))
+
+
+def ours(words, name, n):
+    """The program's time of judging a match of a family."""
+    path = write(f"family_{name}_{n}.matches", told(words.engine, name, n))
+    count = times(words.program, path)
+    often, once = (least(["sh", "-c", f"exec {words.program} {k} < {path}"], words.times)[0] for k in (count + 1, 1))
+    return max(often - once, 0.0) / count
+
+
+if __name__ == "__main__":
+    if sys.argv[1:2] == ["--build"] and len(sys.argv) == 3:
+        build(os.path.abspath(sys.argv[2]))
+    else:
+        constructors.SHORTEST = SHORTEST
+        sys.exit(over_families("Measures judging alone beside an engine in plain Rust.", FAMILIES, ours, "j", "judge"))
