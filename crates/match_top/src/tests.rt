@@ -1,3 +1,5 @@
+ghost use Rattle.std.specs.Prelude.{◌<◌, ◌≤◌};
+
 use crate::{Status, demo_source, run};
 use match_io::{MemoryFiles, MemorySink, SureFiles};
 use std::alloc::Global;
@@ -370,8 +372,9 @@ fn with_faults(alloc: Global, reads: &[u64], writes: &[u64]) -> Result<(Status, 
     Ok((run(alloc, &words, &mut files, &mut sink), sink))
 }
 
-// The counts in the reports on generated files, by the number of their items: what is written, and the number of the status.
-const COUNTS: [(&str, &str, u8); 2] = [
+// The counts in the reports on generated files, by the number of their items: what is written, and the number of the
+// status.
+const COUNTS: [(&str, &str, u8); 3] = [
     (
         "1",
         "{\"arms\":5,\"exhaustive\":1,\"functions\":1,\"overlaps\":1,\"unreachable\":1,\"witnesses\":0}\n",
@@ -380,6 +383,12 @@ const COUNTS: [(&str, &str, u8); 2] = [
     (
         "10",
         "{\"arms\":59,\"exhaustive\":5,\"functions\":10,\"overlaps\":10,\"unreachable\":4,\"witnesses\":5}\n",
+        1,
+    ),
+    (
+        "200",
+        "{\"arms\":1167,\"exhaustive\":100,\"functions\":200,\"overlaps\":200,\"unreachable\":67,\
+        \"witnesses\":100}\n",
         1,
     ),
 ];
@@ -395,10 +404,59 @@ fn generated_files_are_counted_with_the_memory_that_they_want(rt: HostRuntime) -
         assert_eq!(rt; found.number(), status, "status of demo {number}");
         assert_eq!(rt; sink.bytes(), wanted.as_bytes(), "written by demo {number}");
     }
-    let source = demo_source(alloc, 10)?;
+    Ok(())
+}
+
+// How many times the part stands in the text.
+fn occurrences(text: &[u8], part: &str) -> usize {
+    let mut count: usize = 0;
+    for from in 0..text.len() {
+        if text[from..].starts_with(part.as_bytes()) {
+            count = count.saturating_add(1);
+        }
+    }
+    count
+}
+
+// What `demo` is to write for a source: the arms by the arrows of the source, all else by the entries of its report.
+fn counted(alloc: Global, source: &[u8], report: &[u8]) -> Result<String, Fail> {
+    let arms = occurrences(source, " => ");
+    let exhaustive = occurrences(report, "\"exhaustive\":true");
+    let functions = occurrences(report, "\"exhaustive\":");
+    let overlaps = occurrences(report, "\"with\":");
+    let unreachable = occurrences(report, "\"whole\":");
+    let witnesses = occurrences(report, "\"text\":");
+    Ok(format!(in alloc;
+        "{{\"arms\":{arms},\"exhaustive\":{exhaustive},\"functions\":{functions},\"overlaps\":{overlaps},\
+        \"unreachable\":{unreachable},\"witnesses\":{witnesses}}}\n"
+    )?)
+}
+
+// Whether `demo` writes the counts in the report of `check` on the same generated file, and ends with the same status.
+fn counts_are_those_of_the_report(alloc: Global, items: u32, number: &str) -> Result<bool, Fail>
+    requires { (0 < items) × (items ≤ 200) }
+{
+    let source = demo_source(alloc, items)?;
     let words = texts(alloc, CHECK)?;
     let mut files = one_file(alloc, &source, &[])?;
-    let mut sink = MemorySink::new(alloc, 65_536, 4096, Vec::new(alloc))?;
-    assert_eq!(rt; run(alloc, &words, &mut files, &mut sink), Status::Found);
+    let mut report = MemorySink::new(alloc, 1_048_576, 65_536, Vec::new(alloc))?;
+    let checked = run(alloc, &words, &mut files, &mut report);
+    let wanted = counted(alloc, &source, report.bytes())?;
+    let words = texts(alloc, &["demo", number])?;
+    let mut files = one_file(alloc, NO_FILE, &[1])?;
+    let mut counts = MemorySink::new(alloc, 4096, 4096, Vec::new(alloc))?;
+    let told = run(alloc, &words, &mut files, &mut counts);
+    Ok(checked.number() == told.number() && counts.bytes() == wanted.as_bytes())
+}
+
+#[test]
+fn demo_counts_what_check_reports(rt: HostRuntime) -> Result<(), Fail> {
+    let alloc = rt.alloc();
+    let one = counts_are_those_of_the_report(alloc, 1, "1")?;
+    assert!(rt; one, "demo 1");
+    let ten = counts_are_those_of_the_report(alloc, 10, "10")?;
+    assert!(rt; ten, "demo 10");
+    let most = counts_are_those_of_the_report(alloc, 200, "200")?;
+    assert!(rt; most, "demo 200");
     Ok(())
 }

@@ -12,7 +12,7 @@ use Rattle.pattern_lints.specs.Spots.{Spot, spots_in}
 use Rattle.pattern_lints.specs.Finding.{RangeView, range_views, IsNoted, AreNoted, Notes, AreFound, AreFoundIn}
 use Rattle.pattern_lints.proofs.SpotLaws.{nothing-in, first-in, later-in, first-or-later}
 use Rattle.pattern_lints.proofs.Noting.{is-noted-stays}
-use Rattle.pattern_lints.proofs.LowList.{below-length, below-mapped, one-at}
+use Rattle.pattern_lints.proofs.EndList.{below-length, below-mapped, one-at}
 
 noted-each : (table : List PlaceStep) (arm : ℕ) (path : List ℕ) (above : ℕ) (fs : List RangeView) (spots : List Spot) → AreNoted table arm path above fs spots →
     (f : RangeView) → Contains fs f → (s : Spot) × Contains spots s × IsNoted table arm path above f s

@@ -19,9 +19,11 @@ pub mod Middle
 pub mod Noting
 pub mod Walking
 pub mod Arms
-pub mod LowList
-pub mod LowOrder
+pub mod BesideLaws
+pub mod EndList
+pub mod EndOrder
 pub mod OverlapOrder
 pub mod PairList
 pub mod Whole
+pub mod Facing
 mod FlagMatch

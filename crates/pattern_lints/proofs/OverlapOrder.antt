@@ -18,7 +18,7 @@ use Rattle.witnesses.specs.declared.judgement.Overlap.{Overlap}
 use Rattle.witnesses.specs.contracts.judgement.OverlapPartialEq.TheImpl as overlap_eq
 use Rattle.pattern_lints.specs.Views.{plain_overlap, plain_overlaps, IsInOrder}
 use Rattle.pattern_lints.proofs.SpotLaws.{nothing-in, first-in, later-in, first-or-later}
-use Rattle.pattern_lints.proofs.LowOrder.{number_cmp, number_key, number-order, by-first, before-by, by-before, true-is, is-true, le-trans}
+use Rattle.pattern_lints.proofs.EndOrder.{number_cmp, number_key, number-order, by-first, before-by, by-before, true-is, is-true, le-trans}
 
 -- ---- equal overlaps
 

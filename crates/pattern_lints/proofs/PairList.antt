@@ -4,20 +4,22 @@ use Rattle.std.specs.List.{Contains}
 use Rattle.std.proofs.lemmas.List.Elements.{Contains-append_left, Contains-push, Contains-push_cases}
 use Rattle.match_model.specs.Values.{MValue}
 use Rattle.match_model.specs.Numbers.{At}
-use Rattle.match_model.specs.Overlaps.{MOverlap}
+use Rattle.match_model.specs.Overlaps.{MOverlap, MeetAt}
 use Rattle.match_model.specs.Contexts.{Context}
 use Rattle.match_model.specs.WellTyped.{IsWellTyped, IsTyped}
 use Rattle.match_model.specs.ArenaPatterns.{MDePat, MDeArm, MDeMatch}
 use Rattle.range_split.specs.Numbers.{num_value}
-use Rattle.pattern_lints.specs.declared.lows.LowEnd.{LowEnd}
+use Rattle.pattern_lints.specs.declared.ends.Side.{Side}
+use Rattle.pattern_lints.specs.declared.ends.Side.TheVariants.{Low, High}
+use Rattle.pattern_lints.specs.declared.ends.RangeEnd.{RangeEnd}
 use Rattle.pattern_lints.specs.Along.{EndsAt, Touching, MeetTogether}
 use Rattle.pattern_lints.specs.Spots.{Spot, spots_in}
 use Rattle.pattern_lints.specs.Finding.{RangeView, AreFoundIn}
-use Rattle.pattern_lints.specs.Lows.{IsLow, AreLows, IsRun}
-use Rattle.pattern_lints.specs.Pairing.{Adds, IsInArm, TouchesAt, pair_at, IsPair, IsPairOf, IsPairIn}
+use Rattle.pattern_lints.specs.Ends.{IsEnd, AreEnds, Faces, IsRun, across}
+use Rattle.pattern_lints.specs.Pairing.{Adds, IsInArm, pair_at, IsPair, IsPairAcross, IsPairFacing, IsPairFrom}
 use Rattle.pattern_lints.proofs.SpotLaws.{spot-ends}
 use Rattle.pattern_lints.proofs.Tries.{in-at, at-in}
-use Rattle.pattern_lints.proofs.LowList.{below-length, one-at, last-or-below}
+use Rattle.pattern_lints.proofs.EndList.{below-length, one-at, last-or-below}
 
 -- ---- what is added
 
@@ -31,7 +33,7 @@ adds-one P xs o h one = record {
   from = λ p c. elim (Contains-push_cases xs o p c) [ inl old ↦ inl old | inr e ↦ inr (subst P e h) ];
 }
 
-adds-then : (P Q R : MOverlap → Type 0) (a b c : List MOverlap) → ((o : MOverlap) → P o → R o) → ((o : MOverlap) → Q o → R o) → ((o : MOverlap) → R o → P o ⊎ Q o) →
+pub adds-then : (P Q R : MOverlap → Type 0) (a b c : List MOverlap) → ((o : MOverlap) → P o → R o) → ((o : MOverlap) → Q o → R o) → ((o : MOverlap) → R o → P o ⊎ Q o) →
     Adds P a b → Adds Q b c → Adds R a c
 adds-then P Q R a b c p q r g h = record {
   kept = λ o x. h.kept o (g.kept o x);
@@ -75,7 +77,7 @@ arm-ends arms f a h e =
     subst (λ p. EndsAt a.pat p f.at f.range) (sym h.path_is) (subst (λ n. EndsAt a.pat h.spot.path n f.range) (sym h.at_is) (subst (λ r. EndsAt a.pat h.spot.path h.spot.at r) (sym h.range_is) ends))
 
 -- two ranges of which one ends where the other begins
-pub arms-touch : {T : Type 0} (arms : List (MDeArm T)) (f g : RangeView) (x : ℤ) (a b : MDeArm T) → IsInArm arms f → IsInArm arms g → TouchesAt f g x →
+pub arms-touch : {T : Type 0} (arms : List (MDeArm T)) (f g : RangeView) (x : ℤ) (a b : MDeArm T) → IsInArm arms f → IsInArm arms g → MeetAt f.range g.range x →
     slice_get arms f.arm ≡ Some a → slice_get arms g.arm ≡ Some b → Touching a.pat f.path b.pat g.path
 arms-touch arms f g x a b h k t e d = record {
   first_at = f.at;
@@ -85,7 +87,7 @@ arms-touch arms f g x a b h k t e d = record {
   number = x;
   first = arm-ends arms f a h e;
   second = arm-ends arms g b k d;
-  meet = inl t;
+  meet = t;
 }
 
 module _ {T : Type 0} (IsValue : T → Bool → MValue → Type 0) (m : MDeMatch T) (f g : RangeView) (x : ℤ) (xs : List MOverlap) where
@@ -112,87 +114,65 @@ module _ {T : Type 0} (IsValue : T → Bool → MValue → Type 0) (m : MDeMatch
       (record { first_arm = a; second_arm = b; first_there = e; second_there = d; differ = differ; together = together; is = is })
       (λ p q. q.is ∙ sym is)
 
--- ---- the pairs of one range
-
--- the overlap is that of the range with the one whose low end has the index `k`, at the same place and the number
-abbrev pub IsPairAt : {T : Type 0} → (IsValue : T → Bool → MValue → Type 0) → MDeMatch T → (fs : List RangeView) → (lows : List LowEnd) → RangeView → ℤ → ℕ → MOverlap → Type 0
-IsPairAt IsValue m fs lows f x k o =
-    (l : LowEnd) × (slice_get lows k ≡ Some l) × ((l.place ≡ f.place) × (num_value l.number ≡ x)) × ((g : RangeView) × (slice_get fs l.index ≡ Some g) × IsPair IsValue m f g x o)
+-- ---- the pairs of one end
 
 at-number : (x y : ℤ) → At x ≡ At y → x ≡ y
 at-number x y e = cc
 
-module _ {T : Type 0} (IsValue : T → Bool → MValue → Type 0) (m : MDeMatch T) (fs : List RangeView) (lows : List LowEnd) (f : RangeView) where
-  -- a range without a high end has none
-  pub pairs-none : (xs : List MOverlap) → ((x : ℤ) → f.range.high ≢ At x) → Adds (IsPairOf IsValue m fs f) xs xs
-  pairs-none xs none = adds-none (IsPairOf IsValue m fs f) xs (λ o p. none p.number p.touch.0)
+-- the ranges of two ends that face each other meet at their number
+pub ends-meet : (side : Side) (fs : List RangeView) (e d : RangeEnd) (f g : RangeView) → IsEnd side fs e → IsEnd (across side) fs d → Faces side e d → slice_get fs e.index ≡ Some f →
+    slice_get fs d.index ≡ Some g → MeetAt f.range g.range (num_value e.number)
+ends-meet High fs e d f g h k faces there other =
+    let one : h.range ≡ f = one-at fs e.index e.index h.range f refl h.there there in
+    let two : k.range ≡ g = one-at fs d.index d.index k.range g refl k.there other in
+    inl (subst (λ (y : RangeView). y.range.high ≡ At (num_value e.number)) one h.end, subst (λ (y : RangeView). y.range.low ≡ At (num_value e.number)) two (k.end ∙ ap At faces.number))
+ends-meet Low fs e d f g h k faces there other =
+    let one : h.range ≡ f = one-at fs e.index e.index h.range f refl h.there there in
+    let two : k.range ≡ g = one-at fs d.index d.index k.range g refl k.there other in
+    inr (subst (λ (y : RangeView). y.range.high ≡ At (num_value e.number)) two (k.end ∙ ap At faces.number), subst (λ (y : RangeView). y.range.low ≡ At (num_value e.number)) one h.end)
 
-  module _ (x : ℤ) (first end : ℕ) (high : f.range.high ≡ At x) (h : AreLows fs lows) (run : IsRun f.place x lows first end) where
-    -- the range of a low end of the run touches
-    pub run-touches : (k : ℕ) (l : LowEnd) (g : RangeView) → first ≤ k → k < end → slice_get lows k ≡ Some l → slice_get fs l.index ≡ Some g → (g.place ≡ f.place) × TouchesAt f g x
-    run-touches k l g a b at there =
-        let low = h.each l (in-at lows k l at) in
-        let is = run.inside k l a b at in
-        let same : low.range ≡ g = one-at fs l.index l.index low.range g refl low.there there in
-        (subst (λ (y : RangeView). y.place ≡ f.place) same (low.place ∙ is.0), (high, subst (λ (y : RangeView). y.range.low ≡ At x) same (low.low ∙ ap At is.1)))
+-- the overlap is that of the end with the one with the index `k`, which faces it
+abbrev pub IsPairAt : {T : Type 0} → (IsValue : T → Bool → MValue → Type 0) → MDeMatch T → (fs : List RangeView) → Side → (others : List RangeEnd) → RangeEnd → ℕ → MOverlap → Type 0
+IsPairAt IsValue m fs side others e k o = (d : RangeEnd) × (slice_get others k ≡ Some d) × Faces side e d × IsPairAcross IsValue m fs e d o
 
-    run-pair : (o : MOverlap) (k : ℕ) → IsPairAt IsValue m fs lows f x k o → IsPairOf IsValue m fs f o
-    run-pair o k (l, at, is, (g, there, p)) =
-        let low = h.each l (in-at lows k l at) in
-        let same : low.range ≡ g = one-at fs l.index l.index low.range g refl low.there there in
-        record {
-          other = g;
-          number = x;
-          there = in-at fs l.index g there;
-          place = subst (λ (y : RangeView). y.place ≡ f.place) same (low.place ∙ is.0);
-          touch = (high, subst (λ (y : RangeView). y.range.low ≡ At x) same (low.low ∙ ap At is.1));
-          pair = p;
-        }
-
-    pair-run : (o : MOverlap) → IsPairOf IsValue m fs f o → Within (IsPairAt IsValue m fs lows f x) first end o
-    pair-run o p =
-        let number : p.number ≡ x = at-number p.number x (sym p.touch.0 ∙ high) in
-        let index = at-in fs p.other p.there in
-        let found = h.all index.0 p.other p.number (below-length fs index.0 p.other index.1) index.1 p.touch.1 in
-        let l = found.0 in
-        let low = h.each l found.1 in
-        let there : slice_get fs l.index ≡ Some p.other = ap (slice_get fs) found.2 ∙ index.1 in
-        let same : low.range ≡ p.other = one-at fs l.index l.index low.range p.other refl low.there there in
-        let place : l.place ≡ f.place = sym low.place ∙ ap (λ (y : RangeView). y.place) same ∙ p.place in
-        let is : num_value l.number ≡ x = at-number (num_value l.number) x (sym low.low ∙ ap (λ (y : RangeView). y.range.low) same ∙ p.touch.1 ∙ ap At number) in
-        let k = at-in lows l found.1 in
-        let within = run.every k.0 l k.1 place is in
-        (k.0, within.0, within.1, (l, k.1, (place, is), (p.other, there, subst (λ n. IsPair IsValue m f p.other n o) number p.pair)))
-
-    -- the pairs of a range are those with the low ends of its run
-    pub pairs-run : (i : ℕ) (a b : List MOverlap) → end ≤ i → Adds (Within (IsPairAt IsValue m fs lows f x) first i) a b → Adds (IsPairOf IsValue m fs f) a b
-    pairs-run i a b l adds =
-        adds-same (Within (IsPairAt IsValue m fs lows f x) first i) (IsPairOf IsValue m fs f) a b (λ o q. run-pair o q.0 q.3)
-        (λ o p. let q = pair-run o p in (q.0, q.1, omega (arith, q.2, l), q.3)) adds
-
-  -- the pair with one low end
-  pub pair-at : (x : ℤ) (k : ℕ) (l : LowEnd) (g : RangeView) (a b : List MOverlap) → slice_get lows k ≡ Some l → (l.place ≡ f.place) × (num_value l.number ≡ x) →
-      slice_get fs l.index ≡ Some g → Adds (IsPair IsValue m f g x) a b → Adds (IsPairAt IsValue m fs lows f x k) a b
-  pair-at x k l g a b at is there adds =
-      adds-same (IsPair IsValue m f g x) (IsPairAt IsValue m fs lows f x k) a b (λ o p. (l, at, is, (g, there, p)))
+module _ {T : Type 0} (IsValue : T → Bool → MValue → Type 0) (m : MDeMatch T) (fs : List RangeView) (side : Side) (others : List RangeEnd) (e : RangeEnd) where
+  -- the pair with one end
+  pub pair-at : (k : ℕ) (d : RangeEnd) (f g : RangeView) (a b : List MOverlap) → slice_get others k ≡ Some d → Faces side e d → slice_get fs e.index ≡ Some f → slice_get fs d.index ≡ Some g →
+      Adds (IsPair IsValue m f g (num_value e.number)) a b → Adds (IsPairAt IsValue m fs side others e k) a b
+  pair-at k d f g a b at faces there other adds =
+      adds-same (IsPair IsValue m f g (num_value e.number)) (IsPairAt IsValue m fs side others e k) a b
+      (λ o p. (d, at, faces, record { first = f; second = g; first_there = there; second_there = other; pair = p }))
       (λ o q.
-      let low : q.0 ≡ l = one-at lows k k q.0 l refl q.1 at in
-      let same : q.3.0 ≡ g = one-at fs q.0.index l.index q.3.0 g (ap (λ (y : LowEnd). y.index) low) q.3.1 there in
-      subst (λ y. IsPair IsValue m f y x o) same q.3.2) adds
+      let same : q.0 ≡ d = one-at others k k q.0 d refl q.1 at in
+      let across = q.3 in
+      let one : across.first ≡ f = one-at fs e.index e.index across.first f refl across.first_there there in
+      let two : across.second ≡ g = one-at fs q.0.index d.index across.second g (ap (λ (y : RangeEnd). y.index) same) across.second_there other in
+      subst (λ y. IsPair IsValue m y g (num_value e.number) o) one (subst (λ y. IsPair IsValue m across.first y (num_value e.number) o) two across.pair)) adds
 
--- ---- all pairs
+  -- the pairs of an end are those with the ends of its run
+  pub pairs-run : (first end i : ℕ) (a b : List MOverlap) → IsRun side e others first end → end ≤ i → Adds (Within (IsPairAt IsValue m fs side others e) first i) a b →
+      Adds (IsPairFacing IsValue m fs side others e) a b
+  pairs-run first end i a b run l adds =
+      adds-same (Within (IsPairAt IsValue m fs side others e) first i) (IsPairFacing IsValue m fs side others e) a b
+      (λ o q. (q.3.0, in-at others q.0 q.3.0 q.3.1, q.3.2, q.3.3))
+      (λ o p.
+      let k = at-in others p.0 p.1 in
+      let within = run.every k.0 p.0 k.1 p.2 in
+      (k.0, within.0, omega (arith, within.1, l), (p.0, k.1, p.2, p.3))) adds
 
--- the overlap is one of the range with the index `k`
-abbrev pub IsPairFrom : {T : Type 0} → (IsValue : T → Bool → MValue → Type 0) → MDeMatch T → (fs : List RangeView) → ℕ → MOverlap → Type 0
-IsPairFrom IsValue m fs k o = (f : RangeView) × (slice_get fs k ≡ Some f) × IsPairOf IsValue m fs f o
+-- ---- the pairs of all ends
 
-module _ {T : Type 0} (IsValue : T → Bool → MValue → Type 0) (m : MDeMatch T) (fs : List RangeView) where
-  pub pairs-of : (k : ℕ) (f : RangeView) (a b : List MOverlap) → slice_get fs k ≡ Some f → Adds (IsPairOf IsValue m fs f) a b → Adds (IsPairFrom IsValue m fs k) a b
-  pairs-of k f a b at adds =
-      adds-same (IsPairOf IsValue m fs f) (IsPairFrom IsValue m fs k) a b (λ o p. (f, at, p))
-      (λ o q. subst (λ y. IsPairOf IsValue m fs y o) (one-at fs k k q.0 f refl q.1 at) q.2) adds
+-- the overlap is one of the end with the index `k`
+abbrev pub IsPairOfEnd : {T : Type 0} → (IsValue : T → Bool → MValue → Type 0) → MDeMatch T → (fs : List RangeView) → Side → (ends others : List RangeEnd) → ℕ → MOverlap → Type 0
+IsPairOfEnd IsValue m fs side ends others k o = (e : RangeEnd) × (slice_get ends k ≡ Some e) × IsPairFacing IsValue m fs side others e o
 
-  pub pairs-all : (i : ℕ) (a b : List MOverlap) → length fs ≤ i → Adds (Within (IsPairFrom IsValue m fs) 0 i) a b → Adds (IsPairIn IsValue m fs) a b
+module _ {T : Type 0} (IsValue : T → Bool → MValue → Type 0) (m : MDeMatch T) (fs : List RangeView) (side : Side) (ends others : List RangeEnd) where
+  pub pairs-of : (k : ℕ) (e : RangeEnd) (a b : List MOverlap) → slice_get ends k ≡ Some e → Adds (IsPairFacing IsValue m fs side others e) a b → Adds (IsPairOfEnd IsValue m fs side ends others k) a b
+  pairs-of k e a b at adds =
+      adds-same (IsPairFacing IsValue m fs side others e) (IsPairOfEnd IsValue m fs side ends others k) a b (λ o p. (e, at, p))
+      (λ o q. subst (λ y. IsPairFacing IsValue m fs side others y o) (one-at ends k k q.0 e refl q.1 at) q.2) adds
+
+  pub pairs-all : (i : ℕ) (a b : List MOverlap) → length ends ≤ i → Adds (Within (IsPairOfEnd IsValue m fs side ends others) 0 i) a b → Adds (IsPairFrom IsValue m fs side ends others) a b
   pairs-all i a b l adds =
-      adds-same (Within (IsPairFrom IsValue m fs) 0 i) (IsPairIn IsValue m fs) a b (λ o q. (q.3.0, in-at fs q.0 q.3.0 q.3.1, q.3.2))
-      (λ o p. let k = at-in fs p.0 p.1 in let less = below-length fs k.0 p.0 k.1 in (k.0, omega arith, omega (arith, less, l), (p.0, k.1, p.2))) adds
+      adds-same (Within (IsPairOfEnd IsValue m fs side ends others) 0 i) (IsPairFrom IsValue m fs side ends others) a b (λ o q. (q.3.0, in-at ends q.0 q.3.0 q.3.1, q.3.2))
+      (λ o p. let k = at-in ends p.0 p.1 in let less = below-length ends k.0 p.0 k.1 in (k.0, omega arith, omega (arith, less, l), (p.0, k.1, p.2))) adds

@@ -17,7 +17,7 @@ use Rattle.pattern_lints.specs.Pairing.{Adds, IsInArm, TouchesAt, pair_at, IsPai
 use Rattle.pattern_lints.specs.Views.{IsInOrder}
 use Rattle.pattern_lints.proofs.Noting.{one-place}
 use Rattle.pattern_lints.proofs.SpotLaws.{nothing-in}
-use Rattle.pattern_lints.proofs.LowList.{below-length}
+use Rattle.pattern_lints.proofs.EndList.{below-length}
 use Rattle.pattern_lints.proofs.Middle.{overlaps-are-spots, same-steps}
 
 -- what was found is in its arm
@@ -28,7 +28,7 @@ in-arm arms fs f h c =
     record { arm = e.1.0; there = e.1.1; spot = s.0; inside = s.1; path_is = s.2.path_is; at_is = s.2.at_is; range_is = s.2.range_is }
 
 -- both the other way round
-turned : {T : Type 0} (IsValue : T → Bool → MValue → Type 0) (t : T) (sure : Bool) (p q : MDePat T) (path other : List ℕ) → MeetTogether IsValue t sure p path q other →
+pub turned : {T : Type 0} (IsValue : T → Bool → MValue → Type 0) (t : T) (sure : Bool) (p q : MDePat T) (path other : List ℕ) → MeetTogether IsValue t sure p path q other →
     MeetTogether IsValue t sure q other p path
 turned IsValue t sure p q path other h = record {
   value = h.value;
@@ -46,12 +46,12 @@ turned IsValue t sure p q path other h = record {
 }
 
 -- the pair with the smaller offset first
-lesser : (a b : ℕ) (x : ℤ) → a < b → pair_at a b x ≡ record { first = a; second = b; number = x }
+pub lesser : (a b : ℕ) (x : ℤ) → a < b → pair_at a b x ≡ record { first = a; second = b; number = x }
 lesser a b x l =
     let test : nat_lt a b ≡ true = grind (arith, nat_tests) in
     ap (λ t. if t then record { first = a; second = b; number = x } else record { first = b; second = a; number = x }) test
 
-greater : (a b : ℕ) (x : ℤ) → b < a → pair_at a b x ≡ record { first = b; second = a; number = x }
+pub greater : (a b : ℕ) (x : ℤ) → b < a → pair_at a b x ≡ record { first = b; second = a; number = x }
 greater a b x l =
     let test : nat_lt a b ≡ false = grind (arith, nat_tests) in
     ap (λ t. if t then record { first = a; second = b; number = x } else record { first = b; second = a; number = x }) test
@@ -84,7 +84,7 @@ as-spots {T} IsValue m f g x a b h k ha hb l meet together =
           (subst (λ path. MeetTogether IsValue m.type m.sure a.pat f.path b.pat path) k.path_is together);
     }
 
-split : (a b : ℕ) → a ≢ b → (a < b) ⊎ (b < a)
+pub split : (a b : ℕ) → a ≢ b → (a < b) ⊎ (b < a)
 split a b n = go (nat_lt a b) refl
   where
     other : (a b : ℕ) → a ≢ b → nat_lt a b ≡ false → b < a

@@ -5,5 +5,6 @@ pub mod Lengths
 pub mod Spots
 pub mod Pairs
 pub mod Finding
-pub mod Lows
+pub mod Beside
+pub mod Ends
 pub mod Pairing

@@ -3,11 +3,15 @@ use Rattle.std.specs.Prelude.{◌≡◌, ◌≢◌, ◌⊎◌, ℕ, ℤ, Bool, L
 use Rattle.std.specs.List.{Contains}
 use Rattle.match_model.specs.Values.{MValue}
 use Rattle.match_model.specs.Numbers.{At}
+use Rattle.range_split.specs.Numbers.{num_value}
 use Rattle.match_model.specs.Overlaps.{MOverlap}
 use Rattle.match_model.specs.ArenaPatterns.{MDeArm, MDeMatch}
 use Rattle.pattern_lints.specs.Along.{MeetTogether}
 use Rattle.pattern_lints.specs.Spots.{Spot, spots_in}
 use Rattle.pattern_lints.specs.Finding.{RangeView}
+use Rattle.pattern_lints.specs.declared.ends.Side.{Side}
+use Rattle.pattern_lints.specs.declared.ends.RangeEnd.{RangeEnd}
+use Rattle.pattern_lints.specs.Ends.{Faces}
 
 -- besides what the first list has, the second one has what passes the test, and nothing else
 pub record Adds (P : MOverlap → Type 0) (old new : List MOverlap) : Type 0 where
@@ -56,3 +60,19 @@ pub record IsPairOf {T : Type 0} (IsValue : T → Bool → MValue → Type 0) (m
 -- the overlap is that of two of the ranges that were found
 abbrev pub IsPairIn : {T : Type 0} → (IsValue : T → Bool → MValue → Type 0) → MDeMatch T → List RangeView → MOverlap → Type 0
 IsPairIn IsValue m fs o = (f : RangeView) × Contains fs f × IsPairOf IsValue m fs f o
+
+-- the overlap is that of the ranges of the two ends
+pub record IsPairAcross {T : Type 0} (IsValue : T → Bool → MValue → Type 0) (m : MDeMatch T) (fs : List RangeView) (e d : RangeEnd) (o : MOverlap) : Type 0 where
+  pub first : RangeView
+  pub second : RangeView
+  pub first_there : slice_get fs e.index ≡ Some first
+  pub second_there : slice_get fs d.index ≡ Some second
+  pub pair : IsPair IsValue m first second (num_value e.number) o
+
+-- the overlap is that of the end, which is on the side, with one of the ends of the other side that face it
+abbrev pub IsPairFacing : {T : Type 0} → (IsValue : T → Bool → MValue → Type 0) → MDeMatch T → (fs : List RangeView) → Side → (others : List RangeEnd) → RangeEnd → MOverlap → Type 0
+IsPairFacing IsValue m fs side others e o = (d : RangeEnd) × Contains others d × Faces side e d × IsPairAcross IsValue m fs e d o
+
+-- the overlap is that of one of the ends, which are on the side, with one of the ends of the other side that face it
+abbrev pub IsPairFrom : {T : Type 0} → (IsValue : T → Bool → MValue → Type 0) → MDeMatch T → (fs : List RangeView) → Side → (ends others : List RangeEnd) → MOverlap → Type 0
+IsPairFrom IsValue m fs side ends others o = (e : RangeEnd) × Contains ends e × IsPairFacing IsValue m fs side others e o

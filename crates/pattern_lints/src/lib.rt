@@ -10,10 +10,12 @@
 #![tactic(auto)]
 
 mod along;
+mod beside;
+mod columns;
+mod ends;
 mod found;
 mod lengths;
 mod list;
-mod lows;
 mod meeting;
 mod pairs;
 mod places;

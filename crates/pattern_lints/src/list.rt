@@ -7,7 +7,7 @@ ghost use Rattle.pattern_arena.specs.Trees.{plain_match};
 ghost use Rattle.range_split.specs.Order.{key_by};
 ghost use Rattle.pattern_lints.specs.Views.{plain_overlaps, IsInOrder};
 
-use crate::lows::number_key;
+use crate::ends::number_key;
 use crate::pairs::all_pairs;
 use crate::spots::find_ranges;
 use no_memory::NoMemory;

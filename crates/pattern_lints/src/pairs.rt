@@ -1,21 +1,22 @@
 // Pairs of ranges that were found and overlap.
 ghost use Rattle.std.specs.Prelude.{◌≡◌, ◌<◌, [], map, length, slice_get, Some, IfOk, OnOk};
-ghost use Rattle.match_model.specs.Numbers.{At};
+ghost use Rattle.match_model.specs.Overlaps.{MeetAt};
 ghost use Rattle.match_model.specs.WellTyped.{IsWellTyped};
 ghost use Rattle.pattern_arena.specs.Trees.{plain_match};
+ghost use Rattle.pattern_lints.specs.Ends.{AreEnds, IsEnd, Rise, across};
 ghost use Rattle.pattern_lints.specs.Finding.{AreFoundIn, range_view};
-ghost use Rattle.pattern_lints.specs.Lows.{AreLows, Rise};
-ghost use Rattle.pattern_lints.specs.Pairing.{Adds, IsInArm, IsPair, IsPairOf, IsPairIn, TouchesAt, pair_at};
+ghost use Rattle.pattern_lints.specs.Pairing.{Adds, IsInArm, IsPair, IsPairFacing, IsPairFrom, IsPairIn, pair_at};
 ghost use Rattle.pattern_lints.specs.Views.{plain_overlap, plain_overlaps};
 ghost use Rattle.range_split.specs.Numbers.{num_value};
 
 use crate::along::along;
+use crate::columns::choose_columns;
+use crate::ends::{RangeEnd, Side, run_across, sorted_ends};
 use crate::found::FoundRange;
-use crate::lows::{LowEnd, run_at, sorted_lows};
 use no_memory::NoMemory;
 use pat_context::PatCx;
 use pattern_arena::CheckedMatch;
-use range_split::{End, Num};
+use range_split::Num;
 use std::alloc::Global;
 use witnesses::Overlap;
 
@@ -35,31 +36,31 @@ fn overlap_at(one: u64, other: u64, value: Num) -> Overlap
     }
 }
 
-// Adds the overlap of two ranges at one place, of which the first ends where the second begins, if they do overlap.
+// Adds the overlap of two ranges at one place, of which one ends where the other begins, if they do overlap.
 fn add_pair<'a, C: PatCx>(
     cx: &C,
     m: &CheckedMatch<'a, C::Ty>,
     overlaps: &mut Vec<Overlap>,
-    high: &FoundRange,
-    low: &FoundRange,
+    one: &FoundRange,
+    other: &FoundRange,
     value: Num,
 ) -> Result<(), NoMemory>
     requires typed { IsWellTyped (C.is_type cx.now) (C.context cx.now) (plain_match m.now) }
-    requires high { IsInArm (plain_match m.now).arms (range_view high.now) }
-    requires low { IsInArm (plain_match m.now).arms (range_view low.now) }
-    requires high_arm { high.now.arm < length m.now.arms.now }
-    requires low_arm { low.now.arm < length m.now.arms.now }
-    requires touch { TouchesAt (range_view high.now) (range_view low.now) (num_value value) }
-    ensures { OnOk result (Adds (IsPair (C.is_value cx.now) (plain_match m.now) (range_view high.now)
-        (range_view low.now) (num_value value)) (plain_overlaps overlaps.old.items) (plain_overlaps overlaps.new.items)) }
+    requires one { IsInArm (plain_match m.now).arms (range_view one.now) }
+    requires other { IsInArm (plain_match m.now).arms (range_view other.now) }
+    requires one_arm { one.now.arm < length m.now.arms.now }
+    requires other_arm { other.now.arm < length m.now.arms.now }
+    requires touch { MeetAt (range_view one.now).range (range_view other.now).range (num_value value) }
+    ensures { OnOk result (Adds (IsPair (C.is_value cx.now) (plain_match m.now) (range_view one.now)
+        (range_view other.now) (num_value value)) (plain_overlaps overlaps.old.items) (plain_overlaps overlaps.new.items)) }
 {
-    if high.at == low.at {
+    if one.at == other.at {
         return Ok(());
     }
-    let first = &m.arms[high.arm].pat;
-    let second = &m.arms[low.arm].pat;
-    if along(cx, m.ty, m.validity, first, &high.path, second, &low.path) {
-        overlaps.push(overlap_at(high.at, low.at, value))?;
+    let first = &m.arms[one.arm].pat;
+    let second = &m.arms[other.arm].pat;
+    if along(cx, m.ty, m.validity, first, &one.path, second, &other.path) {
+        overlaps.push(overlap_at(one.at, other.at, value))?;
     }
     Ok(())
 }
@@ -72,57 +73,58 @@ fn range_at(found: &[FoundRange], index: usize) -> &FoundRange
     &found[index]
 }
 
-// Adds the overlaps of a range that ends at a number with those that begin there.
-fn add_run<'a, C: PatCx>(
+// Adds the overlaps of the range of an end on the side with those whose ends face it.
+fn add_facing<'a, C: PatCx>(
     cx: &C,
     m: &CheckedMatch<'a, C::Ty>,
     overlaps: &mut Vec<Overlap>,
     found: &[FoundRange],
-    lows: &[LowEnd],
-    high: &FoundRange,
-    value: Num,
+    side: Side,
+    others: &[RangeEnd],
+    end: &RangeEnd,
 ) -> Result<(), NoMemory>
     requires typed { IsWellTyped (C.is_type cx.now) (C.context cx.now) (plain_match m.now) }
     requires found { AreFoundIn (plain_match m.now).arms (map range_view found.now) }
-    requires lows { AreLows (map range_view found.now) lows.now }
-    requires rise { Rise lows.now }
-    requires high { IsInArm (plain_match m.now).arms (range_view high.now) }
-    requires end { (range_view high.now).range.high ≡ At (num_value value) }
-    ensures { OnOk result (Adds (IsPairOf (C.is_value cx.now) (plain_match m.now) (map range_view found.now)
-        (range_view high.now)) (plain_overlaps overlaps.old.items) (plain_overlaps overlaps.new.items)) }
+    requires others { AreEnds (across side) (map range_view found.now) others.now }
+    requires rise { Rise others.now }
+    requires end { IsEnd side (map range_view found.now) end.now }
+    ensures { OnOk result (Adds (IsPairFacing (C.is_value cx.now) (plain_match m.now) (map range_view found.now) side
+        others.now end.now) (plain_overlaps overlaps.old.items) (plain_overlaps overlaps.new.items)) }
 {
-    let (first, end) = run_at(lows, high.place, &value);
-    for i in first..end {
-        let low = range_at(found, lows[i].index);
-        add_pair(cx, m, overlaps, high, low, value)?;
+    let one = range_at(found, end.index);
+    let (first, last) = run_across(others, end, side);
+    for i in first..last {
+        let other = range_at(found, others[i].index);
+        add_pair(cx, m, overlaps, one, other, end.number)?;
     }
     Ok(())
 }
 
-// Adds the overlaps of a range with those that begin where it ends.
-fn add_touching<'a, C: PatCx>(
+// Adds the overlaps of the ranges of ends on the side with those whose ends face them.
+fn add_from<'a, C: PatCx>(
     cx: &C,
     m: &CheckedMatch<'a, C::Ty>,
     overlaps: &mut Vec<Overlap>,
     found: &[FoundRange],
-    lows: &[LowEnd],
-    high: &FoundRange,
+    side: Side,
+    ends: &[RangeEnd],
+    others: &[RangeEnd],
 ) -> Result<(), NoMemory>
     requires typed { IsWellTyped (C.is_type cx.now) (C.context cx.now) (plain_match m.now) }
     requires found { AreFoundIn (plain_match m.now).arms (map range_view found.now) }
-    requires lows { AreLows (map range_view found.now) lows.now }
-    requires rise { Rise lows.now }
-    requires high { IsInArm (plain_match m.now).arms (range_view high.now) }
-    ensures { OnOk result (Adds (IsPairOf (C.is_value cx.now) (plain_match m.now) (map range_view found.now)
-        (range_view high.now)) (plain_overlaps overlaps.old.items) (plain_overlaps overlaps.new.items)) }
+    requires ends { AreEnds side (map range_view found.now) ends.now }
+    requires others { AreEnds (across side) (map range_view found.now) others.now }
+    requires rise { Rise others.now }
+    ensures { OnOk result (Adds (IsPairFrom (C.is_value cx.now) (plain_match m.now) (map range_view found.now) side
+        ends.now others.now) (plain_overlaps overlaps.old.items) (plain_overlaps overlaps.new.items)) }
 {
-    match high.range.high {
-        End::Free => Ok(()),
-        End::At(value) => add_run(cx, m, overlaps, found, lows, high, value),
+    for end in ends {
+        add_facing(cx, m, overlaps, found, side, others, end)?;
     }
+    Ok(())
 }
 
-// The overlaps of the ranges, in no order, some of them more than once.
+// The overlaps of the ranges, in no order.
 pub(crate) fn all_pairs<'a, C: PatCx>(
     alloc: Global,
     cx: &C,
@@ -134,10 +136,11 @@ pub(crate) fn all_pairs<'a, C: PatCx>(
     ensures { IfOk result (λ v. Adds (IsPairIn (C.is_value cx.now) (plain_match m.now) (map range_view found.now)) []
         (plain_overlaps v.items)) }
 {
-    let lows = sorted_lows(alloc, found)?;
+    let columns = choose_columns(alloc, m.arms, found)?;
+    let highs = sorted_ends(alloc, m.arms, found, &columns, Side::High)?;
+    let lows = sorted_ends(alloc, m.arms, found, &columns, Side::Low)?;
     let mut overlaps = Vec::new(alloc);
-    for high in found {
-        add_touching(cx, m, &mut overlaps, found, &lows, high)?;
-    }
+    add_from(cx, m, &mut overlaps, found, Side::High, &highs, &lows)?;
+    add_from(cx, m, &mut overlaps, found, Side::Low, &lows, &highs)?;
     Ok(overlaps)
 }

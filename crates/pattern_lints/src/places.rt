@@ -15,8 +15,8 @@ use pat_context::Ctor;
 use pattern_arena::DePat;
 use slice_split::Shape;
 
-// The pattern below with the number, where there is one.
-fn nth<'a, T: Copy>(p: &'a DePat<'a, T>, i: usize) -> Option<&'a DePat<'a, T>>
+/// The pattern below with the number, where there is one.
+pub(crate) fn nth<'a, T: Copy>(p: &'a DePat<'a, T>, i: usize) -> Option<&'a DePat<'a, T>>
     ensures { plain_head result ≡ slice_get (subs_of (tree p.entry.now)) i }
 {
     if i < p.subs.len() {

@@ -1,6 +1,6 @@
 use Rattle.std.proofs.Common.{sym, ap, ◌∙◌, Some}
 use Rattle.pattern_lints.specs.Finding.{range_view}
-use Rattle.pattern_lints.proofs.LowList.{mapped-at}
+use Rattle.pattern_lints.proofs.EndList.{mapped-at}
 use Rattle.pattern_lints.proofs.pairs.range_at.Goals as goal
 
 pub returns : goal.returns

@@ -1,7 +1,7 @@
 use Rattle.std.proofs.Common.{rules, refl, ◌∙◌, get_or, map}
 use Rattle.pattern_arena.specs.Trees.{plain_arm}
 use Rattle.pattern_lints.specs.Finding.{range_views}
-use Rattle.pattern_lints.proofs.LowList.{mapped-at}
+use Rattle.pattern_lints.proofs.EndList.{mapped-at}
 use Rattle.pattern_lints.proofs.Arms.{found-more, found-all}
 use Rattle.pattern_lints.proofs.spots.find_ranges.Goals as goal
 

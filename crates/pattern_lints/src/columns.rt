@@ -1,0 +1,268 @@
+// Which column tells the rows of the ranges of a place apart.
+//
+// Whichever column is taken, the same overlaps are found: it says only how many pairs of ranges are asked. Some ranges
+// of a place, spread over all of them, are compared, and the column is taken in which most neighbours have no common
+// number.
+use crate::beside::{Column, is_steady, numbers_beside};
+use crate::found::FoundRange;
+use crate::places::{is_or, nth};
+use no_memory::NoMemory;
+use pat_context::Ctor;
+use pattern_arena::{CheckedArm, DePat};
+use range_split::Range;
+use slice_split::Shape;
+use std::alloc::Global;
+
+// With fewer ranges at a place, each two that touch are asked.
+const CROWD: usize = 16;
+
+// So many ranges of a place are compared, or up to twice as many.
+const COMPARED: usize = 12;
+
+// So many columns of a place are tried.
+const TRIED: usize = 64;
+
+// The ranges of a place.
+#[derive(Drop)]
+struct Crowd {
+    count: usize,
+    // How many of them were looked at.
+    seen: usize,
+    // The indices of those that are compared.
+    compared: Vec<usize>,
+}
+
+// The columns that are tried, and the steps to the pattern that is looked at.
+#[derive(Drop)]
+struct Trying {
+    alloc: Global,
+    columns: Vec<Column>,
+    steps: Vec<usize>,
+}
+
+// The greatest number of a place.
+fn greatest_place(found: &[FoundRange]) -> usize {
+    let mut greatest = 0;
+    for range in found {
+        greatest = greatest.max(range.place);
+    }
+    greatest
+}
+
+// So many places without a range.
+fn empty_crowds(alloc: Global, count: usize) -> Result<Vec<Crowd>, NoMemory> {
+    let mut crowds = Vec::new(alloc);
+    for _ in 0..count {
+        crowds.push(Crowd {
+            count: 0,
+            seen: 0,
+            compared: Vec::new(alloc),
+        })?;
+    }
+    Ok(crowds)
+}
+
+// Counts the ranges of each place.
+fn count_ranges(crowds: &mut [Crowd], found: &[FoundRange]) {
+    for range in found {
+        if let Some(crowd) = crowds.get_mut(range.place) {
+            crowd.count = crowd.count.saturating_add(1);
+        }
+    }
+}
+
+// Takes the range with the index to be compared, if it is its turn.
+fn look_at(crowd: &mut Crowd, index: usize) -> Result<(), NoMemory> {
+    let step = crowd.count / COMPARED;
+    if crowd.count >= CROWD && step > 0 && crowd.seen % step == 0 {
+        crowd.compared.push(index)?;
+    }
+    crowd.seen = crowd.seen.saturating_add(1);
+    Ok(())
+}
+
+// Takes the ranges that are compared.
+fn take_compared(crowds: &mut [Crowd], found: &[FoundRange]) -> Result<(), NoMemory> {
+    for index in 0..found.len() {
+        if let Some(crowd) = crowds.get_mut(found[index].place) {
+            look_at(crowd, index)?;
+        }
+    }
+    Ok(())
+}
+
+// Tells whether the constructor's values have a number of their own.
+fn has_own_number(ctor: &Ctor) -> bool {
+    match ctor {
+        Ctor::Variant(_) | Ctor::Flag(_) | Ctor::Numbers(_) | Ctor::Row(Shape::Fixed(_)) => true,
+        _ => false,
+    }
+}
+
+// Adds the columns of the pattern and of those below it.
+fn add_columns<'a, T: Copy>(
+    trying: &mut Trying,
+    p: &'a DePat<'a, T>,
+    depth: usize,
+) -> Result<(), NoMemory> {
+    if trying.columns.len() >= TRIED {
+        return Ok(());
+    }
+    if has_own_number(&p.ctor) {
+        let steps = Vec::from_slice(trying.alloc, &trying.steps)?;
+        trying.columns.push(Column { depth, steps })?;
+    }
+    if !is_steady(&p.ctor) {
+        return Ok(());
+    }
+    for j in 0..p.subs.len() {
+        trying.steps.push(j)?;
+        add_columns(trying, &p.subs[j], depth)?;
+        trying.steps.pop();
+    }
+    Ok(())
+}
+
+// Adds the columns below the pattern, but not those of the part with the number `i`.
+fn add_others<'a, T: Copy>(
+    trying: &mut Trying,
+    p: &'a DePat<'a, T>,
+    i: usize,
+    depth: usize,
+) -> Result<(), NoMemory> {
+    if !is_steady(&p.ctor) {
+        return Ok(());
+    }
+    for j in 0..p.subs.len() {
+        if j != i {
+            trying.steps.push(j)?;
+            add_columns(trying, &p.subs[j], depth)?;
+            trying.steps.pop();
+        }
+    }
+    Ok(())
+}
+
+// Adds the columns beside the path, the pattern being at the depth.
+fn add_beside<'a, T: Copy>(
+    trying: &mut Trying,
+    p: &'a DePat<'a, T>,
+    path: &[usize],
+    depth: usize,
+) -> Result<(), NoMemory> {
+    let Some((i, rest)) = path.split_first() else {
+        return Ok(());
+    };
+    let Some(sub) = nth(p, *i) else {
+        return Ok(());
+    };
+    if is_or(&p.ctor) {
+        return add_beside(trying, sub, rest, depth);
+    }
+    add_others(trying, p, *i, depth)?;
+    add_beside(trying, sub, rest, depth.saturating_add(1))
+}
+
+// The numbers of the range with the index in the column.
+fn numbers_in<'a, T: Copy>(
+    arms: &'a [CheckedArm<'a, T>],
+    found: &[FoundRange],
+    column: &Column,
+    index: usize,
+) -> Option<Range> {
+    let range = found.get(index)?;
+    let arm = arms.get(range.arm)?;
+    Some(numbers_beside(&arm.pat, &range.path, column.depth, &column.steps))
+}
+
+// Tells whether there are numbers of both, and none is one of both.
+fn are_apart(first: &Option<Range>, second: &Option<Range>) -> bool {
+    match (first, second) {
+        (Some(first), Some(second)) => !first.meets(second),
+        _ => false,
+    }
+}
+
+// How many neighbours among the compared ranges have no common number in the column.
+fn count_apart<'a, T: Copy>(
+    arms: &'a [CheckedArm<'a, T>],
+    found: &[FoundRange],
+    column: &Column,
+    compared: &[usize],
+) -> usize {
+    let mut count: usize = 0;
+    let mut before = None;
+    for index in compared {
+        let here = numbers_in(arms, found, column, *index);
+        if are_apart(&before, &here) {
+            count = count.saturating_add(1);
+        }
+        before = here;
+    }
+    count
+}
+
+// The columns beside the first of the ranges that has some.
+fn columns_of<'a, T: Copy>(
+    alloc: Global,
+    arms: &'a [CheckedArm<'a, T>],
+    found: &[FoundRange],
+    compared: &[usize],
+) -> Result<Vec<Column>, NoMemory> {
+    let mut trying = Trying {
+        alloc,
+        columns: Vec::new(alloc),
+        steps: Vec::new(alloc),
+    };
+    for index in compared {
+        if trying.columns.is_empty()
+            && let Some(range) = found.get(*index)
+            && let Some(arm) = arms.get(range.arm)
+        {
+            add_beside(&mut trying, &arm.pat, &range.path, 0)?;
+        }
+    }
+    Ok(trying.columns)
+}
+
+// The column that tells most of the compared ranges apart; the scrutinee itself, where none does.
+fn choose_column<'a, T: Copy>(
+    alloc: Global,
+    arms: &'a [CheckedArm<'a, T>],
+    found: &[FoundRange],
+    compared: &[usize],
+) -> Result<Column, NoMemory> {
+    let mut best = Column {
+        depth: 0,
+        steps: Vec::new(alloc),
+    };
+    let mut most = 0;
+    for column in columns_of(alloc, arms, found, compared)? {
+        let count = count_apart(arms, found, &column, compared);
+        if count > most {
+            most = count;
+            best = column;
+        }
+    }
+    Ok(best)
+}
+
+/// A column for each place of a range, by its number; where there are few ranges, none is chosen. The only error is want
+/// of memory.
+pub(crate) fn choose_columns<'a, T: Copy>(
+    alloc: Global,
+    arms: &'a [CheckedArm<'a, T>],
+    found: &[FoundRange],
+) -> Result<Vec<Column>, NoMemory> {
+    let mut columns = Vec::new(alloc);
+    if found.len() < CROWD {
+        return Ok(columns);
+    }
+    let mut crowds = empty_crowds(alloc, greatest_place(found).saturating_add(1))?;
+    count_ranges(&mut crowds, found);
+    take_compared(&mut crowds, found)?;
+    for crowd in &crowds {
+        columns.push(choose_column(alloc, arms, found, &crowd.compared)?)?;
+    }
+    Ok(columns)
+}
