@@ -29,7 +29,7 @@ use Rattle.decision_tree.specs.declared.frames.Frame.{Frame}
 use Rattle.decision_tree.specs.declared.frames.Frame.TheVariants.{Switch}
 use Rattle.decision_tree.specs.declared.frames.Looked.{Looked}
 use Rattle.decision_tree.specs.Matrices.{matrix_columns, matrix_rows}
-use Rattle.decision_tree.specs.Waiting.{Leads, IsLooked, Awaits, IsLeftOf, IsOpened}
+use Rattle.decision_tree.specs.Waiting.{IsCutOf, Leads, IsLooked, Awaits, IsLeftOf, IsOpened}
 use Rattle.decision_tree.proofs.Going.{State, all-every}
 
 module _ {T : Type 0} (IsType : T → Type 0) (cx : Context T) (V : T → Bool → MValue → Type 0)
@@ -83,7 +83,7 @@ module _ {T : Type 0} (IsType : T → Type 0) (cx : Context T) (V : T → Bool �
   module _ (frames : List (Frame T)) (now : List MTree) (l : Looked T)
       (o : IsOpened IsType cx V decides m frames now l.column false l.matrix) (gaps : List MCtor) (missing : Bool)
       (found : AreFound V cx (open_of o.column) (ctors_at l.column (matrix_rows l.matrix)) (plain_ctors l.pieces.items)
-      missing gaps) (built : IsBuilt now) (none : map plain_branch l.cases.items ≡ []) where
+      missing gaps) (built : IsBuilt now) (none : map plain_branch l.cases.items ≡ []) (cut : IsCutOf l) where
     begun : IsLooked IsType cx V decides m l.matrix l.column (plain_ctors l.pieces.items) (map plain_branch l.cases.items)
         o.rows now now found.pieces [] no_branch
     begun = record {
@@ -112,17 +112,20 @@ module _ {T : Type 0} (IsType : T → Type 0) (cx : Context T) (V : T → Bool �
     pub left-begun : missing ≡ false → IsLeftOf IsType cx V decides m frames now l
     unfolding begun
     left-begun e = (
-      o.rows,
-      now,
-      found.pieces,
-      [],
-      no_branch,
-      begun,
-      sym (append-nil found.pieces),
-      no_else l.column o.column (matrix_columns l.matrix) (matrix_rows l.matrix) (map (λ p. p.0) found.pieces)
-          (λ q h. none-missing l.column o.column (matrix_columns l.matrix) (matrix_rows l.matrix) (map (λ p. p.0) found.pieces)
-          found.pieces (sym found.some_missing ∙ e) states q (contains-among (map (λ p. p.0) found.pieces) q h.0) h.1),
-      o.awaits,
+      (
+        o.rows,
+        now,
+        found.pieces,
+        [],
+        no_branch,
+        begun,
+        sym (append-nil found.pieces),
+        no_else l.column o.column (matrix_columns l.matrix) (matrix_rows l.matrix) (map (λ p. p.0) found.pieces)
+            (λ q h. none-missing l.column o.column (matrix_columns l.matrix) (matrix_rows l.matrix) (map (λ p. p.0) found.pieces)
+            found.pieces (sym found.some_missing ∙ e) states q (contains-among (map (λ p. p.0) found.pieces) q h.0) h.1),
+        o.awaits,
+      ),
+      cut,
     )
 
     -- a piece is missing: the last case is that of the others
@@ -155,4 +158,5 @@ module _ {T : Type 0} (IsType : T → Type 0) (cx : Context T) (V : T → Bool �
             none = λ j. no_branch;
           }),
           o.awaits,
+          cut,
         )

@@ -34,7 +34,7 @@ use Rattle.decision_tree.specs.declared.frames.Looked.{Looked}
 use Rattle.decision_tree.specs.declared.frames.Matrix.{Matrix}
 use Rattle.decision_tree.specs.declared.frames.Turn.TheVariants.{Finished, Done}
 use Rattle.decision_tree.specs.Matrices.{matrix_columns, matrix_rows}
-use Rattle.decision_tree.specs.Waiting.{IsBare, Makes, Leads, IsLooked, IsElseNext, IsPieceNext, Awaits, IsLeft, IsTurn}
+use Rattle.decision_tree.specs.Waiting.{IsCutOf, IsBare, Makes, Leads, IsLooked, IsElseNext, IsPieceNext, Awaits, IsLeft, IsTurn}
 
 pub all-every : {A : Type 0} (P : A → Type 0) (xs : List A) → All P xs → Every P xs
 all-every P [] h = tt
@@ -105,8 +105,8 @@ module _ {T : Type 0} (IsType : T → Type 0) (cx : Context T) (V : T → Bool �
   leads-more [] now columns cs rows rs l a = (λ t k. a.0 t (l t k), a.1)
   leads-more (Guard arm binds ∷ frames) now columns cs rows rs l (ds, r, qs, b, w, g, e, f, a) =
       (ds, r, qs, λ t k. b t (l t k), w, g, e, f, a)
-  leads-more (Switch x case ∷ frames) now columns cs rows rs l (ds, qs, b, whole, base, front, behind, branches, k, n, a) =
-      (ds, qs, λ t k. b t (l t k), whole, base, front, behind, branches, k, n, a)
+  leads-more (Switch x case ∷ frames) now columns cs rows rs l (ds, qs, b, whole, base, front, behind, branches, k, n, a, cut) =
+      (ds, qs, λ t k. b t (l t k), whole, base, front, behind, branches, k, n, a, cut)
   leads-more (Note x ∷ frames) now columns cs rows rs l (ds, qs, b, e, s, a) =
       (ds, qs, λ t k. b t (l t k), e, s, a)
 
@@ -325,8 +325,8 @@ module _ {T : Type 0} (IsType : T → Type 0) (cx : Context T) (V : T → Bool �
       ((c : MColumn T) → slice_get (matrix_columns l.matrix) l.column ≡ Some c →
       (columns ≡ replaced_at l.column (matrix_columns l.matrix) (part_columns cx c p))
       × AreInOrder decides (rows_at (specialise_head p (cx.arity p c.type)) c.place l.column (matrix_rows l.matrix)) rows) →
-      Waits (Switch l case ∷ frames) now columns rows
-  piece-begun frames now l case ks p columns rows (whole, base, front, behind, branches, k, cut, done, a) todo is entered =
+      IsCutOf l → Waits (Switch l case ∷ frames) now columns rows
+  piece-begun frames now l case ks p columns rows (whole, base, front, behind, branches, k, cut, done, a) todo is entered rest =
       let e : Matrix T = l.matrix in
       let i : ℕ = l.column in
       let last : IsLast front ks p = last-present front ks p (sym k.still) in
@@ -376,4 +376,5 @@ module _ {T : Type 0} (IsType : T → Type 0) (cx : Context T) (V : T → Bool �
               behind states.1) done);
         }),
         a,
+        rest,
       )

@@ -27,5 +27,7 @@ mod Looking
 mod Turning
 mod Empty
 mod StillInOrder
+mod Apart
 mod Knowing
 mod Asking
+mod Cuts

@@ -50,7 +50,7 @@ module _ {T : Type 0} where
     parted-first r s (inl l) = inl l
     parted-first r s (inr p) = inr (p.0, p.1.before)
 
-    all-first : (rows : List (MRow T)) → Ordered (RowParted decides) rows → Ordered (RowFirst decides) rows
+    pub all-first : (rows : List (MRow T)) → Ordered (RowParted decides) rows → Ordered (RowFirst decides) rows
     all-first [] o = tt
     all-first (r ∷ rows) o =
         (every-to (RowParted decides r) (RowFirst decides r) rows (parted-first r) o.0, all-first rows o.1)

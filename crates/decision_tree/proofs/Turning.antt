@@ -42,7 +42,7 @@ use Rattle.decision_tree.specs.declared.frames.Matrix.{Matrix}
 use Rattle.decision_tree.specs.declared.frames.Turn.TheVariants.{Finished}
 use Rattle.decision_tree.specs.Known.{IsInScope}
 use Rattle.decision_tree.specs.Matrices.{matrix_columns, matrix_rows, IsGoodMatrix, IsReadyMatrix, IsPieceAt, IsEntered, IsDropped, IsExpanded}
-use Rattle.decision_tree.specs.Waiting.{Leads, Awaits, IsLeft, IsOpened, IsTurn}
+use Rattle.decision_tree.specs.Waiting.{IsCutOf, Leads, Awaits, IsLeft, IsOpened, IsTurn}
 use Rattle.decision_tree.proofs.Beginning.{dropped-leads, opened-leads}
 use Rattle.decision_tree.proofs.Going.{leads-more, asked, IsLast, last-present, else-done, piece-done}
 use Rattle.decision_tree.proofs.Looking.{within, entered-at, dropped-at, expanded-at, expanded-there}
@@ -123,7 +123,7 @@ module _ {T : Type 0} (IsType : T → Type 0) (cx : Context T) (V : T → Bool �
       IsTurn IsType cx V decides m (Switch l case ∷ frames) now (Finished index) →
       IsLeft IsType cx V decides m frames now l.matrix l.column (plain_ctors l.pieces.items)
       (map plain_branch l.cases.items ++ plain_branch (case, index) ∷ [])
-  switch-resumed frames now l case index (columns, rows, t, before, built, makes, (cs, qs, b, whole, base, front, behind, branches, k, n, a), f) =
+  switch-resumed frames now l case index (columns, rows, t, before, built, makes, (cs, qs, b, whole, base, front, behind, branches, k, n, a, cut), f) =
       elim n [
         | inl h ↦ else-done IsType cx V decides m frames l.matrix l.column (plain_ctors l.pieces.items)
             (map plain_branch l.cases.items) (plain_case case) index before now cs qs whole t base front behind branches k
@@ -132,6 +132,12 @@ module _ {T : Type 0} (IsType : T → Type 0) (cx : Context T) (V : T → Bool �
             (map plain_branch l.cases.items) (plain_case case) index before now cs qs whole t base front behind branches k
             (b t makes) f a h
       ]
+
+  -- what is to do of the other pieces is as it was
+  pub switch-cut : (frames : List (Frame T)) (now : List MTree) (l : Looked T) (case : Case) (index : ℕ) →
+      IsTurn IsType cx V decides m (Switch l case ∷ frames) now (Finished index) → IsCutOf l
+  switch-cut frames now l case index (columns, rows, t, before, built, makes, (cs, qs, b, whole, base, front, behind, branches, k, n, a, cut), f) =
+      cut
 
   -- the last piece to come was taken off
   pub left-last : (frames : List (Frame T)) (now : List MTree) (e : Matrix T) (i : ℕ) (old new : List Ctor) (p : Ctor)

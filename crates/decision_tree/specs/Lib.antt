@@ -7,3 +7,4 @@ pub mod Known
 pub mod KnownTrees
 pub mod KnownViews
 pub mod Asking
+pub mod Cuts

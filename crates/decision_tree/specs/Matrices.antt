@@ -50,6 +50,13 @@ pub record IsPieceAt {T : Type 0} (cx : Context T) (i : ℕ) (m : Matrix T) (pie
   pub are : ArePieces (cx.set_of column.type) (ctors_at i (matrix_rows m)) pieces
   pub among : Among piece pieces
 
+-- these are the rows of the piece at column `i`
+pub record ArePieceRows {T : Type 0} (cx : Context T) (i : ℕ) (m : Matrix T) (piece : MCtor) (rows : List (MRow T)) :
+    Type 0 where
+  pub column : MColumn T
+  pub there : slice_get (matrix_columns m) i ≡ Some column
+  pub are : rows ≡ rows_at (specialise_head piece (cx.arity piece column.type)) column.place i (matrix_rows m)
+
 -- the rows and columns of the piece
 pub record IsEntered {T : Type 0} (cx : Context T) (decides : ℕ → Decision) (i : ℕ) (m : Matrix T) (piece : MCtor)
     (e : Matrix T) : Type 0 where

@@ -30,6 +30,7 @@ use Rattle.decision_tree.specs.declared.frames.Frame.TheVariants.{Guard, Switch,
 use Rattle.decision_tree.specs.declared.frames.Matrix.{Matrix}
 use Rattle.decision_tree.specs.declared.frames.Turn.{Turn}
 use Rattle.decision_tree.specs.declared.frames.Turn.TheVariants.{Lower, Finished, Done}
+use Rattle.decision_tree.specs.Cuts.{AreCut}
 use Rattle.decision_tree.specs.Known.{IsInScope, known_matrix}
 use Rattle.decision_tree.specs.KnownViews.{plain_known_matrix}
 use Rattle.decision_tree.specs.Matrices.{matrix_columns, matrix_rows, IsGoodMatrix, IsReadyMatrix}
@@ -45,6 +46,10 @@ IsBare V m = (u : MValue) → InMatchDomain V m u → u ≡ Unseen
 -- the match of which a tree is made
 abbrev pub Root : Type 0 → Type 0
 Root T = MDeMatch T
+
+-- which rows have which of its pieces, and what is to do of them
+abbrev pub IsCutOf : {T : Type 0} → Looked T → Type 0
+IsCutOf l = AreCut l.column (matrix_rows l.matrix) (plain_ctors l.pieces.items) l.spans.items l.todo.items
 
 module _ {T : Type 0} (IsType : T → Type 0) (cx : Context T) (V : T → Bool → MValue → Type 0)
     (decides : ℕ → Decision) (m : MDeMatch T) where
@@ -122,7 +127,7 @@ module _ {T : Type 0} (IsType : T → Type 0) (cx : Context T) (V : T → Bool �
       behind branches)
       × (IsElseNext l.matrix l.column k.column k.pieces (plain_case case) cs rs front behind branches
       ⊎ IsPieceNext l.matrix l.column k.column k.pieces (plain_case case) cs rs front behind branches)
-      × Awaits frames base (matrix_columns l.matrix) whole
+      × Awaits frames base (matrix_columns l.matrix) whole × IsCutOf l
   Awaits (Note matrix ∷ frames) now columns rows =
       (cs : List (MColumn T)) × (rs : List (MRow T)) × Leads columns rows cs rs
       × (plain_known_matrix matrix ≡ known_matrix cs rs) × IsInScope cx m cs rs × Awaits frames now cs rs
@@ -139,7 +144,7 @@ module _ {T : Type 0} (IsType : T → Type 0) (cx : Context T) (V : T → Bool �
   -- the same, of a switch as it waits
   abbrev pub IsLeftOf : List (Frame T) → (now : List MTree) → Looked T → Type 0
   IsLeftOf frames now l =
-      IsLeft frames now l.matrix l.column (plain_ctors l.pieces.items) (map plain_branch l.cases.items)
+      IsLeft frames now l.matrix l.column (plain_ctors l.pieces.items) (map plain_branch l.cases.items) × IsCutOf l
 
   -- column `i` is looked at, and some row has a constructor there
   pub record IsOpened (frames : List (Frame T)) (now : List MTree) (i : ℕ) (switchless : Bool) (e : Matrix T) : Type 0 where

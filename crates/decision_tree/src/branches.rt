@@ -9,7 +9,7 @@ ghost use Rattle.decision_tree.specs.Matrices.{IsTypedMatrix, fewer};
 
 use crate::leaves::is_wild;
 use constructor_sets::present;
-use keyed_matrix::{KeyedColumn, KeyedRow, are_wild, ctors_at, expanded_rows};
+use keyed_matrix::{KeyedColumn, KeyedRow, ctors_apart};
 use no_memory::NoMemory;
 use pat_context::PatCx;
 use std::alloc::Global;
@@ -29,11 +29,10 @@ fn branches<'a, C: PatCx>(
         → AreBranches (C.context cx.now) (C.is_value cx.now) i (plain_column c) (plain_rows rows.now) n) }
 {
     let column = &columns[i];
-    let expanded = expanded_rows(alloc, rows, i, column.place)?;
-    if are_wild(&expanded, i) {
+    let ctors = ctors_apart(alloc, rows, i)?;
+    if ctors.is_empty() {
         return Ok(0);
     }
-    let ctors = ctors_at(alloc, &expanded, i)?;
     let found = present(alloc, cx, column.ty, column.validity, &ctors)?;
     let count = found.ctors.len();
     if found.missing {

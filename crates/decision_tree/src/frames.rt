@@ -1,7 +1,9 @@
 // Matrices, and what waits for the trees of others.
 use crate::known::KnownMatrix;
+use constructor_sets::Span;
 use keyed_matrix::{KeyedColumn, KeyedRow};
 use pat_context::Ctor;
+use pattern_matrix::Part;
 use tree_eval::{Bind, Case};
 
 // Rows over open columns.
@@ -19,6 +21,10 @@ pub(crate) struct Looked<'a, T: Copy> {
     pub(crate) column: usize,
     // The pieces that have a value and stand in a row, in order; those that are done are taken off the end.
     pub(crate) pieces: Vec<Ctor<'a>>,
+    // For each row which of the pieces it has, by their numbers from 0, counted from the last piece to the first.
+    pub(crate) spans: Vec<Span>,
+    // The pieces that are not done, by these numbers, and the rows among which are all that have one of them.
+    pub(crate) todo: Vec<Part>,
     // The cases that are done with the indices of their trees, the last case first.
     pub(crate) cases: Vec<(Case, u64)>,
 }

@@ -10,6 +10,7 @@
 mod binds;
 mod branches;
 mod frames;
+mod having;
 mod known;
 mod leaves;
 mod lone;

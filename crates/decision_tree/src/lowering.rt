@@ -24,11 +24,12 @@ ghost use Rattle.decision_tree.specs.declared.frames.Turn.TheVariants.{Finished}
 use crate::binds::{place_by, row_binds};
 use crate::branches::place_of;
 use crate::frames::{Frame, Looked, Matrix, Turn};
+use crate::having::{next_rows, row_spans};
 use crate::known::{KnownTrees, find_known, none_known, note_known};
 use crate::leaves::{count_asked, is_leaf};
 use crate::lone::lone;
 use crate::pieces::{case_of, is_switchless};
-use crate::steps::{dropped, entered, expanded};
+use crate::steps::{dropped, entered, entered_among, expanded};
 use crate::tells::known_matrix;
 use crate::wild::without_wild;
 use bumpalo::Bump;
@@ -39,7 +40,9 @@ use keyed_matrix::{
 use no_memory::NoMemory;
 use pat_context::PatCx;
 use pattern_arena::CheckedMatch;
+use pattern_matrix::all_parts;
 use std::alloc::Global;
+use std::mem::replace;
 use tree_eval::laws::tables_are_built;
 use tree_eval::{Case, NodeTable};
 
@@ -186,7 +189,19 @@ fn next_case<'a, C: PatCx>(
         Some(piece) => {
             let case = case_of(alloc, &piece)?;
             let i = looked.column;
-            let next = entered(alloc, arena, cx, decisions, &looked.matrix, i, &piece)?;
+            let mut todo = replace(&mut looked.todo, Vec::new(alloc));
+            let numbers = next_rows(alloc, &mut todo, &looked.spans)?;
+            looked.todo = todo;
+            let next = entered_among(
+                alloc,
+                arena,
+                cx,
+                decisions,
+                &looked.matrix,
+                i,
+                &piece,
+                &numbers,
+            )?;
             frames.push(Frame::Switch { looked, case })?;
             Ok(Turn::Lower(next))
         }
@@ -222,10 +237,14 @@ fn begin_switch<'a, C: PatCx>(
     tables_are_built(table);
     let ctors = ctors_at(alloc, &e.rows, i)?;
     let found = present(alloc, cx, e.columns[i].ty, e.columns[i].validity, &ctors)?;
+    let spans = row_spans(alloc, &e.rows, i, &found.ctors, &found.spans)?;
+    let todo = all_parts(alloc, &spans, found.ctors.len())?;
     let looked = Looked {
         matrix: e,
         column: i,
         pieces: found.ctors,
+        spans,
+        todo,
         cases: Vec::new(alloc),
     };
     if found.missing {

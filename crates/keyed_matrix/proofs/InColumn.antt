@@ -11,7 +11,7 @@ use Rattle.keyed_matrix.specs.declared.rows.KeyedRow.{KeyedRow}
 use Rattle.keyed_matrix.specs.Views.{plain_head, plain_heads, plain_row}
 
 -- the rest of the heads from the column on
-heads-from : {T : Type 0} (items : List (Option (Bor (DePat T)))) (i : ℕ) (h : Option (Bor (DePat T))) →
+pub heads-from : {T : Type 0} (items : List (Option (Bor (DePat T)))) (i : ℕ) (h : Option (Bor (DePat T))) →
     slice_get items i ≡ Some h → drop i (plain_heads items) ≡ plain_head h ∷ drop (suc i) (plain_heads items)
 heads-from [] i h e = cc
 heads-from (x ∷ items) zero h e = let s : x ≡ h = cc in ap (λ y. plain_head y ∷ plain_heads items) s

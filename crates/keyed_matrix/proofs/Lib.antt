@@ -3,6 +3,7 @@ pub mod Replaced
 pub mod RowSteps
 pub mod Parts
 pub mod InColumn
+pub mod TakenApart
 pub mod Beginning
 pub mod KeysInOrder
 pub mod Putting

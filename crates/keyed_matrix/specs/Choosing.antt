@@ -1,8 +1,9 @@
 -- What is chosen among the alternatives of a pattern.
-use Rattle.std.specs.Prelude.{ℕ, Bool, List, [], ◌∷◌, ◌++◌, map, cond}
-use Rattle.std.specs.List.{flat_map}
+use Rattle.std.specs.Prelude.{ℕ, Bool, List, [], ◌∷◌, ◌++◌, map, cond, Some}
+use Rattle.std.specs.List.{flat_map, filter_map}
 use Rattle.match_model.specs.ArenaPatterns.{MBound, MDePat, uid_of}
-use Rattle.match_model.specs.Rows.{Choice, choices_of}
+use Rattle.match_model.specs.Constructors.{MCtor}
+use Rattle.match_model.specs.Rows.{Choice, choices_of, first_ctor}
 use Rattle.pattern_arena.specs.Trees.{tree, plain_bound}
 use Rattle.keyed_matrix.specs.declared.choices.PatChoice.{PatChoice}
 
@@ -27,3 +28,11 @@ abbrev pub choices_of_each : {T : Type 0} → (chosen : List ℕ) → List MBoun
     List (Choice T)
 choices_of_each chosen binds several ps =
     flat_map (λ q. choices_after (chosen ++ cond several (uid_of q ∷ []) []) binds q) ps
+
+-- the constructors of what was chosen, without wildcards
+abbrev pub ctors_chosen : {T : Type 0} → List (Choice T) → List MCtor
+ctors_chosen cs = filter_map (λ c. first_ctor (Some c.pat ∷ [])) cs
+
+-- those of each of the patterns, once it is taken apart
+abbrev pub ctors_of_each : {T : Type 0} → List (MDePat T) → List MCtor
+ctors_of_each ps = flat_map (λ p. ctors_chosen (choices_of p)) ps

@@ -23,7 +23,7 @@ pub(crate) struct PatChoice<'a, T: Copy> {
 }
 
 // Tells whether the constructor is an or-pattern.
-fn is_or(ctor: &Ctor) -> bool
+pub(crate) fn is_or(ctor: &Ctor) -> bool
     ensures { result ≡ is_or_ctor (plain_ctor ctor.now) }
 {
     match ctor {

@@ -22,6 +22,7 @@ mod order;
 mod replacing;
 mod rows;
 mod steps;
+mod taken_apart;
 
 pub use columns::{dropped_columns, piece_columns};
 pub use decisions::{Decisions, decisions_of};
@@ -31,6 +32,7 @@ pub use looking::{are_wild, ctors_at};
 pub use order::in_order;
 pub use rows::{Caught, KeyedColumn, KeyedRow};
 pub use steps::{dropped_rows, expanded_rows, piece_rows};
+pub use taken_apart::{are_apart, ctors_apart};
 
 #[cfg(test)]
 mod tests;

@@ -71,7 +71,7 @@ fn add_ctor<'a, T: Copy>(
 }
 
 // Adds the constructor of the pattern, where that is no wildcard.
-fn add_unless_wild<'a, T: Copy>(
+pub(crate) fn add_unless_wild<'a, T: Copy>(
     ctors: &mut Vec<Ctor<'a>>,
     p: &'a DePat<'a, T>,
 ) -> Result<(), NoMemory>

@@ -1,49 +1,40 @@
-use Rattle.std.proofs.Common.{◌≡◌, ◌+◌, ◌∙◌, length, sym, ap, subst, arith}
+use Rattle.std.proofs.Common.{◌≡◌, ◌+◌, ◌∙◌, [], map, length, refl, sym, ap, subst, arith}
+use Rattle.std.specs.Prelude.{vec_len}
 use Rattle.std.proofs.lemmas.List.{length-map}
 use Rattle.std.specs.List.{All}
 use Rattle.match_model.specs.FewestBranches.{AreBranches}
 use Rattle.match_model.specs.Lowering.{ctors_at}
+use Rattle.match_model.specs.Steps.{expand_head, rows_at}
 use Rattle.pat_context.specs.Views.{plain_ctor}
 use Rattle.constructor_sets.specs.Columns.{plain_ctors}
 use Rattle.keyed_matrix.specs.Views.{plain_column, plain_columns, plain_rows}
 use Rattle.keyed_steps.proofs.Standing.{column-at}
+use Rattle.decision_tree.proofs.Apart.{none-of, some-of, zero-long, some-long, none-mapped, all-wild, some-open}
 use Rattle.decision_tree.proofs.CountingCases.{more_missing, no-branches, found-branches}
 use Rattle.decision_tree.proofs.Reading.{read-map, read-one}
-use Rattle.decision_tree.proofs.TypedRows.{IsSharp, longer-typed, longer-expanded, sharp-expanded}
+use Rattle.decision_tree.proofs.TypedRows.{IsSharp, longer-typed, sharp-expanded}
 use Rattle.decision_tree.proofs.branches.branches.Goals as goal
 
-pub expanded_rows-requires : goal.expanded_rows-requires
-expanded_rows-requires g c =
+pub ctors_apart-requires : goal.ctors_apart-requires
+ctors_apart-requires g c =
     let long = length-map c.args.columns.now plain_column in
     longer-typed (g.C.PatCx.context c.args.cx.now) c.args.i (plain_columns c.args.columns.now)
     (plain_rows c.args.rows.now) (omega (arith, long, c.requires.within)) c.requires.typed.heads
 
-pub are_wild-requires : goal.are_wild-requires
-are_wild-requires g c =
-    let long = length-map c.args.columns.now plain_column in
-    longer-expanded (g.C.PatCx.context c.args.cx.now) c.args.i (plain_column c.index-columns-i.result).place
-    (plain_columns c.args.columns.now) (plain_rows c.args.rows.now) (plain_rows c.deref.result.now)
-    (omega (arith, long, c.requires.within)) c.requires.typed.heads
-    (ap plain_rows c.deref.ensures.value ∙ c.in_ok-expanded.ensures)
-
-pub returns-then-are_wild : goal.returns-then-are_wild
-returns-then-are_wild g c = λ d e.
+pub returns-then-is_empty : goal.returns-then-is_empty
+returns-then-is_empty g c = λ d e.
     let column = c.index-columns-i.result in
+    let place = (plain_column column).place in
+    let rows = rows_at expand_head place c.args.i (plain_rows c.args.rows.now) in
+    let ctors = c.in_ok-ctors.ctors in
+    let length_is : length ctors.items ≡ 0 = (let none = zero-long c.is_empty.result (vec_len ctors) c.is_empty.ensures c.if-is_empty.true in
+    omega (arith, none, ctors.ok.0)) in
+    let none : ctors_at c.args.i rows ≡ [] = sym (c.in_ok-ctors.ensures place) ∙ ap (map plain_ctor) (none-of ctors.items length_is) in
     subst (λ x. AreBranches (g.C.PatCx.context c.args.cx.now) (g.C.PatCx.is_value c.args.cx.now) c.args.i
     (plain_column x) (plain_rows c.args.rows.now) 0)
     (read-one c.args.columns.now c.args.i column d e c.index-columns-i.is)
     (no-branches (g.C.PatCx.is_value c.args.cx.now) (g.C.PatCx.context c.args.cx.now) c.args.i (plain_column column)
-    (plain_rows c.args.rows.now) (plain_rows c.deref.result.now)
-    (ap plain_rows c.deref.ensures.value ∙ c.in_ok-expanded.ensures)
-    (sym c.are_wild.ensures ∙ c.if-are_wild.true))
-
-pub ctors_at-requires : goal.ctors_at-requires
-ctors_at-requires g c =
-    let long = length-map c.args.columns.now plain_column in
-    longer-expanded (g.C.PatCx.context c.args.cx.now) c.args.i (plain_column c.index-columns-i.result).place
-    (plain_columns c.args.columns.now) (plain_rows c.args.rows.now) (plain_rows c.deref-2.result.now)
-    (omega (arith, long, c.requires.within)) c.requires.typed.heads
-    (ap plain_rows c.deref-2.ensures.value ∙ c.in_ok-expanded.ensures)
+    (plain_rows c.args.rows.now) rows refl (all-wild c.args.i rows none))
 
 pub present-requires-clause-ty : goal.present-requires-clause-ty
 present-requires-clause-ty g c =
@@ -54,8 +45,7 @@ present-requires-clause-ty g c =
 pub present-requires-clause-heads : goal.present-requires-clause-heads
 present-requires-clause-heads g c =
     let column = plain_column c.index-columns-i.result in
-    let ctors = ap plain_ctors c.deref-3.ensures.value ∙ c.in_ok-ctors.ensures
-    ∙ ap (ctors_at c.args.i) (ap plain_rows c.deref-2.ensures.value ∙ c.in_ok-expanded.ensures) in
+    let ctors = ap plain_ctors c.deref.ensures.value ∙ c.in_ok-ctors.ensures column.place in
     subst (All (IsSharp ((g.C.PatCx.context c.args.cx.now).set_of column.type))) (sym ctors)
     (sharp-expanded (g.C.PatCx.is_type c.args.cx.now) (g.C.PatCx.context c.args.cx.now) (plain_columns c.args.columns.now)
     (plain_rows c.args.rows.now) c.requires.typed c.args.i column
@@ -71,18 +61,22 @@ returns-then-found g c = λ d e.
     let missing : more_missing found.missing ≡ 1 = ap more_missing c.if-found.true in
     let count : length (plain_ctors found.ctors.items) + more_missing found.missing ≡ c.len-count.result + 1 =
     omega (arith, ctors, missing) in
-    let heads = ap plain_ctors c.deref-3.ensures.value ∙ c.in_ok-ctors.ensures
-    ∙ ap (λ rs. ctors_at c.args.i (plain_rows rs)) (c.deref-2.ensures.value ∙ sym c.deref.ensures.value) in
+    let place = (plain_column column).place in
+    let rows = rows_at expand_head place c.args.i (plain_rows c.args.rows.now) in
+    let heads = ap plain_ctors c.deref.ensures.value ∙ c.in_ok-ctors.ensures place in
+    let unless_wild = some-open c.args.i rows (λ k. some-of c.in_ok-ctors.ctors.items
+    (let some = some-long c.is_empty.result (vec_len c.in_ok-ctors.ctors) c.is_empty.ensures c.if-is_empty.false in
+    omega (arith, some, c.in_ok-ctors.ctors.ok.0))
+    (none-mapped plain_ctor c.in_ok-ctors.ctors.items (c.in_ok-ctors.ensures place ∙ k))) in
     subst (λ x. AreBranches (g.C.PatCx.context c.args.cx.now) (g.C.PatCx.is_value c.args.cx.now) c.args.i
     (plain_column x) (plain_rows c.args.rows.now) (c.len-count.result + 1))
     (read-one c.args.columns.now c.args.i column d e c.index-columns-i.is)
     (subst (AreBranches (g.C.PatCx.context c.args.cx.now) (g.C.PatCx.is_value c.args.cx.now) c.args.i
     (plain_column column) (plain_rows c.args.rows.now)) count
     (found-branches (g.C.PatCx.is_value c.args.cx.now) (g.C.PatCx.context c.args.cx.now) c.args.i (plain_column column)
-    (plain_rows c.args.rows.now) (plain_rows c.deref.result.now)
-    (ap plain_rows c.deref.ensures.value ∙ c.in_ok-expanded.ensures)
-    (plain_ctors c.deref-3.result.now) (plain_ctors found.ctors.items) found.missing (plain_ctors found.gaps.items)
-    (sym c.are_wild.ensures ∙ c.if-are_wild.false) heads c.in_ok-found.ensures.found))
+    (plain_rows c.args.rows.now) rows refl
+    (plain_ctors c.deref.result.now) (plain_ctors found.ctors.items) found.missing (plain_ctors found.gaps.items)
+    unless_wild heads c.in_ok-found.ensures.found))
 
 pub returns : goal.returns
 returns g c = λ d e.
@@ -94,15 +88,19 @@ returns g c = λ d e.
     let missing : more_missing found.missing ≡ 0 = ap more_missing c.if-found.false in
     let count : length (plain_ctors found.ctors.items) + more_missing found.missing ≡ c.len-count.result =
     omega (arith, ctors, missing) in
-    let heads = ap plain_ctors c.deref-3.ensures.value ∙ c.in_ok-ctors.ensures
-    ∙ ap (λ rs. ctors_at c.args.i (plain_rows rs)) (c.deref-2.ensures.value ∙ sym c.deref.ensures.value) in
+    let place = (plain_column column).place in
+    let rows = rows_at expand_head place c.args.i (plain_rows c.args.rows.now) in
+    let heads = ap plain_ctors c.deref.ensures.value ∙ c.in_ok-ctors.ensures place in
+    let unless_wild = some-open c.args.i rows (λ k. some-of c.in_ok-ctors.ctors.items
+    (let some = some-long c.is_empty.result (vec_len c.in_ok-ctors.ctors) c.is_empty.ensures c.if-is_empty.false in
+    omega (arith, some, c.in_ok-ctors.ctors.ok.0))
+    (none-mapped plain_ctor c.in_ok-ctors.ctors.items (c.in_ok-ctors.ensures place ∙ k))) in
     subst (λ x. AreBranches (g.C.PatCx.context c.args.cx.now) (g.C.PatCx.is_value c.args.cx.now) c.args.i
     (plain_column x) (plain_rows c.args.rows.now) (c.len-count.result))
     (read-one c.args.columns.now c.args.i column d e c.index-columns-i.is)
     (subst (AreBranches (g.C.PatCx.context c.args.cx.now) (g.C.PatCx.is_value c.args.cx.now) c.args.i
     (plain_column column) (plain_rows c.args.rows.now)) count
     (found-branches (g.C.PatCx.is_value c.args.cx.now) (g.C.PatCx.context c.args.cx.now) c.args.i (plain_column column)
-    (plain_rows c.args.rows.now) (plain_rows c.deref.result.now)
-    (ap plain_rows c.deref.ensures.value ∙ c.in_ok-expanded.ensures)
-    (plain_ctors c.deref-3.result.now) (plain_ctors found.ctors.items) found.missing (plain_ctors found.gaps.items)
-    (sym c.are_wild.ensures ∙ c.if-are_wild.false) heads c.in_ok-found.ensures.found))
+    (plain_rows c.args.rows.now) rows refl
+    (plain_ctors c.deref.result.now) (plain_ctors found.ctors.items) found.missing (plain_ctors found.gaps.items)
+    unless_wild heads c.in_ok-found.ensures.found))

@@ -1,4 +1,4 @@
-use Rattle.std.proofs.Common.{◌∷◌, ◌++◌, ◌∙◌, [], map, reverse, subst, sym, ap}
+use Rattle.std.proofs.Common.{◌∷◌, ◌++◌, ◌∙◌, [], reverse, subst, sym, ap, map}
 use Rattle.constructor_sets.specs.Columns.{plain_ctors}
 use Rattle.keyed_matrix.specs.Deciding.{table_decides}
 use Rattle.tree_eval.specs.Nodes.{plain_bind, plain_branch}
@@ -9,7 +9,7 @@ use Rattle.decision_tree.specs.KnownViews.{known_entries, plain_known_matrix}
 use Rattle.decision_tree.specs.Waiting.{IsBare, IsLeft, IsTurn}
 use Rattle.decision_tree.proofs.Knowing.{note-resumed, ask-keeps}
 use Rattle.decision_tree.proofs.KnownTrees.{known-after, known-more}
-use Rattle.decision_tree.proofs.Turning.{last-first, map-snoc, guard-resumed, switch-resumed}
+use Rattle.decision_tree.proofs.Turning.{last-first, map-snoc, guard-resumed, switch-resumed, switch-cut}
 use Rattle.decision_tree.proofs.lowering.resume.Goals as goal
 
 pub next_case-requires : goal.next_case-requires
@@ -30,10 +30,14 @@ next_case-requires g c κs inside =
       inside.0,
       (
         inside.1,
-        subst (IsLeft IsType context V decides g.root (reverse new) now l.matrix l.column (plain_ctors l.pieces.items))
-            (sym (map-snoc plain_branch l.cases.items c.push.new.self.items (case, index) c.in_ok-push-in-Some-Switch.ensures.items))
-            (switch-resumed IsType context V decides g.root (reverse new) now l case index
-            (subst (λ fs. IsTurn IsType context V decides g.root fs now (Finished index)) popped c.requires.1.1.0)),
+        (
+          subst (IsLeft IsType context V decides g.root (reverse new) now l.matrix l.column (plain_ctors l.pieces.items))
+              (sym (map-snoc plain_branch l.cases.items c.push.new.self.items (case, index) c.in_ok-push-in-Some-Switch.ensures.items))
+              (switch-resumed IsType context V decides g.root (reverse new) now l case index
+              (subst (λ fs. IsTurn IsType context V decides g.root fs now (Finished index)) popped c.requires.1.1.0)),
+          switch-cut IsType context V decides g.root (reverse new) now l case index
+              (subst (λ fs. IsTurn IsType context V decides g.root fs now (Finished index)) popped c.requires.1.1.0),
+        ),
       ),
     )
 

@@ -1,17 +1,13 @@
 use Rattle.std.proofs.Common.{◌∙◌, sym, ap, subst, arith}
 use Rattle.std.proofs.lemmas.List.{length-map}
-use Rattle.match_model.specs.Matrices.{part_columns}
-use Rattle.match_model.specs.RowOrder.{AreInOrder}
-use Rattle.match_model.specs.Steps.{specialise_head, rows_at, replaced_at}
+use Rattle.match_model.specs.Steps.{specialise_head, rows_at}
 use Rattle.pat_context.specs.Views.{plain_ctor}
-use Rattle.keyed_steps.specs.Good.{IsGood}
 use Rattle.keyed_matrix.specs.Deciding.{table_decides}
 use Rattle.keyed_matrix.specs.Steps.{AreLonger}
-use Rattle.keyed_matrix.specs.Views.{plain_column, plain_columns, plain_rows}
+use Rattle.keyed_matrix.specs.Views.{plain_column, plain_rows}
 use Rattle.decision_tree.specs.Matrices.{matrix_columns, matrix_rows}
 use Rattle.decision_tree.proofs.Reading.{read-map}
-use Rattle.decision_tree.proofs.Stepping.{longer-good, piece-here, piece-type, piece-belongs, piece-held, entered-good, entered-parted}
-use Rattle.decision_tree.proofs.StillInOrder.{entered-in-order}
+use Rattle.decision_tree.proofs.Stepping.{longer-good, piece-here, piece-belongs, piece-held}
 use Rattle.decision_tree.proofs.steps.entered.Goals as goal
 
 pub piece_rows-requires : goal.piece_rows-requires
@@ -22,63 +18,18 @@ piece_rows-requires g c =
     (matrix_columns c.args.m.now) (matrix_rows c.args.m.now) (omega (arith, long, c.requires.within))
     c.requires.ready.ready.good)
 
-pub returns-clause-entered : goal.returns-clause-entered
-returns-clause-entered g c =
+pub over_parts-requires-clause-rows : goal.over_parts-requires-clause-rows
+over_parts-requires-clause-rows g c =
     let there = read-map plain_column c.args.m.now.columns.items c.args.i c.index-column.result.now c.requires.within
     c.index-column.ensures in
-    let rows = c.in_ok-rows.ensures
-    ∙ ap (λ n. rows_at (specialise_head (plain_ctor c.args.piece.now) n) (plain_column c.index-column.result.now).place c.args.i
-    (plain_rows c.deref.result.now)) c.count_parts-count.ensures.value
-    ∙ ap (λ rs. rows_at (specialise_head (plain_ctor c.args.piece.now) ((g.C.PatCx.context c.args.cx.now).arity (plain_ctor c.args.piece.now) c.index-column.result.now.ty))
-    (plain_column c.index-column.result.now).place c.args.i (plain_rows rs)) c.deref.ensures.value in
-    let columns = c.in_ok-columns.ensures
-    ∙ ap (λ cs. replaced_at c.args.i (plain_columns cs) (part_columns (g.C.PatCx.context c.args.cx.now)
-    (plain_column c.index-column.result.now) (plain_ctor c.args.piece.now))) c.deref-2.ensures.value in
     record {
       column = plain_column c.index-column.result.now;
       there = there;
-      columns = columns;
-      rows = subst (AreInOrder (table_decides c.args.decisions.now) (rows_at (specialise_head (plain_ctor c.args.piece.now)
-          ((g.C.PatCx.context c.args.cx.now).arity (plain_ctor c.args.piece.now) c.index-column.result.now.ty))
-          (plain_column c.index-column.result.now).place c.args.i (matrix_rows c.args.m.now))) (sym rows)
-          (entered-in-order (table_decides c.args.decisions.now) (plain_ctor c.args.piece.now)
-          ((g.C.PatCx.context c.args.cx.now).arity (plain_ctor c.args.piece.now) c.index-column.result.now.ty)
-          (plain_column c.index-column.result.now).place c.args.i (matrix_rows c.args.m.now) c.requires.ready.parted);
-    }
-
-pub returns-clause-good : goal.returns-clause-good
-returns-clause-good g c =
-    let there = read-map plain_column c.args.m.now.columns.items c.args.i c.index-column.result.now c.requires.within
-    c.index-column.ensures in
-    let here = piece-here (g.C.PatCx.context c.args.cx.now) c.args.i c.args.m.now (plain_ctor c.args.piece.now)
-    (plain_column c.index-column.result.now) c.requires.piece there in
-    let rows = c.in_ok-rows.ensures
-    ∙ ap (λ n. rows_at (specialise_head (plain_ctor c.args.piece.now) n) (plain_column c.index-column.result.now).place c.args.i
-    (plain_rows c.deref.result.now)) c.count_parts-count.ensures.value
-    ∙ ap (λ rs. rows_at (specialise_head (plain_ctor c.args.piece.now) ((g.C.PatCx.context c.args.cx.now).arity (plain_ctor c.args.piece.now) c.index-column.result.now.ty))
-    (plain_column c.index-column.result.now).place c.args.i (plain_rows rs)) c.deref.ensures.value in
-    let columns = c.in_ok-columns.ensures
-    ∙ ap (λ cs. replaced_at c.args.i (plain_columns cs) (part_columns (g.C.PatCx.context c.args.cx.now)
-    (plain_column c.index-column.result.now) (plain_ctor c.args.piece.now))) c.deref-2.ensures.value in
-    let order = subst (AreInOrder (table_decides c.args.decisions.now) (rows_at (specialise_head (plain_ctor c.args.piece.now)
-    ((g.C.PatCx.context c.args.cx.now).arity (plain_ctor c.args.piece.now) c.index-column.result.now.ty))
-    (plain_column c.index-column.result.now).place c.args.i (matrix_rows c.args.m.now))) (sym rows)
-    (entered-in-order (table_decides c.args.decisions.now) (plain_ctor c.args.piece.now)
-    ((g.C.PatCx.context c.args.cx.now).arity (plain_ctor c.args.piece.now) c.index-column.result.now.ty)
-    (plain_column c.index-column.result.now).place c.args.i (matrix_rows c.args.m.now) c.requires.ready.parted) in
-    record {
-      good =
-          subst (λ cs. IsGood (g.C.PatCx.is_type c.args.cx.now) (g.C.PatCx.context c.args.cx.now) (table_decides c.args.decisions.now) cs
-          (plain_rows c.in_ok-rows.rows.items)) (sym columns)
-          (entered-good (g.C.PatCx.is_type c.args.cx.now) (g.C.PatCx.context c.args.cx.now)
-          (table_decides c.args.decisions.now) (g.C.PatCx.is_value c.args.cx.now) (g.met.C.PatCx.parts c.args.cx.now)
-          (g.met.C.PatCx.values c.args.cx.now) c.args.i (plain_column c.index-column.result.now) (matrix_columns c.args.m.now) (matrix_rows c.args.m.now) there
-          c.requires.ready.parted c.requires.ready.ready here.0 (plain_ctor c.args.piece.now) here.1 here.2 (plain_rows c.in_ok-rows.rows.items) order);
-      parted =
-          entered-parted (g.C.PatCx.is_type c.args.cx.now) (g.C.PatCx.context c.args.cx.now)
-          (table_decides c.args.decisions.now) (g.C.PatCx.is_value c.args.cx.now) (g.met.C.PatCx.parts c.args.cx.now)
-          (g.met.C.PatCx.values c.args.cx.now) c.args.i (plain_column c.index-column.result.now) (matrix_columns c.args.m.now) (matrix_rows c.args.m.now) there
-          c.requires.ready.parted c.requires.ready.ready here.0 (plain_ctor c.args.piece.now) here.1 here.2 (plain_rows c.in_ok-rows.rows.items) order;
+      are = c.in_ok-rows.ensures
+          ∙ ap (λ rs. rows_at (specialise_head (plain_ctor c.args.piece.now) c.count_parts-count.result)
+          (plain_column c.index-column.result.now).place c.args.i (plain_rows rs)) c.deref.ensures.value
+          ∙ ap (λ n. rows_at (specialise_head (plain_ctor c.args.piece.now) n) (plain_column c.index-column.result.now).place c.args.i
+          (matrix_rows c.args.m.now)) c.count_parts-count.ensures.value;
     }
 
 pub count_parts-count-requires-clause-belongs : goal.count_parts-count-requires-clause-belongs
@@ -94,39 +45,6 @@ count_parts-count-requires-clause-belongs g c =
 
 pub count_parts-count-requires-clause-held : goal.count_parts-count-requires-clause-held
 count_parts-count-requires-clause-held g c =
-    let there = read-map plain_column c.args.m.now.columns.items c.args.i c.index-column.result.now c.requires.within
-    c.index-column.ensures in
-    let here = piece-here (g.C.PatCx.context c.args.cx.now) c.args.i c.args.m.now (plain_ctor c.args.piece.now)
-    (plain_column c.index-column.result.now) c.requires.piece there in
-    piece-held (g.C.PatCx.is_type c.args.cx.now) (g.C.PatCx.context c.args.cx.now)
-    (table_decides c.args.decisions.now) (g.C.PatCx.is_value c.args.cx.now) (g.met.C.PatCx.parts c.args.cx.now)
-    (g.met.C.PatCx.values c.args.cx.now) c.args.i (plain_column c.index-column.result.now) (matrix_columns c.args.m.now) (matrix_rows c.args.m.now) there
-    c.requires.ready.parted c.requires.ready.ready here.0 (plain_ctor c.args.piece.now) here.1 here.2
-
-pub piece_columns-requires-clause-ty : goal.piece_columns-requires-clause-ty
-piece_columns-requires-clause-ty g c =
-    let there = read-map plain_column c.args.m.now.columns.items c.args.i c.index-column.result.now c.requires.within
-    c.index-column.ensures in
-    let here = piece-here (g.C.PatCx.context c.args.cx.now) c.args.i c.args.m.now (plain_ctor c.args.piece.now)
-    (plain_column c.index-column.result.now) c.requires.piece there in
-    piece-type (g.C.PatCx.is_type c.args.cx.now) (g.C.PatCx.context c.args.cx.now)
-    (table_decides c.args.decisions.now) (g.C.PatCx.is_value c.args.cx.now) (g.met.C.PatCx.parts c.args.cx.now)
-    (g.met.C.PatCx.values c.args.cx.now) c.args.i (plain_column c.index-column.result.now) (matrix_columns c.args.m.now) (matrix_rows c.args.m.now) there
-    c.requires.ready.parted c.requires.ready.ready here.0 (plain_ctor c.args.piece.now) here.1 here.2
-
-pub piece_columns-requires-clause-belongs : goal.piece_columns-requires-clause-belongs
-piece_columns-requires-clause-belongs g c =
-    let there = read-map plain_column c.args.m.now.columns.items c.args.i c.index-column.result.now c.requires.within
-    c.index-column.ensures in
-    let here = piece-here (g.C.PatCx.context c.args.cx.now) c.args.i c.args.m.now (plain_ctor c.args.piece.now)
-    (plain_column c.index-column.result.now) c.requires.piece there in
-    piece-belongs (g.C.PatCx.is_type c.args.cx.now) (g.C.PatCx.context c.args.cx.now)
-    (table_decides c.args.decisions.now) (g.C.PatCx.is_value c.args.cx.now) (g.met.C.PatCx.parts c.args.cx.now)
-    (g.met.C.PatCx.values c.args.cx.now) c.args.i (plain_column c.index-column.result.now) (matrix_columns c.args.m.now) (matrix_rows c.args.m.now) there
-    c.requires.ready.parted c.requires.ready.ready here.0 (plain_ctor c.args.piece.now) here.1 here.2
-
-pub piece_columns-requires-clause-held : goal.piece_columns-requires-clause-held
-piece_columns-requires-clause-held g c =
     let there = read-map plain_column c.args.m.now.columns.items c.args.i c.index-column.result.now c.requires.within
     c.index-column.ensures in
     let here = piece-here (g.C.PatCx.context c.args.cx.now) c.args.i c.args.m.now (plain_ctor c.args.piece.now)

@@ -4,18 +4,61 @@ use Rattle.match_model.specs.Lists.{Ordered}
 use Rattle.match_model.specs.RowOrder.{AreInOrder}
 use Rattle.match_model.specs.Steps.{expand_head, rows_at}
 use Rattle.keyed_matrix.specs.Deciding.{table_decides}
-use Rattle.keyed_matrix.specs.Steps.{AreLonger}
+use Rattle.keyed_matrix.specs.Steps.{AreLonger, are_apart}
 use Rattle.keyed_matrix.specs.Turns.{IsOneFirst}
 use Rattle.keyed_matrix.specs.Views.{plain_column, plain_rows}
 use Rattle.decision_tree.specs.Matrices.{matrix_columns, matrix_rows}
-use Rattle.decision_tree.proofs.Reading.{read-map}
+use Rattle.decision_tree.proofs.Apart.{apart-order}
+use Rattle.decision_tree.proofs.Reading.{read-map, there-map}
 use Rattle.decision_tree.proofs.Stepping.{longer-good, expanded-first, expanded-ready, expanded-parted}
 use Rattle.decision_tree.proofs.steps.expanded.Goals as goal
+
+pub are_apart-requires : goal.are_apart-requires
+are_apart-requires g c =
+    let long = length-map c.args.m.columns.items plain_column in
+    subst (λ rs. AreLonger c.args.i (plain_rows rs)) (sym c.deref.ensures.value)
+    (longer-good (g.C.PatCx.is_type c.args.cx.now) (g.C.PatCx.context c.args.cx.now) (table_decides c.args.decisions.now) c.args.i
+    (matrix_columns c.args.m) (matrix_rows c.args.m) (omega (arith, long, c.requires.within)) c.requires.good.good)
+
+pub returns-then-are_apart-clause-expanded : goal.returns-then-are_apart-clause-expanded
+returns-then-are_apart-clause-expanded g c =
+    let long = length-map c.args.m.columns.items plain_column in
+    let decides = table_decides c.args.decisions.now in
+    let there = there-map plain_column c.args.m.columns.items c.args.i c.requires.within in
+    let apart = ap (λ rs. are_apart c.args.i (plain_rows rs)) (sym c.deref.ensures.value) ∙ sym c.are_apart.ensures ∙ c.if-are_apart.true in
+    record {
+      column = plain_column there.0;
+      there = there.2;
+      columns = refl;
+      rows = apart-order decides (plain_column there.0).place c.args.i (matrix_rows c.args.m)
+          (longer-good (g.C.PatCx.is_type c.args.cx.now) (g.C.PatCx.context c.args.cx.now) decides c.args.i
+          (matrix_columns c.args.m) (matrix_rows c.args.m) (omega (arith, long, c.requires.within)) c.requires.good.good)
+          apart c.requires.good.parted;
+    }
+
+pub returns-then-are_apart-clause-ready : goal.returns-then-are_apart-clause-ready
+returns-then-are_apart-clause-ready g c =
+    let long = length-map c.args.m.columns.items plain_column in
+    let decides = table_decides c.args.decisions.now in
+    let there = there-map plain_column c.args.m.columns.items c.args.i c.requires.within in
+    let apart = ap (λ rs. are_apart c.args.i (plain_rows rs)) (sym c.deref.ensures.value) ∙ sym c.are_apart.ensures ∙ c.if-are_apart.true in
+    let order = apart-order decides (plain_column there.0).place c.args.i (matrix_rows c.args.m)
+    (longer-good (g.C.PatCx.is_type c.args.cx.now) (g.C.PatCx.context c.args.cx.now) decides c.args.i
+    (matrix_columns c.args.m) (matrix_rows c.args.m) (omega (arith, long, c.requires.within)) c.requires.good.good)
+    apart c.requires.good.parted in
+    record {
+      ready =
+          expanded-ready (g.C.PatCx.is_type c.args.cx.now) (g.C.PatCx.context c.args.cx.now)
+          decides (g.C.PatCx.is_value c.args.cx.now) (g.met.C.PatCx.parts c.args.cx.now)
+          (g.met.C.PatCx.values c.args.cx.now) c.args.i (plain_column there.0) (matrix_columns c.args.m) (matrix_rows c.args.m) there.2
+          c.requires.good.parted c.requires.good.good (matrix_rows c.args.m) order;
+      parted = c.requires.good.parted;
+    }
 
 pub expanded_rows-requires : goal.expanded_rows-requires
 expanded_rows-requires g c =
     let long = length-map c.args.m.columns.items plain_column in
-    subst (λ rs. AreLonger c.args.i (plain_rows rs)) (sym c.deref.ensures.value)
+    subst (λ rs. AreLonger c.args.i (plain_rows rs)) (sym c.deref-2.ensures.value)
     (longer-good (g.C.PatCx.is_type c.args.cx.now) (g.C.PatCx.context c.args.cx.now) (table_decides c.args.decisions.now) c.args.i
     (matrix_columns c.args.m) (matrix_rows c.args.m) (omega (arith, long, c.requires.within)) c.requires.good.good)
 
@@ -23,7 +66,7 @@ pub in_order-requires : goal.in_order-requires
 in_order-requires g c =
     let there = read-map plain_column c.args.m.columns.items c.args.i c.index.result.now c.requires.within c.index.ensures in
     let rows = c.in_ok-rows.ensures ∙ ap (λ rs. rows_at expand_head (plain_column c.index.result.now).place c.args.i (plain_rows rs))
-    c.deref.ensures.value in
+    c.deref-2.ensures.value in
     subst (Ordered (IsOneFirst (table_decides c.args.decisions.now))) (sym rows)
     (expanded-first (g.C.PatCx.is_type c.args.cx.now) (g.C.PatCx.context c.args.cx.now)
     (table_decides c.args.decisions.now) (g.C.PatCx.is_value c.args.cx.now) (g.met.C.PatCx.parts c.args.cx.now)
@@ -34,7 +77,7 @@ pub returns-clause-expanded : goal.returns-clause-expanded
 returns-clause-expanded g c =
     let there = read-map plain_column c.args.m.columns.items c.args.i c.index.result.now c.requires.within c.index.ensures in
     let rows = c.in_ok-rows.ensures ∙ ap (λ rs. rows_at expand_head (plain_column c.index.result.now).place c.args.i (plain_rows rs))
-    c.deref.ensures.value in
+    c.deref-2.ensures.value in
     record {
       column = plain_column c.index.result.now;
       there = there;
@@ -47,7 +90,7 @@ pub returns-clause-ready : goal.returns-clause-ready
 returns-clause-ready g c =
     let there = read-map plain_column c.args.m.columns.items c.args.i c.index.result.now c.requires.within c.index.ensures in
     let rows = c.in_ok-rows.ensures ∙ ap (λ rs. rows_at expand_head (plain_column c.index.result.now).place c.args.i (plain_rows rs))
-    c.deref.ensures.value in
+    c.deref-2.ensures.value in
     let order = subst (λ rs. AreInOrder (table_decides c.args.decisions.now) rs (plain_rows c.in_ok-rows-2.rows.items)) rows
     c.in_ok-rows-2.ensures in
     record {
