@@ -1,5 +1,5 @@
 -- What a text may begin with.
-use Rattle.std.specs.Prelude.{ℕ, Bool, List, [], ◌∷◌, Option, Result, Ok, Err, if◌then◌else◌}
+use Rattle.std.specs.Prelude.{ℕ, Bool, List, [], ◌∷◌, Option, Some, None, Result, Ok, Err, if◌then◌else◌}
 use Rattle.decl_lexer.specs.declared.words.Word.{Word}
 use Rattle.decl_lexer.specs.declared.marks.Mark.{Mark}
 
@@ -16,6 +16,21 @@ pub data Lexeme : Type 0 where
   Text : List ℕ → Lexeme
   ByteText : Lexeme
   CText : Lexeme
+
+-- the mark that a token is
+abbrev pub mark_of : Lexeme → Option Mark
+mark_of (Marked mark) = Some mark
+mark_of _ = None
+
+-- the keyword that a token is
+abbrev pub keyword_of : Lexeme → Option Word
+keyword_of (Keyword word) = Some word
+keyword_of _ = None
+
+-- the text of the name that a token is
+abbrev pub name_of : Lexeme → Option (List ℕ)
+name_of (Named text raw) = Some text
+name_of _ = None
 
 -- whitespace or a comment, or a token
 pub data Piece : Type 0 where

@@ -1,5 +1,5 @@
 -- What a caller sees of the tokens of a source that are kept.
-use Rattle.std.specs.Prelude.{◌≡◌, ℕ, Bool, true, false, List, [], ◌++◌, map, Option, Some, None, String, string_bytes, slice_get}
+use Rattle.std.specs.Prelude.{◌≡◌, ℕ, Bool, true, false, List, [], ◌++◌, ◌∷◌, map, Option, Some, None, option_map, String, string_bytes, slice_get}
 use Rattle.std.specs.Global.{Global, Box}
 use Rattle.decl_lexer.specs.declared.token.IntToken.{IntToken}
 use Rattle.decl_lexer.specs.declared.stored.Stored as declared
@@ -8,7 +8,8 @@ use Rattle.decl_lexer.specs.declared.stored.StoredKind.TheVariants as kinds
 use Rattle.decl_lexer.specs.declared.stored.Lists.{Lists}
 use Rattle.decl_lexer.specs.declared.stored.Tokens.{Tokens}
 use Rattle.decl_lexer.specs.declared.stored.Rest.{Rest}
-use Rattle.decl_lexer.specs.Begins.{Lexeme, Named, Keyword, Marked, Lifetime, Integer, Float, Character, Byte, Text, ByteText, CText}
+use Rattle.decl_lexer.specs.declared.marks.Mark.{Mark}
+use Rattle.decl_lexer.specs.Begins.{mark_of, Lexeme, Named, Keyword, Marked, Lifetime, Integer, Float, Character, Byte, Text, ByteText, CText}
 use Rattle.decl_lexer.specs.Lexing.{Placed}
 
 -- the name with this text; where there is none, a lifetime
@@ -59,6 +60,20 @@ tokens_view t = map (placed_in t.lists) t.stored.items
 -- the same from one of them on
 abbrev pub rest_view : Rest → List Placed
 rest_view t = map (placed_in t.lists.now) t.stored.now
+
+-- what the first of these tokens is
+abbrev pub first_is : {A : Type 0} → (Lexeme → Option A) → List Placed → Option A
+first_is meaning [] = None
+first_is meaning (t ∷ ts) = meaning t.lexeme
+
+-- what the first of these tokens stands for, and the tokens behind it
+abbrev pub first_as : {A : Type 0} → (Placed → Option A) → List Placed → Option (A × List Placed)
+first_as meaning [] = None
+first_as meaning (t ∷ ts) = option_map (λ x. (x, ts)) (meaning t)
+
+-- the mark that a token is, if it is one, and where the token ends
+abbrev pub mark_and_end : Placed → Option (Option Mark × ℕ)
+mark_and_end t = Some (mark_of t.lexeme, t.to)
 
 -- the second list is the first with more behind it
 abbrev pub Grew : {A : Type 0} → List A → List A → Type 0

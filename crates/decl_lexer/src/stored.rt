@@ -1,7 +1,8 @@
 //! Tokens as they are kept: 16 bytes each, with their texts in lists beside them.
-ghost use Rattle.std.specs.Prelude.{◌≡◌, ◌++◌, ◌∷◌, [], length, string_bytes, slice_get, IfOk, OnOk, MatchOption};
+ghost use Rattle.std.specs.Prelude.{◌≡◌, ◌++◌, ◌∷◌, [], length, string_bytes, slice_get, option_map, IfOk, OnOk, MatchOption};
 ghost use Rattle.decl_lexer.specs.Views.{read_view, lexeme_view, token_view, read_token_view};
-ghost use Rattle.decl_lexer.specs.Stored.{lexeme_in, Grew, Grows, IsEntry, Shows, IsWhole, tokens_view, rest_view, name_entry, large_entry, integer_entry, text_entry};
+ghost use Rattle.decl_lexer.specs.Begins.{mark_of, keyword_of, name_of};
+ghost use Rattle.decl_lexer.specs.Stored.{lexeme_in, Grew, Grows, IsEntry, Shows, IsWhole, tokens_view, rest_view, first_is, first_as, mark_and_end, name_entry, large_entry, integer_entry, text_entry};
 
 use crate::marks::Mark;
 use crate::read::{ReadKind, ReadToken};
@@ -60,6 +61,26 @@ pub struct Tokens {
 pub struct Rest<'a> {
     stored: &'a [Stored],
     lists: &'a Lists,
+}
+
+/// The mark that a kept token is.
+fn mark_of(kind: StoredKind) -> Option<Mark>
+    ensures { (lists : Lists) → mark_of (lexeme_in lists kind) ≡ result }
+{
+    match kind {
+        StoredKind::Mark(mark) => Some(mark),
+        _ => None,
+    }
+}
+
+/// The keyword that a kept token is.
+fn keyword_of(kind: StoredKind) -> Option<Word>
+    ensures { (lists : Lists) → keyword_of (lexeme_in lists kind) ≡ result }
+{
+    match kind {
+        StoredKind::Word(word) => Some(word),
+        _ => None,
+    }
 }
 
 /// The number in 32 bits; from 2^32 on it counts as want of memory.
@@ -165,6 +186,18 @@ impl Lists {
         }
     }
 
+    /// The text of the name that a kept token is.
+    fn name_of(&self, kind: StoredKind) -> Option<&String>
+        ensures { option_map (λ s. string_bytes s.now) result ≡ name_of (lexeme_in self.now kind) }
+    {
+        match kind {
+            StoredKind::Name(number) | StoredKind::RawName(number) => {
+                self.names.get_index(number as usize)
+            }
+            _ => None,
+        }
+    }
+
     /// The decimal integer with this number.
     fn large(&self, number: u32) -> TokenKind<'_>
         ensures { lexeme_view result ≡ large_entry (slice_get self.now.large.items number) }
@@ -253,5 +286,64 @@ impl<'a> Rest<'a> {
             lists: self.lists,
         };
         Some((Token { kind, from, to }, rest))
+    }
+
+    /// The mark that the first of the tokens is.
+    pub fn mark(self) -> Option<Mark>
+        ensures { result ≡ first_is mark_of (rest_view self.entry) }
+    {
+        let first = self.stored.first()?;
+        mark_of(first.kind)
+    }
+
+    /// The mark that the first of the tokens is, the byte at which that token ends, and the tokens behind it.
+    pub fn split_mark(self) -> Option<(Option<Mark>, u64, Rest<'a>)>
+        ensures { option_map (λ p. ((p.0, p.1), rest_view p.2)) result
+            ≡ first_as mark_and_end (rest_view self.entry) }
+    {
+        let (first, stored) = self.stored.split_first()?;
+        let mark = mark_of(first.kind);
+        let to = first.to as u64;
+        let rest = Rest {
+            stored,
+            lists: self.lists,
+        };
+        Some((mark, to, rest))
+    }
+
+    /// The keyword that the first of the tokens is, and the tokens behind it.
+    pub fn split_word(self) -> Option<(Word, Rest<'a>)>
+        ensures { option_map (λ p. (p.0, rest_view p.1)) result
+            ≡ first_as (λ t. keyword_of t.lexeme) (rest_view self.entry) }
+    {
+        let (first, stored) = self.stored.split_first()?;
+        let word = keyword_of(first.kind)?;
+        let rest = Rest {
+            stored,
+            lists: self.lists,
+        };
+        Some((word, rest))
+    }
+
+    /// The text of the name that the first of the tokens is, and the tokens behind it.
+    pub fn split_name(self) -> Option<(&'a String, Rest<'a>)>
+        ensures { option_map (λ p. (string_bytes p.0.now, rest_view p.1)) result
+            ≡ first_as (λ t. name_of t.lexeme) (rest_view self.entry) }
+    {
+        let (first, stored) = self.stored.split_first()?;
+        let text = self.lists.name_of(first.kind)?;
+        let rest = Rest {
+            stored,
+            lists: self.lists,
+        };
+        Some((text, rest))
+    }
+
+    /// The byte at which the first of the tokens begins.
+    pub fn from(self) -> Option<u64>
+        ensures { result ≡ option_map (λ t. t.from) (slice_get (rest_view self.entry) 0) }
+    {
+        let first = self.stored.first()?;
+        Some(first.from as u64)
     }
 }

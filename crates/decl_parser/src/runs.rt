@@ -73,22 +73,19 @@ fn closes_mark(mark: Mark) -> bool
     }
 }
 
-/// Whether a run ends before this token.
-fn ends(until: Until, unit: Unit<'_>) -> bool
-    ensures { result ≡ ends_run until (unit_view unit.entry).lexeme }
+/// Whether a run ends before this mark.
+fn ends(until: Until, mark: Mark) -> bool
+    ensures { result ≡ ends_run until (Marked mark) }
 {
-    match mark_of(unit) {
-        Some(mark) => stops_mark(until, mark) || closes_mark(mark),
-        None => false,
-    }
+    stops_mark(until, mark) || closes_mark(mark)
 }
 
 /// Whether a token comes next before which a run ends.
 fn ends_here(at: Cursor<'_>, until: Until) -> bool
     ensures { result ≡ first_passes (ends_run until) (left at.entry) }
 {
-    match at.next() {
-        Some((first, _)) => ends(until, first),
+    match at.mark() {
+        Some(mark) => ends(until, mark),
         None => false,
     }
 }

@@ -8,3 +8,4 @@ pub mod TypeLaws
 pub mod ViewLemmas
 pub mod WidthLemmas
 pub mod LevelLaws
+pub mod UnitLemmas

@@ -9,6 +9,7 @@ use Rattle.decl_syntax.specs.declared.stop.Stop.TheVariants as stops
 use Rattle.decl_syntax.specs.declared.attributes.Part as declared
 use Rattle.decl_syntax.specs.declared.attributes.Part.TheVariants as parts
 use Rattle.decl_syntax.specs.Units.{is_mark, name_of}
+pub use Rattle.decl_lexer.specs.Begins.{mark_of}
 use Rattle.decl_syntax.specs.Patterns.{AttrTree}
 use Rattle.decl_syntax.specs.Grammar.{IsMark, Many}
 
@@ -33,11 +34,6 @@ abbrev pub part_view : declared.Part → Part
 part_view (parts.Opens mark) = Opens mark
 part_view parts.Closes = Closes
 part_view parts.Inside = Inside
-
--- the mark that a token is
-abbrev pub mark_of : Lexeme → Option Mark
-mark_of (Marked mark) = Some mark
-mark_of _ = None
 
 -- the marks that are still to close the open brackets, the innermost first, behind a token; nothing where it closes another bracket
 abbrev pub behind_part : Part → Lexeme → List Mark → Option (List Mark)

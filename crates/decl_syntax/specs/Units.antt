@@ -5,11 +5,10 @@ use denote.Enum.Bare.{sameb}
 use Rattle.decl_lexer.specs.declared.marks.Mark.{Mark}
 use Rattle.decl_lexer.specs.declared.marks.Mark.TheVariants as marks
 use Rattle.decl_lexer.specs.declared.words.Word.{Word}
-use Rattle.decl_lexer.specs.declared.token.TokenKind.{TokenKind}
-use Rattle.decl_lexer.specs.declared.token.TokenKind.TheVariants as kinds
 use Rattle.decl_lexer.specs.contracts.marks.Mark as mark_contract
 use Rattle.decl_lexer.specs.contracts.words.Word as word_contract
-use Rattle.decl_lexer.specs.Begins.{Lexeme, Named, Keyword, Marked, Lifetime, Integer}
+use Rattle.decl_lexer.specs.Begins.{Lexeme, Keyword, Marked, Lifetime, Integer}
+pub use Rattle.decl_lexer.specs.Begins.{mark_of, name_of}
 use Rattle.decl_lexer.specs.Views.{lexeme_view}
 use Rattle.decl_lexer.specs.Lexing.{Placed}
 use Rattle.decl_lexer.specs.Stored.{rest_view}
@@ -20,12 +19,6 @@ use Rattle.decl_syntax.specs.declared.cursor.Seen.{Seen}
 use Rattle.decl_syntax.specs.declared.cursor.Seen.TheVariants as seen
 
 -- the mark of which a token is two
-abbrev pub doubled : TokenKind → Option Mark
-doubled (kinds.Mark marks.And) = Some marks.Ampersand
-doubled (kinds.Mark marks.ShiftRight) = Some marks.Greater
-doubled _ = None
-
--- the same of a token without its place
 abbrev pub doubled_mark : Lexeme → Option Mark
 doubled_mark (Marked marks.And) = Some marks.Ampersand
 doubled_mark (Marked marks.ShiftRight) = Some marks.Greater
@@ -110,10 +103,9 @@ abbrev pub is_lifetime : Lexeme → Bool
 is_lifetime Lifetime = true
 is_lifetime _ = false
 
--- the text of a name
-abbrev pub name_of : Lexeme → Option (List ℕ)
-name_of (Named text raw) = Some text
-name_of _ = None
+-- a token's mark, if it is one
+abbrev pub mark_seen : Lexeme → Option (Option Mark)
+mark_seen t = Some (mark_of t)
 
 -- what the first token stands for, and the tokens behind it
 abbrev pub token_at : {A : Type 0} → (Lexeme → Option A) → List Placed → Option (A × List Placed)

@@ -1,7 +1,9 @@
 //! A place in a list of tokens, and one step from there.
 ghost use Rattle.std.specs.Prelude.{◌≡◌, ◌∷◌, [], MatchOption, option_map, string_bytes};
-ghost use Rattle.decl_lexer.specs.Stored.{tokens_view, rest_view};
-ghost use Rattle.decl_syntax.specs.Units.{units, left, unit_view, doubled, behind, is_mark, is_word, is_lifetime, token_at, name_of, flag_at, integer_of, from_of};
+ghost use Rattle.decl_lexer.specs.Stored.{tokens_view, rest_view, first_is};
+ghost use Rattle.decl_lexer.specs.Begins.{Marked, mark_of, keyword_of, name_of};
+ghost use Rattle.decl_lexer.specs.Views.{lexeme_view};
+ghost use Rattle.decl_syntax.specs.Units.{units, left, unit_view, doubled_mark, mark_seen, behind, is_mark, is_word, is_lifetime, token_at, flag_at, integer_of, from_of};
 
 use decl_lexer::{Mark, Rest, TokenKind, Tokens, Word};
 
@@ -34,13 +36,23 @@ pub struct Unit<'a> {
     pub to: u64,
 }
 
+/// The mark of which a mark is two.
+fn half_of(mark: Mark) -> Option<Mark>
+    ensures { result ≡ doubled_mark (Marked mark) }
+{
+    match mark {
+        Mark::And => Some(Mark::Ampersand),
+        Mark::ShiftRight => Some(Mark::Greater),
+        _ => None,
+    }
+}
+
 /// The mark of which a token is two.
 fn doubled(kind: TokenKind<'_>) -> Option<Mark>
-    ensures { result ≡ doubled kind.entry }
+    ensures { result ≡ doubled_mark (lexeme_view kind.entry) }
 {
     match kind {
-        TokenKind::Mark(Mark::And) => Some(Mark::Ampersand),
-        TokenKind::Mark(Mark::ShiftRight) => Some(Mark::Greater),
+        TokenKind::Mark(mark) => half_of(mark),
         _ => None,
     }
 }
@@ -100,12 +112,64 @@ impl<'a> Cursor<'a> {
 }
 
 impl<'a> Cursor<'a> {
+    /// The mark that the token behind this place is.
+    #[tactic(auto, unfolding(crate::specs::Units::left, crate::specs::Units::units))]
+    pub fn mark(self) -> Option<Mark>
+        ensures { result ≡ first_is mark_of (left self.entry) }
+    {
+        if let Some(half) = self.pending {
+            return Some(half.mark);
+        }
+        let mark = self.rest.mark()?;
+        match half_of(mark) {
+            Some(half) => Some(half),
+            None => Some(mark),
+        }
+    }
+
+    /// The mark that the token behind this place is, and the place behind that token.
+    #[tactic(auto, unfolding(crate::specs::Units::left, crate::specs::Units::units))]
+    pub fn step(self) -> Option<(Option<Mark>, Cursor<'a>)>
+        ensures { option_map (λ p. (p.0, left p.1)) result ≡ token_at mark_seen (left self.entry) }
+    {
+        if let Some(half) = self.pending {
+            return Some((Some(half.mark), Cursor::before(self.rest)));
+        }
+        let (mark, to, rest) = self.rest.split_mark()?;
+        let Some(mark) = mark else {
+            return Some((None, Cursor::before(rest)));
+        };
+        match half_of(mark) {
+            Some(mark) => {
+                let pending = Some(Half { mark, to });
+                Some((Some(mark), Cursor { pending, rest }))
+            }
+            None => Some((Some(mark), Cursor::before(rest))),
+        }
+    }
+
+    /// The keyword behind this place, and the place behind that.
+    #[tactic(auto, unfolding(crate::specs::Units::left, crate::specs::Units::units))]
+    pub fn word(self) -> Option<(Word, Cursor<'a>)>
+        ensures { option_map (λ p. (p.0, left p.1)) result ≡ token_at keyword_of (left self.entry) }
+    {
+        if self.pending.is_some() {
+            return None;
+        }
+        let (word, rest) = self.rest.split_word()?;
+        Some((word, Cursor::before(rest)))
+    }
+
     /// The byte offset of the token behind this place, and 0 at the end.
+    #[tactic(auto, unfolding(crate::specs::Units::left))]
     pub fn from(self) -> u64
         ensures { result ≡ from_of (left self.entry) }
     {
-        match self.next() {
-            Some((first, _)) => first.from,
+        if let Some(half) = self.pending {
+            return half.to.saturating_sub(1);
+        }
+        match self.rest.from() {
+            Some(from) => from,
             None => 0,
         }
     }
@@ -115,19 +179,10 @@ impl<'a> Cursor<'a> {
 pub fn behind(at: Cursor<'_>, mark: Mark) -> Option<Cursor<'_>>
     ensures { option_map left result ≡ behind (is_mark mark) (left at.entry) }
 {
-    let (first, rest) = at.next()?;
-    match first.kind {
-        Seen::Mark(other) => {
-            if other == mark {
-                return Some(rest);
-            }
-        }
-        Seen::Other(TokenKind::Mark(other)) => {
-            if other == mark {
-                return Some(rest);
-            }
-        }
-        Seen::Other(_) => {}
+    let first = at.mark()?;
+    if first == mark {
+        let (_, rest) = at.step()?;
+        return Some(rest);
     }
     None
 }
@@ -136,13 +191,8 @@ pub fn behind(at: Cursor<'_>, mark: Mark) -> Option<Cursor<'_>>
 pub fn behind_word(at: Cursor<'_>, word: Word) -> Option<Cursor<'_>>
     ensures { option_map left result ≡ behind (is_word word) (left at.entry) }
 {
-    let (first, rest) = at.next()?;
-    if let Seen::Other(TokenKind::Word(other)) = first.kind {
-        if other == word {
-            return Some(rest);
-        }
-    }
-    None
+    let (other, rest) = at.word()?;
+    if other == word { Some(rest) } else { None }
 }
 
 /// The place behind a lifetime.
@@ -157,14 +207,15 @@ pub fn behind_lifetime(at: Cursor<'_>) -> Option<Cursor<'_>>
 }
 
 /// The text of the name behind the place, and the place behind it.
+#[tactic(auto, unfolding(crate::specs::Units::left, crate::specs::Units::units))]
 pub fn name_at(at: Cursor<'_>) -> Option<(&String, Cursor<'_>)>
     ensures { option_map (λ p. (string_bytes p.0.now, left p.1)) result ≡ token_at name_of (left at.entry) }
 {
-    let (first, rest) = at.next()?;
-    match first.kind {
-        Seen::Other(TokenKind::Name { text, .. }) => Some((text, rest)),
-        _ => None,
+    if at.pending.is_some() {
+        return None;
     }
+    let (text, rest) = at.rest.split_name()?;
+    Some((text, Cursor::before(rest)))
 }
 
 /// Whether the keyword comes next, and the place behind it or else this one.

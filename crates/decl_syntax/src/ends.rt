@@ -6,7 +6,7 @@ ghost use Rattle.decl_syntax.specs.Reading.{Gives};
 ghost use Rattle.decl_syntax.specs.EndGrammar.{begins_end};
 ghost use Rattle.decl_syntax.specs.EndReading.{literal_of, negated_of, end_of, range_mark_of, segment_of, segment_view, segments_at, end_at, range_behind, range_at, path_tree_at};
 
-use crate::cursor::{Cursor, Seen, behind};
+use crate::cursor::{Cursor, Seen, behind, name_at};
 use crate::lists::fitted;
 use crate::stop::Stop;
 use crate::tree::{IntLit, Lit, PatKind, Path, RangePat};
@@ -101,16 +101,15 @@ fn one_token_end(alloc: Global, at: Cursor<'_>) -> Result<(Lit, Cursor<'_>), Sto
 fn segment_at(at: Cursor<'_>) -> Option<(&str, bool, Cursor<'_>)>
     ensures { option_map (λ p. (segment_view p.0.now p.1, left p.2)) result ≡ token_at segment_of (left at.entry) }
 {
-    let (first, rest) = at.next()?;
-    let Seen::Other(kind) = first.kind else {
-        return None;
-    };
-    match kind {
-        TokenKind::Name { text, .. } => Some((text.as_str(), true, rest)),
-        TokenKind::Word(Word::Crate) => Some(("crate", false, rest)),
-        TokenKind::Word(Word::SelfValue) => Some(("self", false, rest)),
-        TokenKind::Word(Word::Super) => Some(("super", false, rest)),
-        TokenKind::Word(Word::SelfType) => Some(("Self", false, rest)),
+    if let Some((text, rest)) = name_at(at) {
+        return Some((text.as_str(), true, rest));
+    }
+    let (word, rest) = at.word()?;
+    match word {
+        Word::Crate => Some(("crate", false, rest)),
+        Word::SelfValue => Some(("self", false, rest)),
+        Word::Super => Some(("super", false, rest)),
+        Word::SelfType => Some(("Self", false, rest)),
         _ => None,
     }
 }
@@ -200,14 +199,13 @@ pub fn begins_end(at: Cursor<'_>) -> bool
 fn range_mark_at(at: Cursor<'_>) -> Option<(bool, Cursor<'_>)>
     ensures { option_map (λ p. (p.0, left p.1)) result ≡ token_at range_mark_of (left at.entry) }
 {
-    let (first, rest) = at.next()?;
-    match first.kind {
-        Seen::Mark(Mark::TwoDots) => Some((false, rest)),
-        Seen::Mark(Mark::DotsEqual) => Some((true, rest)),
-        Seen::Other(TokenKind::Mark(Mark::TwoDots)) => Some((false, rest)),
-        Seen::Other(TokenKind::Mark(Mark::DotsEqual)) => Some((true, rest)),
-        _ => None,
-    }
+    let closed = match at.mark()? {
+        Mark::TwoDots => false,
+        Mark::DotsEqual => true,
+        _ => return None,
+    };
+    let (_, rest) = at.step()?;
+    Some((closed, rest))
 }
 
 /// A range of these ends.
