@@ -14,7 +14,7 @@ use Rattle.match_model.specs.Constructors.{MCtor, VariantCtor}
 use Rattle.match_model.specs.Pieces.{each_below}
 use Rattle.match_model.proofs.Basics.{untrue, nat_equal, nat_itself, or_left, or_right, either}
 use Rattle.constructor_sets.specs.Columns.{writes}
-use Rattle.constructor_sets.specs.Numbered.{variant_of, is_listed, AreNumbers}
+use Rattle.constructor_sets.specs.Numbered.{variant_of, is_listed, AreOnce, AreNumbers}
 use Rattle.constructor_sets.proofs.Kept.{kept_once}
 
 -- a number at a place is listed, and one that stands nowhere is not
@@ -67,20 +67,22 @@ variants_listed [] k = refl
 variants_listed (VariantCtor j ∷ hs) k = ap (λ b. nat_eq j k || b) (variants_listed hs k)
 variants_listed (_ ∷ hs) k = variants_listed hs k
 
-pub numbers_once : (heads : List MCtor) (found sorted once : List ℕ) → found ≡ filter_map variant_of heads → IsPermutation found sorted → IsSorted nat_cmp sorted → once ≡ dedup eqb sorted → AreNumbers heads once
-numbers_once heads found sorted once e moved order d =
-    subst (AreNumbers heads) (sym d)
+pub numbers_once : (numbers sorted once : List ℕ) → IsPermutation numbers sorted → IsSorted nat_cmp sorted → once ≡ dedup eqb sorted → AreOnce numbers once
+numbers_once numbers sorted once moved order d =
+    subst (AreOnce numbers) (sym d)
     (record {
-      each = λ k.
-          kept_once eqb (λ j. nat_eq j k) (λ x y h. same x y k h) sorted
-          ∙ sym (list_any-IsPermutation (λ j. nat_eq j k) found sorted moved)
-          ∙ ap (λ xs. is_listed xs k) e
-          ∙ variants_listed heads k;
+      each = λ k. kept_once eqb (λ j. nat_eq j k) (λ x y h. same x y k h) sorted ∙ sym (list_any-IsPermutation (λ j. nat_eq j k) numbers sorted moved);
       ascending = AllPairs-from_increasing (dedup eqb sorted) (IsStrictlyIncreasing-dedup sorted order);
     })
   where
     same : (x y k : ℕ) → eqb x y ≡ true → nat_eq x k ≡ nat_eq y k
     same x y k h = grind (arith, nat_tests)
+
+pub heads_numbers : (heads : List MCtor) (found once : List ℕ) → found ≡ filter_map variant_of heads → AreOnce found once → AreNumbers heads once
+heads_numbers heads found once e a = record {
+  each = λ k. a.each k ∙ ap (λ xs. is_listed xs k) e ∙ variants_listed heads k;
+  ascending = a.ascending;
+}
 
 -- two ascending lists of the same numbers are the same
 

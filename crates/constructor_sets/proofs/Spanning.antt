@@ -304,14 +304,13 @@ pushed pieces [] (y ∷ ys) h s a b = absurd a
 pushed pieces (x ∷ xs) [] h s a b = absurd a
 pushed pieces (x ∷ xs) (y ∷ ys) h s (a, rest) b = (a, pushed pieces xs ys h s rest b)
 
-pub more_spans : (pieces heads : List Ctor) (i : ℕ) (x : Ctor) (old new : List Span) (s : Span) → i < length heads → x ≡ get_or heads i x → new ≡ old ++ s ∷ [] →
-    AreSpans (plain_ctors pieces) (plain_ctors (take i heads)) (map plain_span old) → IsSpan (plain_ctors pieces) (plain_ctor x) (plain_span s) →
-    AreSpans (plain_ctors pieces) (plain_ctors (take (i + 1) heads)) (map plain_span new)
+pub more_spans : (pieces : List MCtor) (heads : List Ctor) (i : ℕ) (x : Ctor) (old new : List Span) (s : Span) → i < length heads → x ≡ get_or heads i x → new ≡ old ++ s ∷ [] →
+    AreSpans pieces (plain_ctors (take i heads)) (map plain_span old) → IsSpan pieces (plain_ctor x) (plain_span s) → AreSpans pieces (plain_ctors (take (i + 1) heads)) (map plain_span new)
 more_spans pieces heads i x old new s l e n a b =
     let grown : take (i + 1) heads ≡ take i heads ++ x ∷ [] = grind (arith, common_steps) in
-    subst (λ hs. AreSpans (plain_ctors pieces) hs (map plain_span new)) (sym (ap plain_ctors grown ∙ map-append plain_ctor (take i heads) (x ∷ [])))
-    (subst (AreSpans (plain_ctors pieces) (plain_ctors (take i heads) ++ plain_ctor x ∷ [])) (sym (ap (map plain_span) n ∙ map-append plain_span old (s ∷ [])))
-    (pushed (plain_ctors pieces) (plain_ctors (take i heads)) (map plain_span old) (plain_ctor x) (plain_span s) a b))
+    subst (λ hs. AreSpans pieces hs (map plain_span new)) (sym (ap plain_ctors grown ∙ map-append plain_ctor (take i heads) (x ∷ [])))
+    (subst (AreSpans pieces (plain_ctors (take i heads) ++ plain_ctor x ∷ [])) (sym (ap (map plain_span) n ∙ map-append plain_span old (s ∷ [])))
+    (pushed pieces (plain_ctors (take i heads)) (map plain_span old) (plain_ctor x) (plain_span s) a b))
 
 -- where each head has each piece
 

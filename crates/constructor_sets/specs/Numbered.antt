@@ -21,6 +21,11 @@ abbrev pub variant_of : MCtor → Option ℕ
 variant_of (VariantCtor k) = Some k
 variant_of _ = None
 
+-- the second list has the numbers of the first, ascending
+pub record AreOnce (numbers once : List ℕ) : Type 0 where
+  pub each : (k : ℕ) → is_listed once k ≡ is_listed numbers k
+  pub ascending : AllPairs (λ j k. j < k) once
+
 -- the numbers of the variants that stand in the column, ascending
 pub record AreNumbers (heads : List MCtor) (numbers : List ℕ) : Type 0 where
   pub each : (k : ℕ) → is_listed numbers k ≡ list_any (writes (VariantCtor k)) heads

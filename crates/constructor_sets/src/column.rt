@@ -13,7 +13,7 @@ use crate::numbers::found_numbers;
 use crate::set_pieces::set_pieces;
 use crate::spans::spans_by_set;
 use crate::split::piece_state;
-use crate::variants::found_variants;
+use crate::variants::present_variants;
 use crate::{PieceState, PresentPieces};
 use no_memory::NoMemory;
 use pat_context::{Ctor, CtorSet, PatCx, Validity};
@@ -38,8 +38,32 @@ pub fn present<'a, C: PatCx>(
         (record { type = ty; sure = is_sure validity }) (plain_ctors heads.now)
         (plain_ctors p.ctors.items) p.missing (plain_ctors p.gaps.items) (map plain_span p.spans.items)) }
 {
+    match cx.set(ty) {
+        CtorSet::Variants { count, later } => present_variants(
+            alloc, cx, ty, validity, count, later, heads,
+        ),
+        set => present_pieces(alloc, cx, ty, validity, set, heads),
+    }
+}
+
+// The same by the pieces of the set.
+fn present_pieces<'a, C: PatCx>(
+    alloc: Global,
+    cx: &C,
+    ty: C::Ty,
+    validity: Validity,
+    set: CtorSet,
+    heads: &[Ctor<'a>],
+) -> Result<PresentPieces<'a>, NoMemory>
+    requires ty { C.is_type cx.now ty }
+    requires set { plain_set set ≡ (C.context cx.now).set_of ty }
+    requires heads { All (λ h. IsTrue (is_sharp_head ((C.context cx.now).set_of ty) h)) (plain_ctors heads.now) }
+    ensures { IfOk result (λ p. ArePresent (C.is_value cx.now) (C.context cx.now)
+        (record { type = ty; sure = is_sure validity }) (plain_ctors heads.now)
+        (plain_ctors p.ctors.items) p.missing (plain_ctors p.gaps.items) (map plain_span p.spans.items)) }
+{
     let found = found_by_set(alloc, cx, ty, validity, heads)?;
-    let spans = spans_by_set(alloc, cx.set(ty), &found.ctors, heads)?;
+    let spans = spans_by_set(alloc, set, &found.ctors, heads)?;
     Ok(PresentPieces {
         ctors: found.ctors,
         missing: found.missing,
@@ -74,9 +98,6 @@ fn found_by_set<'a, C: PatCx>(
         (plain_ctors f.ctors.items) f.missing (plain_ctors f.gaps.items)) }
 {
     match cx.set(ty) {
-        CtorSet::Variants { count, later } => found_variants(
-            alloc, cx, ty, validity, count, later, heads,
-        ),
         CtorSet::Numbers { first, second } => {
             found_numbers(alloc, cx, ty, validity, &first, &second, heads)
         }

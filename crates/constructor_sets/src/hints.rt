@@ -65,7 +65,6 @@ fn keep(places: &mut [usize], key: usize, place: usize) {
 // A key that heads with the same low end share.
 fn low_key(head: &Ctor) -> usize {
     match head {
-        Ctor::Variant(k) => (*k % 512) as usize,
         Ctor::Numbers(range) => end_key(&range.low),
         Ctor::Text(text) => text.len() % KEYS,
         _ => 0,

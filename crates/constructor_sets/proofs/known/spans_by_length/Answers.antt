@@ -9,7 +9,7 @@ loop-head-init c = (search rules, none_known (plain_ctors c.args.pieces.now) c.i
 
 pub loop-head-preserved : goal.loop-head-preserved
 loop-head-preserved c = (
-  more_spans c.args.pieces.now c.args.heads.now c.loop-head.head-index c.head-item.result c.loop-head.spans.items c.push.new.self.items c.known_or_found-span.result
+  more_spans (plain_ctors c.args.pieces.now) c.args.heads.now c.loop-head.head-index c.head-item.result c.loop-head.spans.items c.push.new.self.items c.known_or_found-span.result
       c.loop-head-test.true c.head-item.is c.in_ok-push.ensures.items c.loop-head.invariant.0 c.known_or_found-span.ensures.span,
   c.known_or_found-span.ensures.known,
 )

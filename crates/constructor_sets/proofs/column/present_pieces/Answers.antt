@@ -6,7 +6,7 @@ use Rattle.constructor_sets.specs.Columns.{plain_ctors}
 use Rattle.constructor_sets.specs.Spans.{Precedes, AreHadByAll}
 use Rattle.constructor_sets.proofs.Sharp.{found_rise, sharp_written}
 use Rattle.constructor_sets.proofs.ArrayHeads.{found_had}
-use Rattle.constructor_sets.proofs.column.present.Goals as goal
+use Rattle.constructor_sets.proofs.column.present_pieces.Goals as goal
 
 pub spans_by_set-requires-clause-rising : goal.spans_by_set-requires-clause-rising
 spans_by_set-requires-clause-rising g c =
@@ -26,4 +26,4 @@ spans_by_set-requires-clause-arrays g c =
     λ n e.
     subst (λ (xs : List Ctor). AreHadByAll (plain_ctors xs) (plain_ctors c.args.heads.now)) (sym c.deref.ensures.value)
     (found_had (g.C.PatCx.is_value cx) (g.C.PatCx.context cx) (record { type = c.args.ty; sure = is_sure c.args.validity }) (plain_ctors c.args.heads.now) (plain_ctors found.ctors.items) found.missing (plain_ctors found.gaps.items)
-    n (sym c.set.ensures ∙ e) c.requires.heads c.in_ok-found.ensures)
+    n (sym c.requires.set ∙ e) c.requires.heads c.in_ok-found.ensures)
