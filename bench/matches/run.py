@@ -84,6 +84,20 @@ def touching_rows(n):
     return function("&[u32]", arms + ["_"])
 
 
+def deep_tuples(n):
+    """60 tuples in one another with ranges in each. At each place there are N of them, and none touch."""
+    parameter = "u32"
+    for _ in range(60):
+        parameter = "(" + "u32, " * 16 + f"{parameter})"
+    arms = []
+    for i in range(n):
+        pattern = part = f"{3 * i}..={3 * i + 1}"
+        for _ in range(60):
+            pattern = "(" + f"{part}, " * 16 + f"{pattern})"
+        arms.append(pattern)
+    return function(parameter, arms + ["_"])
+
+
 def touching_behind_references(n):
     """Ranges beside a flag behind references, in alternatives."""
     arms = [f"(({touch(2 * i)} | {touch(2 * i + 1)}), {'true' if i % 2 else '_'})" for i in range(n)]
@@ -154,6 +168,7 @@ KINDS = [
     ("touching beside others", touching_beside_others, 500, True),
     ("touching rows", touching_rows, 64, False),
     ("touching behind references", touching_behind_references, 1000, True),
+    ("deep tuples of ranges", deep_tuples, 16, True),
     ("alternatives in one arm", alternatives, 2000, True),
     ("each arm guarded", guarded, 2000, True),
     ("flags on the diagonal", diagonal, 64, False),

@@ -1,11 +1,11 @@
 -- The number beside a range lies where the patterns of its row say.
-use Rattle.std.proofs.Common.{◌≡◌, ◌≢◌, inl, inr, ℕ, zero, suc, ℤ, pos, Bool, true, false, not, ◌&&◌, List, [], ◌∷◌, length, slice_get, Option, None, Some, refl, sym, ap, subst, ◌∙◌, arith, nat_eq, if◌then◌else◌}
-use Rattle.std.specs.Prelude.{⊤, IsTrue, int_le}
+use Rattle.std.proofs.Common.{◌≡◌, ◌≢◌, inl, inr, ℕ, zero, suc, ℤ, pos, Bool, true, false, ◌&&◌, List, [], ◌∷◌, length, slice_get, Option, None, Some, refl, sym, ap, subst, ◌∙◌, arith, if◌then◌else◌}
+use Rattle.std.specs.Prelude.{int_le}
 use Rattle.std.proofs.lemmas.Int.{ints}
 use Rattle.std.proofs.lemmas.Bool.Decides.{nat_tests}
-use Rattle.match_model.specs.Values.{MValue, Flag, Num, Text, Node, Point, Row, Later, Thing, Unseen, values_list, parts_of}
-use Rattle.match_model.specs.Numbers.{MEnd, Free, At, MRange, in_range, is_from, is_up_to, closed}
-use Rattle.match_model.specs.Constructors.{MCtor, SingleCtor, PointCtor, LaterCtor, OtherTextCtor, WildCtor, OrCtor, VariantCtor, FlagCtor, NumbersCtor, TextCtor, RowCtor, FixedShape, LongerShape, builds, parts_met, least_held, greatest_held}
+use Rattle.match_model.specs.Values.{MValue, Flag, Num, Node, Row, values_list, parts_of}
+use Rattle.match_model.specs.Numbers.{Free, At, MRange, in_range, is_from, is_up_to, closed}
+use Rattle.match_model.specs.Constructors.{MCtor, SingleCtor, PointCtor, OrCtor, VariantCtor, FlagCtor, NumbersCtor, RowCtor, FixedShape, builds, parts_met, least_held, greatest_held}
 use Rattle.match_model.specs.ArenaPatterns.{MDePat, ctor_of, subs_of}
 use Rattle.match_model.specs.Rows.{Head}
 use Rattle.match_model.specs.ArenaWays.{NumberedPart, numbered_from, parts_built}
@@ -16,7 +16,7 @@ use Rattle.range_split.specs.Numbers.{num_value}
 use Rattle.range_split.specs.Ends.{plain_end}
 use Rattle.range_split.specs.Ranges.{plain_range}
 use Rattle.range_split.proofs.Held.{num_held}
-use Rattle.pattern_lints.specs.Along.{matches, AlternativeAlong, PartAlong, MeetsAlong}
+use Rattle.pattern_lints.specs.Along.{matches, MeetsAlong}
 use Rattle.pattern_lints.specs.Meeting.{IsSharp}
 use Rattle.pattern_lints.specs.Beside.{own_number, own_range, number_below, number_beside, is_steady, MatchesPart, LiesBelow, LiesBeside, held_of, low_held, high_held}
 use Rattle.pattern_lints.proofs.HeadParts.{some_same}

@@ -1,12 +1,12 @@
 -- The pairs of ends that face each other, from both sides, are the pairs of ranges that overlap.
-use Rattle.std.proofs.Common.{◌≡◌, ◌≢◌, ◌<◌, ◌⊎◌, inl, inr, ℕ, ℤ, Bool, true, false, not, List, [], slice_get, Option, None, Some, refl, sym, ap, subst, ◌∙◌, arith}
+use Rattle.std.proofs.Common.{◌≡◌, ◌≢◌, ◌⊎◌, inl, inr, ℕ, ℤ, Bool, true, false, not, List, slice_get, Some, refl, sym, ap, subst, ◌∙◌, arith}
 use Rattle.std.specs.Prelude.{IsTrue, int_le}
 use Rattle.std.specs.List.{Contains}
 use Rattle.std.proofs.lemmas.Int.{ints}
 use Rattle.match_model.specs.Values.{MValue}
 use Rattle.match_model.specs.Numbers.{At}
 use Rattle.match_model.specs.Overlaps.{MOverlap}
-use Rattle.match_model.specs.ArenaPatterns.{MDeArm, MDeMatch}
+use Rattle.match_model.specs.ArenaPatterns.{MDeMatch}
 use Rattle.range_split.specs.Numbers.{num_value}
 use Rattle.pattern_lints.specs.declared.beside.Column.{Column}
 use Rattle.pattern_lints.specs.declared.ends.Side.{Side}
@@ -14,8 +14,8 @@ use Rattle.pattern_lints.specs.declared.ends.Side.TheVariants.{Low, High}
 use Rattle.pattern_lints.specs.declared.ends.RangeEnd.{RangeEnd}
 use Rattle.pattern_lints.specs.Beside.{held_of}
 use Rattle.pattern_lints.specs.Finding.{RangeView}
-use Rattle.pattern_lints.specs.Ends.{end_at, number_in, IsEnd, AreEnds, AreBounded, Faces}
-use Rattle.pattern_lints.specs.Pairing.{Adds, pair_at, IsPair, IsPairOf, IsPairIn, IsPairAcross, IsPairFrom}
+use Rattle.pattern_lints.specs.Ends.{end_at, number_in, AreEnds, AreBounded}
+use Rattle.pattern_lints.specs.Pairing.{Adds, pair_at, IsPair, IsPairIn, IsPairFrom}
 use Rattle.pattern_lints.proofs.EndList.{below-length, one-at}
 use Rattle.pattern_lints.proofs.Tries.{in-at, at-in}
 use Rattle.pattern_lints.proofs.Whole.{turned, lesser, greater, split}

@@ -1,24 +1,24 @@
 -- Overlaps of a match are overlaps of spots.
-use Rattle.std.proofs.Common.{◌≡◌, ◌≢◌, ◌<◌, ◌≤◌, ◌⊎◌, inl, inr, ℕ, zero, suc, ℤ, Bool, true, false, ◌&&◌, List, [], ◌∷◌, map, length, slice_get, Option, None, Some, refl, sym, ap, subst, ◌∙◌, arith, int_le}
+use Rattle.std.proofs.Common.{◌≡◌, ◌<◌, inl, inr, ℕ, ℤ, Bool, true, false, ◌&&◌, List, [], ◌∷◌, map, slice_get, Option, None, Some, refl, sym, ap, subst, ◌∙◌, arith, int_le}
 use Rattle.std.specs.Prelude.{IsTrue, ◌↔◌}
 use Rattle.std.specs.List.{Contains}
 use Rattle.std.proofs.lemmas.Int.{ints}
-use Rattle.match_model.specs.Values.{MValue, Num, parts_of, part_at_position}
+use Rattle.match_model.specs.Values.{MValue, Num, part_at_position}
 use Rattle.match_model.specs.Numbers.{MRange, At, is_from, is_up_to, in_range}
 use Rattle.match_model.specs.Ways.{Way, SpanMet}
 use Rattle.match_model.specs.Select.{Try, tries_from}
 use Rattle.match_model.specs.Constructors.{NumbersCtor, builds}
-use Rattle.match_model.specs.Overlaps.{MeetAt, OverlapIn, Overlaps}
+use Rattle.match_model.specs.Overlaps.{MeetAt, Overlaps}
 use Rattle.match_model.specs.ArenaPatterns.{MDePat, ctor_of, MDeArm, MDeMatch}
 use Rattle.match_model.specs.ArenaWays.{arena_ways, arena_arm, match_arms, InMatchDomain}
-use Rattle.pattern_lints.specs.Along.{AlternativeAlong, PartAlong, MeetsAlong, EndsAt, MeetTogether}
-use Rattle.pattern_lints.specs.Spots.{PartStep, Spot, spots_in}
+use Rattle.pattern_lints.specs.Along.{MeetsAlong}
+use Rattle.pattern_lints.specs.Spots.{Spot, spots_in}
 use Rattle.pattern_lints.specs.Pairs.{SpotsMeet}
 use Rattle.pattern_lints.proofs.AlongWays.{met_along, along_met, along_ends, ends_are_one}
 use Rattle.pattern_lints.proofs.Numbered.{part-there}
-use Rattle.pattern_lints.proofs.SpotLaws.{spot-ends, steps_at, IsSpot, spot-met, one-steps}
+use Rattle.pattern_lints.proofs.SpotLaws.{spot-ends, spot-met, one-steps}
 use Rattle.pattern_lints.proofs.OneSpan.{one-span}
-use Rattle.pattern_lints.proofs.Tries.{IsTryOf, try-is, way-tried}
+use Rattle.pattern_lints.proofs.Tries.{try-is, way-tried}
 
 -- ---- the number at the end of a path
 

@@ -1,5 +1,5 @@
 -- What the search has found stays found, and the places of it keep their numbers, while more is found.
-use Rattle.std.proofs.Common.{◌≡◌, ◌<◌, ℕ, zero, suc, ◌+◌, ◌-◌, Bool, true, false, not, cond, List, [], ◌∷◌, ◌++◌, map, length, take, slice_get, Option, None, Some, refl, sym, ap, subst, ◌∙◌, arith, append_assoc, append-nil, vec_len}
+use Rattle.std.proofs.Common.{◌≡◌, ◌<◌, ℕ, zero, suc, ◌+◌, ◌-◌, Bool, true, false, not, cond, List, [], ◌∷◌, ◌++◌, map, length, take, Some, refl, sym, ap, subst, ◌∙◌, arith, append_assoc, append-nil, vec_len}
 use Rattle.std.specs.List.{position_or_len}
 use Rattle.std.proofs.lemmas.List.{take_at, length_push, map-append}
 use Rattle.match_model.specs.Constructors.{MCtor, OrCtor}
@@ -8,7 +8,7 @@ use Rattle.pattern_lints.specs.declared.found.PlaceStep.{PlaceStep}
 use Rattle.pattern_lints.specs.declared.found.FoundRange.{FoundRange}
 use Rattle.pattern_lints.specs.declared.found.Finding.{Finding}
 use Rattle.pattern_lints.specs.Spots.{PartStep, Spot, step_in, steps_below, spot_below, own_spot}
-use Rattle.pattern_lints.specs.Finding.{RangeView, range_view, range_views, same_step, IsStep, IsPlace, Grows, Steps, Opens, IsNoted, AreNoted, Notes}
+use Rattle.pattern_lints.specs.Finding.{RangeView, range_view, range_views, same_step, IsStep, IsPlace, Steps, Opens, IsNoted, AreNoted, Notes}
 
 -- a first place stays first when more follows
 position-stays : {X : Type 0} (p : X → Bool) (xs ys : List X) → position_or_len p xs < length xs → position_or_len p (xs ++ ys) ≡ position_or_len p xs

@@ -1,11 +1,11 @@
 -- The numbered parts of a value: each is the part with its number, and no two that a constructor meets have one number.
-use Rattle.std.proofs.Common.{◌≡◌, ◌<◌, ◌≤◌, ℕ, zero, suc, ◌+◌, ◌-◌, Bool, true, false, List, [], ◌∷◌, ◌++◌, length, take, drop, slice_get, Option, None, Some, refl, sym, ap, subst, ◌∙◌, arith, nat_le}
-use Rattle.std.specs.Prelude.{IsTrue, ⊤}
+use Rattle.std.proofs.Common.{◌≡◌, ◌≤◌, ℕ, zero, suc, ◌+◌, ◌-◌, Bool, true, false, List, [], ◌∷◌, ◌++◌, length, take, drop, slice_get, Some, refl, sym, ap, subst, ◌∙◌, arith, nat_le}
+use Rattle.std.specs.Prelude.{⊤}
 use Rattle.std.proofs.lemmas.Bool.Decides.{nat_tests}
 use Rattle.std.proofs.lemmas.List.Elements.{All-cons, All-nil, All-head, All-tail, All-append, All-take, All-drop}
 use Rattle.std.specs.List.{All}
 use Rattle.match_model.specs.Values.{MValue, Row, parts_of, values_list}
-use Rattle.match_model.specs.Constructors.{MCtor, SingleCtor, PointCtor, LaterCtor, OtherTextCtor, WildCtor, OrCtor, VariantCtor, FlagCtor, NumbersCtor, TextCtor, RowCtor, MShape, FixedShape, LongerShape, builds, parts_met}
+use Rattle.match_model.specs.Constructors.{MCtor, RowCtor, MShape, FixedShape, LongerShape, builds, parts_met}
 use Rattle.match_model.specs.Places.{some_if}
 use Rattle.match_model.specs.ArenaWays.{NumberedPart, numbered_from, parts_built}
 

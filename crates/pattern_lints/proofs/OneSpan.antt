@@ -1,17 +1,16 @@
 -- A way of a pattern meets at most one range at a position.
-use Rattle.std.proofs.Common.{◌≡◌, ◌<◌, ◌≤◌, ◌⊎◌, inl, inr, ℕ, zero, suc, ◌+◌, Bool, true, false, List, [], ◌∷◌, ◌++◌, map, length, Option, None, Some, refl, sym, ap, subst, ◌∙◌, arith, append-nil, if◌then◌else◌}
-use Rattle.std.specs.Prelude.{⊤}
-use Rattle.std.specs.List.{Contains, flat_map}
+use Rattle.std.proofs.Common.{◌≡◌, ◌<◌, ◌≤◌, inl, inr, ℕ, suc, ◌+◌, Bool, true, false, List, [], ◌∷◌, ◌++◌, map, Option, None, Some, refl, sym, ap, subst, ◌∙◌, arith, append-nil, if◌then◌else◌}
+use Rattle.std.specs.List.{Contains}
 use Rattle.std.proofs.lemmas.List.Elements.{Contains-append_cases}
-use Rattle.match_model.specs.Values.{MValue, Num, parts_of}
+use Rattle.match_model.specs.Values.{MValue, Num}
 use Rattle.match_model.specs.Numbers.{MRange, has_one_number}
-use Rattle.match_model.specs.Ways.{Way, SpanMet, bare_way, combine, join, under, span_under, choosing}
+use Rattle.match_model.specs.Ways.{Way, SpanMet, bare_way, combine, join, under, span_under}
 use Rattle.match_model.specs.Matching.{span_way}
-use Rattle.match_model.specs.Constructors.{MCtor, SingleCtor, PointCtor, LaterCtor, OtherTextCtor, WildCtor, OrCtor, VariantCtor, FlagCtor, NumbersCtor, TextCtor, RowCtor, builds, parts_met}
+use Rattle.match_model.specs.Constructors.{MCtor, SingleCtor, PointCtor, LaterCtor, OtherTextCtor, WildCtor, OrCtor, VariantCtor, FlagCtor, NumbersCtor, TextCtor, RowCtor, builds}
 use Rattle.match_model.specs.ArenaPatterns.{MDePat, de_pat, MDePats, no_de_pats, more_de_pats, MBound, uid_of}
-use Rattle.match_model.specs.ArenaWays.{NumberedPart, numbered_from, parts_built, ways_where, with_bounds, with_spans_of, ways_by_ctor, chosen_of, arena_ways, subs_ways, arena_alternatives_ways}
+use Rattle.match_model.specs.ArenaWays.{NumberedPart, parts_built, ways_where, with_bounds, with_spans_of, ways_by_ctor, chosen_of, arena_ways, subs_ways, arena_alternatives_ways}
 use Rattle.pattern_lints.proofs.Numbered.{Ascend, ascend-built, some-true}
-use Rattle.pattern_lints.proofs.SpotLaws.{nothing-in, in-one, first-in, later-in, first-or-later, in-map, from-map}
+use Rattle.pattern_lints.proofs.SpotLaws.{nothing-in, in-one, first-in, later-in, from-map}
 
 -- no two of the ranges stand at one position
 abbrev pub OneEach : List SpanMet → Type 0

@@ -1,23 +1,21 @@
 -- Overlaps sorted by their keys, each kept once, ascend.
-use Rattle.std.proofs.Common.{◌≡◌, ◌<◌, ◌⊎◌, inl, inr, ℕ, zero, suc, ◌+◌, ℤ, Bool, true, false, not, ◌&&◌, ◌||◌, cond, List, [], ◌∷◌, map, length, get_or, slice_get, Some, refl, sym, ap, subst, ◌∙◌, arith, add-one, nat_lt, nat_eq, rules}
+use Rattle.std.proofs.Common.{◌≡◌, ◌<◌, ◌⊎◌, inl, inr, ℕ, zero, suc, ℤ, Bool, true, false, ◌&&◌, ◌||◌, cond, List, [], ◌∷◌, length, get_or, slice_get, Some, refl, sym, ap, subst, ◌∙◌, arith, add-one, nat_lt, nat_eq, rules}
 use Rattle.std.specs.Prelude.{⊤, IsTrue, ◌↔◌, int_le, int_lt}
 use Rattle.std.specs.List.{All, Contains, dedup, dedup_from}
 use Rattle.std.specs.List.Sorted.{IsPermutation, IsSortedByKey}
 use Rattle.std.specs.Ordering.{nat_cmp, is_lt, ordering_then}
 use Rattle.std.specs.declared.cmp.Ordering.{Ordering}
 use Rattle.std.proofs.lemmas.Int.{ints}
-use Rattle.std.proofs.lemmas.Bool.Decides.{nat_tests}
 use Rattle.std.proofs.lemmas.List.Elements.{All-nil, All-cons, All-head, All-tail}
 use Rattle.std.proofs.lemmas.List.Filters.{All-dedup}
 use Rattle.std.proofs.lemmas.List.Sorted.{IsPermutation-sym, IsPermutation-map, Contains-permutation}
 use Rattle.match_model.specs.Overlaps.{MOverlap, overlap_before}
-use Rattle.range_split.specs.declared.num.Num.{Num}
 use Rattle.range_split.specs.Numbers.{signed, num_value}
 use Rattle.range_split.specs.contracts.num.NumPartialEq.TheImpl as num_eq
 use Rattle.witnesses.specs.declared.judgement.Overlap.{Overlap}
 use Rattle.witnesses.specs.contracts.judgement.OverlapPartialEq.TheImpl as overlap_eq
 use Rattle.pattern_lints.specs.Views.{plain_overlap, plain_overlaps, IsInOrder}
-use Rattle.pattern_lints.proofs.SpotLaws.{nothing-in, first-in, later-in, first-or-later}
+use Rattle.pattern_lints.proofs.SpotLaws.{first-in, later-in, first-or-later}
 use Rattle.pattern_lints.proofs.EndOrder.{number_cmp, number_key, number-order, by-first, before-by, by-before, true-is, is-true, le-trans}
 
 -- ---- equal overlaps

@@ -1,5 +1,5 @@
 -- Overlaps are gathered pair by pair.
-use Rattle.std.proofs.Common.{◌≡◌, ◌≢◌, ◌<◌, ◌≤◌, ◌⊎◌, inl, inr, ℕ, zero, suc, ◌+◌, ℤ, Bool, List, [], ◌∷◌, ◌++◌, map, length, slice_get, Some, refl, sym, ap, subst, ◌∙◌, arith}
+use Rattle.std.proofs.Common.{◌≡◌, ◌≢◌, ◌<◌, ◌≤◌, ◌⊎◌, inl, inr, ℕ, ◌+◌, ℤ, Bool, List, [], ◌∷◌, ◌++◌, length, slice_get, Some, refl, sym, ap, subst, ◌∙◌, arith}
 use Rattle.std.specs.List.{Contains}
 use Rattle.std.proofs.lemmas.List.Elements.{Contains-append_left, Contains-push, Contains-push_cases}
 use Rattle.match_model.specs.Values.{MValue}
@@ -7,15 +7,15 @@ use Rattle.match_model.specs.Numbers.{At}
 use Rattle.match_model.specs.Overlaps.{MOverlap, MeetAt}
 use Rattle.match_model.specs.Contexts.{Context}
 use Rattle.match_model.specs.WellTyped.{IsWellTyped, IsTyped}
-use Rattle.match_model.specs.ArenaPatterns.{MDePat, MDeArm, MDeMatch}
+use Rattle.match_model.specs.ArenaPatterns.{MDeArm, MDeMatch}
 use Rattle.range_split.specs.Numbers.{num_value}
 use Rattle.pattern_lints.specs.declared.ends.Side.{Side}
 use Rattle.pattern_lints.specs.declared.ends.Side.TheVariants.{Low, High}
 use Rattle.pattern_lints.specs.declared.ends.RangeEnd.{RangeEnd}
 use Rattle.pattern_lints.specs.Along.{EndsAt, Touching, MeetTogether}
-use Rattle.pattern_lints.specs.Spots.{Spot, spots_in}
-use Rattle.pattern_lints.specs.Finding.{RangeView, AreFoundIn}
-use Rattle.pattern_lints.specs.Ends.{IsEnd, AreEnds, Faces, IsRun, across}
+use Rattle.pattern_lints.specs.Spots.{spots_in}
+use Rattle.pattern_lints.specs.Finding.{RangeView}
+use Rattle.pattern_lints.specs.Ends.{IsEnd, Faces, IsRun, across}
 use Rattle.pattern_lints.specs.Pairing.{Adds, IsInArm, pair_at, IsPair, IsPairAcross, IsPairFacing, IsPairFrom}
 use Rattle.pattern_lints.proofs.SpotLaws.{spot-ends}
 use Rattle.pattern_lints.proofs.Tries.{in-at, at-in}

@@ -1,14 +1,14 @@
 -- Spots are the ends of paths, and a value that is met along a path tells the steps to its spot.
-use Rattle.std.proofs.Common.{◌≡◌, ◌<◌, ◌⊎◌, inl, inr, ℕ, zero, suc, ◌+◌, Bool, true, false, List, [], ◌∷◌, ◌++◌, map, length, get_or, slice_get, Option, None, Some, refl, sym, ap, subst, ◌∙◌, arith, zero-add, nat_eq, if◌then◌else◌}
+use Rattle.std.proofs.Common.{◌≡◌, ◌<◌, ◌⊎◌, inl, inr, ℕ, zero, suc, ◌+◌, Bool, true, false, List, [], ◌∷◌, map, length, slice_get, Option, None, Some, refl, sym, ap, subst, ◌∙◌, arith, zero-add, if◌then◌else◌}
 use Rattle.std.specs.List.{Contains}
 use Rattle.std.proofs.lemmas.Bool.Decides.{nat_tests}
 use Rattle.std.proofs.lemmas.List.Elements.{Contains-append_left, Contains-append_right, Contains-append_cases}
-use Rattle.match_model.specs.Values.{MValue, Node, Row, Point, Later, Flag, Num, Text, parts_of, part_at_position}
+use Rattle.match_model.specs.Values.{MValue, Node, Row, Point, Later, Flag, Num, Text, parts_of}
 use Rattle.match_model.specs.Numbers.{MRange, has_one_number}
-use Rattle.match_model.specs.Constructors.{MCtor, SingleCtor, PointCtor, LaterCtor, OtherTextCtor, WildCtor, FlagCtor, TextCtor, VariantCtor, NumbersCtor, RowCtor, OrCtor, FixedShape, LongerShape, builds, parts_met}
-use Rattle.match_model.specs.ArenaPatterns.{MDePat, de_pat, MDePats, no_de_pats, more_de_pats, de_pats_list, subs_of, ctor_of, at_of}
-use Rattle.match_model.specs.ArenaWays.{NumberedPart, numbered_from, parts_built}
-use Rattle.pattern_lints.specs.Along.{RangeMet, AlternativeAlong, PartAlong, MeetsAlong, EndsAt}
+use Rattle.match_model.specs.Constructors.{MCtor, SingleCtor, PointCtor, LaterCtor, OtherTextCtor, WildCtor, FlagCtor, TextCtor, VariantCtor, NumbersCtor, RowCtor, OrCtor, builds, parts_met}
+use Rattle.match_model.specs.ArenaPatterns.{MDePat, de_pat, MDePats, no_de_pats, more_de_pats, de_pats_list, ctor_of}
+use Rattle.match_model.specs.ArenaWays.{NumberedPart, numbered_from}
+use Rattle.pattern_lints.specs.Along.{RangeMet, PartAlong, MeetsAlong, EndsAt}
 use Rattle.pattern_lints.specs.Spots.{PartStep, Spot, step_in, steps_below, spot_below, several_of, own_spot, spots_in, spots_below}
 use Rattle.pattern_lints.proofs.Numbered.{some-true, part-there}
 

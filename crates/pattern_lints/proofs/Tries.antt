@@ -1,11 +1,10 @@
 -- What is tried of a match: each way of each arm.
-use Rattle.std.proofs.Common.{◌≡◌, ◌<◌, ◌⊎◌, inl, inr, ℕ, zero, suc, ◌+◌, Bool, List, [], ◌∷◌, ◌++◌, map, length, slice_get, Option, None, Some, refl, sym, ap, subst, ◌∙◌, arith, zero-add}
+use Rattle.std.proofs.Common.{◌≡◌, ◌⊎◌, inl, inr, ℕ, zero, suc, ◌+◌, Bool, List, [], ◌∷◌, ◌++◌, map, length, slice_get, Some, refl, sym, ap, subst, ◌∙◌, arith, zero-add}
 use Rattle.std.specs.List.{Contains}
 use Rattle.match_model.specs.Values.{MValue}
 use Rattle.match_model.specs.Ways.{Way}
-use Rattle.match_model.specs.Match.{ArmWays}
 use Rattle.match_model.specs.Select.{Try, try_of, tries_from}
-use Rattle.match_model.specs.ArenaPatterns.{MDePat, MDeArm}
+use Rattle.match_model.specs.ArenaPatterns.{MDeArm}
 use Rattle.match_model.specs.ArenaWays.{arena_arm, arena_ways}
 use Rattle.pattern_lints.proofs.SpotLaws.{nothing-in, first-in, later-in, first-or-later}
 

@@ -1,8 +1,8 @@
 -- A walk over a pattern comes to all of its spots.
-use Rattle.std.proofs.Common.{◌≡◌, ◌<◌, ◌≤◌, ℕ, zero, suc, ◌+◌, take, Bool, true, false, List, [], ◌∷◌, ◌++◌, map, length, get_or, Option, None, Some, refl, sym, ap, subst, ◌∙◌, arith, append_assoc, append-nil, zero-add}
+use Rattle.std.proofs.Common.{◌≡◌, ◌<◌, ◌≤◌, ℕ, zero, suc, ◌+◌, take, List, [], ◌∷◌, ◌++◌, map, length, get_or, None, refl, sym, ap, subst, ◌∙◌, arith, append_assoc, append-nil, zero-add}
 use Rattle.std.proofs.lemmas.List.{take_all}
 use Rattle.match_model.specs.Constructors.{MCtor}
-use Rattle.match_model.specs.ArenaPatterns.{MDePat, MDePats, no_de_pats, more_de_pats, de_pats_of}
+use Rattle.match_model.specs.ArenaPatterns.{MDePat, de_pats_of}
 use Rattle.pattern_arena.specs.declared.pattern.DePat.{DePat, out-DePat}
 use Rattle.pattern_arena.specs.Trees.{tree, placed_ctor, placed_subs}
 use Rattle.pattern_arena.proofs.TreeFacts.{tree_out}

@@ -1,19 +1,16 @@
 -- What the search for ranges and pairs has found are the overlaps of the match.
-use Rattle.std.proofs.Common.{◌≡◌, ◌≢◌, ◌<◌, ◌⊎◌, inl, inr, ℕ, ℤ, Bool, true, false, List, [], length, slice_get, Some, refl, sym, ap, subst, ◌∙◌, arith, nat_lt, if◌then◌else◌}
-use Rattle.std.specs.Prelude.{IsTrue, ◌↔◌}
+use Rattle.std.proofs.Common.{◌≡◌, ◌≢◌, ◌<◌, ◌⊎◌, inl, inr, ℕ, ℤ, Bool, true, false, List, [], slice_get, Some, refl, sym, ap, subst, ◌∙◌, arith, nat_lt, if◌then◌else◌}
 use Rattle.std.specs.List.{Contains}
 use Rattle.std.proofs.lemmas.Bool.Decides.{nat_tests}
 use Rattle.match_model.specs.Values.{MValue}
-use Rattle.match_model.specs.Numbers.{MRange, At}
-use Rattle.match_model.specs.Overlaps.{MeetAt, MOverlap, Overlaps, IsOverlapList}
+use Rattle.match_model.specs.Overlaps.{MeetAt, MOverlap, IsOverlapList}
 use Rattle.match_model.specs.ArenaPatterns.{MDePat, MDeArm, MDeMatch}
 use Rattle.match_model.specs.ArenaWays.{match_arms, InMatchDomain}
-use Rattle.pattern_lints.specs.declared.found.PlaceStep.{PlaceStep}
 use Rattle.pattern_lints.specs.Along.{MeetTogether}
-use Rattle.pattern_lints.specs.Spots.{Spot, spots_in}
-use Rattle.pattern_lints.specs.Finding.{RangeView, IsNoted, IsPlace, AreFound, AreFoundIn}
+use Rattle.pattern_lints.specs.Spots.{spots_in}
+use Rattle.pattern_lints.specs.Finding.{RangeView, IsPlace, AreFoundIn}
 use Rattle.pattern_lints.specs.Pairs.{SpotsMeet}
-use Rattle.pattern_lints.specs.Pairing.{Adds, IsInArm, TouchesAt, pair_at, IsPair, IsPairOf, IsPairIn}
+use Rattle.pattern_lints.specs.Pairing.{Adds, IsInArm, pair_at, IsPairIn}
 use Rattle.pattern_lints.specs.Views.{IsInOrder}
 use Rattle.pattern_lints.proofs.Noting.{one-place}
 use Rattle.pattern_lints.proofs.SpotLaws.{nothing-in}

@@ -1,5 +1,5 @@
 -- What stands beside a range: the number of another part of the value (our own choice).
-use Rattle.std.specs.Prelude.{⊤, ◌≡◌, ℕ, zero, suc, ℤ, pos, Bool, true, false, List, [], ◌∷◌, length, slice_get, Option, None, Some, IsTrue, int_le, if◌then◌else◌}
+use Rattle.std.specs.Prelude.{⊤, ◌≡◌, ℕ, zero, suc, ℤ, pos, Bool, true, false, List, [], ◌∷◌, length, slice_get, None, Some, IsTrue, int_le, if◌then◌else◌}
 use Rattle.match_model.specs.Values.{MValue, Flag, Num, Node, Row, values_list, parts_of}
 use Rattle.match_model.specs.Numbers.{MEnd, Free, At, MRange, in_range, closed}
 use Rattle.match_model.specs.Constructors.{MCtor, SingleCtor, PointCtor, VariantCtor, FlagCtor, NumbersCtor, RowCtor, FixedShape, least_held, greatest_held}

@@ -8,7 +8,7 @@ use Rattle.range_split.specs.Ranges.{plain_range}
 use Rattle.pattern_lints.specs.declared.found.PlaceStep.{PlaceStep}
 use Rattle.pattern_lints.specs.declared.found.FoundRange.{FoundRange}
 use Rattle.pattern_lints.specs.declared.found.Finding.{Finding}
-use Rattle.pattern_lints.specs.Spots.{PartStep, Spot, spots_in, spot_below, steps_below}
+use Rattle.pattern_lints.specs.Spots.{PartStep, Spot, spots_in, steps_below}
 
 -- a range that was found: its arm, the path to it, its offset, the range, and the number of its place
 pub record RangeView : Type 0 where

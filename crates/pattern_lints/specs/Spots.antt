@@ -1,6 +1,5 @@
 -- Where ranges of more than one number stand in a pattern, and at which place of the values each does.
-use Rattle.std.specs.Prelude.{ℕ, suc, Bool, true, false, List, [], ◌∷◌, ◌++◌, map, Option, None, Some, if◌then◌else◌}
-use Rattle.match_model.specs.Values.{MValue, Node, Row}
+use Rattle.std.specs.Prelude.{ℕ, suc, List, [], ◌∷◌, ◌++◌, map, Option, None, Some, if◌then◌else◌}
 use Rattle.match_model.specs.Numbers.{MRange, has_one_number}
 use Rattle.match_model.specs.Constructors.{MCtor, VariantCtor, NumbersCtor, RowCtor, OrCtor}
 use Rattle.match_model.specs.ArenaPatterns.{MDePat, de_pat, MDePats, no_de_pats, more_de_pats}

@@ -2,7 +2,7 @@
 //
 // Two ranges that end and begin at one number cannot meet where their rows differ in another part, as `(0, 0..=5)` and
 // `(1, 5..=9)` do. A column is such a part, and the number of a value there is its own, or that of its variant.
-ghost use Rattle.std.specs.Prelude.{◌≡◌, [], ◌∷◌, ℤ, pos, IsTrue, int_le};
+ghost use Rattle.std.specs.Prelude.{◌≡◌, ◌∷◌, ℤ, pos, IsTrue, int_le};
 ghost use Rattle.match_model.specs.Numbers.{Free, closed, in_range};
 ghost use Rattle.pat_context.specs.Views.{plain_ctor};
 ghost use Rattle.pattern_arena.specs.Trees.{tree};

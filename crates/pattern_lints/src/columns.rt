@@ -1,9 +1,10 @@
 // Which column tells the rows of the ranges of a place apart.
 //
-// Whichever column is taken, the same overlaps are found: it says only how many pairs of ranges are asked. Some ranges
-// of a place, spread over all of them, are compared, and the column is taken in which most neighbours have no common
-// number.
+// Whichever column is taken, the same overlaps are found: it says only how many pairs of ranges are asked. One is looked
+// for only at places where more pairs touch than there are ranges. Some ranges of a place, spread over all of them, are
+// compared, and the column is taken in which most neighbours have no common number.
 use crate::beside::{Column, is_steady, numbers_beside};
+use crate::ends::RangeEnd;
 use crate::found::FoundRange;
 use crate::places::{is_or, nth};
 use no_memory::NoMemory;
@@ -26,6 +27,8 @@ const TRIED: usize = 64;
 #[derive(Drop)]
 struct Crowd {
     count: usize,
+    // How many pairs of them touch.
+    pairs: usize,
     // How many of them were looked at.
     seen: usize,
     // The indices of those that are compared.
@@ -55,6 +58,7 @@ fn empty_crowds(alloc: Global, count: usize) -> Result<Vec<Crowd>, NoMemory> {
     for _ in 0..count {
         crowds.push(Crowd {
             count: 0,
+            pairs: 0,
             seen: 0,
             compared: Vec::new(alloc),
         })?;
@@ -71,10 +75,74 @@ fn count_ranges(crowds: &mut [Crowd], found: &[FoundRange]) {
     }
 }
 
+// Tells whether the low end stands at a place before that of the high end, or there, at a smaller number.
+fn is_passed(low: &RangeEnd, high: &RangeEnd) -> bool {
+    low.place < high.place || low.place == high.place && !high.number.is_at_most(&low.number)
+}
+
+// Tells whether the two ends are one number at one place.
+fn touch(one: &RangeEnd, other: &RangeEnd) -> bool {
+    one.place == other.place && one.number == other.number
+}
+
+// The index of the first of the low ends from the index on that is not passed by the high end.
+fn pass(lows: &[RangeEnd], from: usize, high: &RangeEnd) -> usize {
+    for i in from..lows.len() {
+        if !is_passed(&lows[i], high) {
+            return i;
+        }
+    }
+    lows.len()
+}
+
+// How many of the low ends from the index on touch the high end, up to the first that does not.
+fn count_touching(lows: &[RangeEnd], from: usize, high: &RangeEnd) -> usize {
+    let mut count: usize = 0;
+    for i in from..lows.len() {
+        if !touch(&lows[i], high) {
+            return count;
+        }
+        count = count.saturating_add(1);
+    }
+    count
+}
+
+// Counts the pairs of each place that touch; the ends are sorted by place and number.
+fn count_pairs(crowds: &mut [Crowd], highs: &[RangeEnd], lows: &[RangeEnd]) {
+    let mut at = 0;
+    let mut touching: usize = 0;
+    let mut before: Option<&RangeEnd> = None;
+    for high in highs {
+        if !before.is_some_and(|end| touch(end, high)) {
+            at = pass(lows, at, high);
+            touching = count_touching(lows, at, high);
+        }
+        if let Some(crowd) = crowds.get_mut(high.place) {
+            crowd.pairs = crowd.pairs.saturating_add(touching);
+        }
+        before = Some(high);
+    }
+}
+
+// Tells whether a column is worth while at the place.
+fn is_crowded(crowd: &Crowd) -> bool {
+    crowd.count >= CROWD && crowd.pairs > crowd.count
+}
+
+// Tells whether a column is worth while at one of the places.
+fn some_is_crowded(crowds: &[Crowd]) -> bool {
+    for crowd in crowds {
+        if is_crowded(crowd) {
+            return true;
+        }
+    }
+    false
+}
+
 // Takes the range with the index to be compared, if it is its turn.
 fn look_at(crowd: &mut Crowd, index: usize) -> Result<(), NoMemory> {
     let step = crowd.count / COMPARED;
-    if crowd.count >= CROWD && step > 0 && crowd.seen % step == 0 {
+    if is_crowded(crowd) && step > 0 && crowd.seen % step == 0 {
         crowd.compared.push(index)?;
     }
     crowd.seen = crowd.seen.saturating_add(1);
@@ -247,12 +315,14 @@ fn choose_column<'a, T: Copy>(
     Ok(best)
 }
 
-/// A column for each place of a range, by its number; where there are few ranges, none is chosen. The only error is want
-/// of memory.
+/// A column for each place of a range, by its number; none at all where no place is worth one. The ends are those of the
+/// ranges, by place and number. The only error is want of memory.
 pub(crate) fn choose_columns<'a, T: Copy>(
     alloc: Global,
     arms: &'a [CheckedArm<'a, T>],
     found: &[FoundRange],
+    highs: &[RangeEnd],
+    lows: &[RangeEnd],
 ) -> Result<Vec<Column>, NoMemory> {
     let mut columns = Vec::new(alloc);
     if found.len() < CROWD {
@@ -260,6 +330,10 @@ pub(crate) fn choose_columns<'a, T: Copy>(
     }
     let mut crowds = empty_crowds(alloc, greatest_place(found).saturating_add(1))?;
     count_ranges(&mut crowds, found);
+    count_pairs(&mut crowds, highs, lows);
+    if !some_is_crowded(&crowds) {
+        return Ok(columns);
+    }
     take_compared(&mut crowds, found)?;
     for crowd in &crowds {
         columns.push(choose_column(alloc, arms, found, &crowd.compared)?)?;

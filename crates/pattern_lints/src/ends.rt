@@ -1,5 +1,5 @@
 // The ends of ranges, in order, so that those that touch an end of the other side stand together.
-ghost use Rattle.std.specs.Prelude.{◌≡◌, map, IfOk};
+ghost use Rattle.std.specs.Prelude.{◌≡◌, [], map, IfOk};
 ghost use Rattle.pattern_arena.specs.Trees.{plain_arm, tree};
 ghost use Rattle.range_split.specs.Numbers.{num_value};
 ghost use Rattle.range_split.specs.Order.{key_by};
@@ -132,6 +132,30 @@ pub(crate) fn sorted_ends<'a, T: Copy>(
     let mut ends = ends_found(alloc, arms, found, columns, side)?;
     ends.sort_by_key(|end| key(end))?;
     Ok(ends)
+}
+
+// The same with the columns, of ends that are in order without any.
+pub(crate) fn sorted_again<'a, T: Copy>(
+    alloc: Global,
+    arms: &'a [CheckedArm<'a, T>],
+    found: &[FoundRange],
+    columns: &[Column],
+    side: Side,
+    ends: Vec<RangeEnd>,
+) -> Result<Vec<RangeEnd>, NoMemory>
+    requires found { AreFoundIn (map plain_arm arms.now) (map range_view found.now) }
+    requires ends { AreEnds side (map range_view found.now) ends.items }
+    requires bounded { AreBounded (map plain_arm arms.now) [] (map range_view found.now) ends.items }
+    requires rise { Rise ends.items }
+    ensures ends { IfOk result (λ v. AreEnds side (map range_view found.now) v.items) }
+    ensures bounded { IfOk result (λ v. AreBounded (map plain_arm arms.entry.now) columns.now
+        (map range_view found.now) v.items) }
+    ensures rise { IfOk result (λ v. Rise v.items) }
+{
+    if columns.is_empty() {
+        return Ok(ends);
+    }
+    sorted_ends(alloc, arms, found, columns, side)
 }
 
 // Tells whether the number is below the bound, or at it where that counts.

@@ -11,7 +11,7 @@ ghost use Rattle.range_split.specs.Numbers.{num_value};
 
 use crate::along::along;
 use crate::columns::choose_columns;
-use crate::ends::{RangeEnd, Side, run_across, sorted_ends};
+use crate::ends::{RangeEnd, Side, run_across, sorted_again, sorted_ends};
 use crate::found::FoundRange;
 use no_memory::NoMemory;
 use pat_context::PatCx;
@@ -136,9 +136,11 @@ pub(crate) fn all_pairs<'a, C: PatCx>(
     ensures { IfOk result (λ v. Adds (IsPairIn (C.is_value cx.now) (plain_match m.now) (map range_view found.now)) []
         (plain_overlaps v.items)) }
 {
-    let columns = choose_columns(alloc, m.arms, found)?;
-    let highs = sorted_ends(alloc, m.arms, found, &columns, Side::High)?;
-    let lows = sorted_ends(alloc, m.arms, found, &columns, Side::Low)?;
+    let high_ends = sorted_ends(alloc, m.arms, found, &[], Side::High)?;
+    let low_ends = sorted_ends(alloc, m.arms, found, &[], Side::Low)?;
+    let columns = choose_columns(alloc, m.arms, found, &high_ends, &low_ends)?;
+    let highs = sorted_again(alloc, m.arms, found, &columns, Side::High, high_ends)?;
+    let lows = sorted_again(alloc, m.arms, found, &columns, Side::Low, low_ends)?;
     let mut overlaps = Vec::new(alloc);
     add_from(cx, m, &mut overlaps, found, Side::High, &highs, &lows)?;
     add_from(cx, m, &mut overlaps, found, Side::Low, &lows, &highs)?;

@@ -3,7 +3,7 @@ ghost use Rattle.std.specs.Prelude.{◌≡◌, ◌<◌, [], true, map, option_ma
 ghost use Rattle.pat_context.specs.Views.{plain_ctor};
 ghost use Rattle.range_split.specs.Ranges.{plain_range};
 ghost use Rattle.pattern_arena.specs.Trees.{tree, plain_arm};
-ghost use Rattle.pattern_lints.specs.Spots.{PartStep, several_of, own_spot, spots_in, spot_below, step_in};
+ghost use Rattle.pattern_lints.specs.Spots.{several_of, own_spot, spots_in, spot_below, step_in};
 ghost use Rattle.pattern_lints.specs.Finding.{AreFoundIn, Notes, Opens, Steps, range_view};
 
 use crate::found::{Finding, FoundRange, PlaceStep};

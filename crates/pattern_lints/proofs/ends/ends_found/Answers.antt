@@ -1,9 +1,7 @@
-use Rattle.std.proofs.Common.{rules, refl, sym, ap, subst, ◌∙◌, ◌+◌, ◌<◌, map, length, get_or, Some, arith}
+use Rattle.std.proofs.Common.{rules, refl, sym, ap, subst, ◌∙◌, ◌+◌, map, get_or, Some, arith}
 use Rattle.range_split.specs.Ends.{plain_end}
-use Rattle.range_split.specs.Ranges.{plain_range}
 use Rattle.pattern_arena.specs.Trees.{plain_arm}
 use Rattle.pattern_lints.specs.declared.ends.RangeEnd.{RangeEnd}
-use Rattle.pattern_lints.specs.declared.found.FoundRange.{FoundRange}
 use Rattle.pattern_lints.specs.Finding.{range_view}
 use Rattle.pattern_lints.specs.Ends.{AreEndsTo, AreBounded}
 use Rattle.pattern_lints.proofs.Tries.{in-at}

@@ -1,6 +1,5 @@
-use Rattle.std.proofs.Common.{rules, ◌≡◌, ◌<◌, length, refl, sym, ap, subst, ◌∙◌, get_or, slice_get, map, Some}
+use Rattle.std.proofs.Common.{rules, get_or, map}
 use Rattle.pattern_arena.specs.Trees.{plain_arm, plain_match}
-use Rattle.range_split.specs.Numbers.{num_value}
 use Rattle.pattern_lints.specs.Finding.{range_view}
 use Rattle.pattern_lints.specs.Views.{plain_overlaps}
 use Rattle.pattern_lints.proofs.EndList.{got-at, below-mapped}

@@ -1,16 +1,14 @@
-use Rattle.std.proofs.Common.{rules, ◌≡◌, List, ℕ, sym, ap, subst, ◌∙◌, get_or, map, ◌∷◌, [], ◌++◌}
+use Rattle.std.proofs.Common.{rules, sym, ap, subst, ◌∙◌, get_or, map, ◌∷◌, []}
 use Rattle.std.proofs.lemmas.List.{map-append}
-use Rattle.match_model.specs.Overlaps.{MOverlap}
 use Rattle.pat_context.specs.Parts.{Tells}
-use Rattle.pat_context.specs.Views.{is_sure}
-use Rattle.pattern_arena.specs.Trees.{tree, plain_arm, plain_match}
+use Rattle.pattern_arena.specs.Trees.{plain_arm, plain_match}
 use Rattle.range_split.specs.Numbers.{num_value}
 use Rattle.pattern_lints.specs.Along.{Touching, MeetTogether}
 use Rattle.pattern_lints.specs.Finding.{range_view}
 use Rattle.pattern_lints.specs.Views.{plain_overlap, plain_overlaps}
 use Rattle.pattern_lints.specs.Pairing.{Adds, IsPair}
 use Rattle.pattern_lints.proofs.EndList.{mapped-at}
-use Rattle.pattern_lints.proofs.PairList.{typed-arm, arms-touch, pair-same, pair-none, pair-one}
+use Rattle.pattern_lints.proofs.PairList.{typed-arm, arms-touch, pair-none, pair-one}
 use Rattle.pattern_lints.proofs.pairs.add_pair.Goals as goal
 
 pub along-requires-clause-first : goal.along-requires-clause-first

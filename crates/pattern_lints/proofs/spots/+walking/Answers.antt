@@ -1,4 +1,4 @@
-use Rattle.std.proofs.Common.{rules, refl, sym, ap, get_or, subst, map, ◌≡◌, ◌∙◌}
+use Rattle.std.proofs.Common.{rules, refl, sym, ap, get_or, subst, map}
 use Rattle.pat_context.specs.Views.{plain_ctor}
 use Rattle.pattern_arena.specs.Trees.{tree, placed_subs}
 use Rattle.pattern_lints.specs.Spots.{spot_below, spots_in}

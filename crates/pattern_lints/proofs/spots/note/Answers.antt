@@ -1,5 +1,4 @@
-use Rattle.std.proofs.Common.{rules, refl, sym, ap, subst, option_map}
-use Rattle.match_model.specs.Numbers.{MRange}
+use Rattle.std.proofs.Common.{rules, refl, sym, subst, option_map}
 use Rattle.range_split.specs.Ranges.{plain_range}
 use Rattle.pattern_lints.specs.Spots.{own_spot}
 use Rattle.pattern_lints.specs.Finding.{Notes}
