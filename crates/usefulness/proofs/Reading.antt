@@ -1,5 +1,5 @@
 -- What is read from lists.
-use Rattle.std.proofs.Common.{◌≡◌, ◌<◌, ℕ, zero, suc, ◌+◌, List, [], ◌∷◌, ◌++◌, map, length, take, drop, get_or, Some, ap, sym, subst, ◌∙◌, arith, slice_get}
+use Rattle.std.proofs.Common.{◌≡◌, ◌<◌, ℕ, zero, suc, ◌+◌, List, [], ◌∷◌, ◌++◌, map, length, take, drop, get_or, Some, refl, ap, sym, subst, ◌∙◌, arith, slice_get}
 use Rattle.std.proofs.lemmas.List.{length-map}
 use Rattle.std.specs.List.{All}
 use Rattle.pattern_matrix.specs.declared.rows.Leaf.{Leaf}
@@ -21,6 +21,12 @@ pub got_at : {X Y : Type 0} (f : X → Y) (xs : List X) (i : ℕ) (x : X) → i 
 got_at f [] i x l e = absurd (omega (arith, l))
 got_at f (y ∷ xs) zero x l e = ap (λ z. Some (f z)) (sym e)
 got_at f (y ∷ xs) (suc i) x l e = got_at f xs i x (omega (arith, l)) e
+
+-- something stands at each number
+pub some_at : {X : Type 0} (xs : List X) (i : ℕ) → i < length xs → (x : X) × (x ≡ get_or xs i x)
+some_at [] i l = absurd (omega (arith, l))
+some_at (y ∷ xs) zero l = (y, refl)
+some_at (y ∷ xs) (suc i) l = some_at xs i (omega (arith, l))
 
 -- a column is moved to the front where it is taken from the others
 pub moved_out : {T : Type 0} (columns others : List (OpenColumn T)) (i : ℕ) (o : OpenColumn T) → i < length columns → o ≡ get_or columns i o → others ≡ take i columns ++ drop (i + 1) columns →

@@ -118,6 +118,13 @@ fn is_whole<'a, T: Copy>(leaf: &Leaf<'a, T>, span: &Span, part: &Part, row: usiz
     leaf.row == row && !writes_parts(leaf.head) && covers(span, part.first, part.end)
 }
 
+// Tells whether the leaf is one of several alternatives of its row.
+fn is_alternative<'a, T: Copy>(leaf: &Leaf<'a, T>) -> bool
+    ensures { result ≡ nat_lt 0 (length leaf.now.chosen.items) }
+{
+    leaf.chosen.len() > 0
+}
+
 // Tells whether the leaf of the row comes again: the row has no guard, and the leaf that was kept last takes whatever this
 // one takes in the part, since it is of the same row, writes no part, and has all pieces of the part.
 fn is_repeated<'a, T: Copy>(
@@ -133,6 +140,9 @@ fn is_repeated<'a, T: Copy>(
     ensures guarded { result ≡ true → asked.now.row.guarded ≡ false }
     ensures whole { result ≡ true → EndsWhole a.now spans.now part.now.first part.now.end leaf.now.row kept.now }
 {
+    if !is_alternative(leaf) {
+        return false;
+    }
     if asked.row.guarded || kept.is_empty() {
         return false;
     }
@@ -160,12 +170,12 @@ fn cut_one<'a, T: Copy>(
     ensures last { IfOk result (λ last. last ≡ true → (seen rest : List ℕ) → IsCutSoFar (is_noted reached.now) missing a.now spans.now part.now.first part.now.end seen kept.old.items
         → IsCutSoFar (is_noted reached.now) missing a.now spans.now part.now.first part.now.end (seen ++ number ∷ rest) kept.new.items) }
 {
-    let leaf = &a.leaves[number];
-    let asked = &a.rows[leaf.row];
     let span = &spans[number];
     if !meets(span, part.first, part.end) {
         return Ok(false);
     }
+    let leaf = &a.leaves[number];
+    let asked = &a.rows[leaf.row];
     if is_idle(&reached.marks, asked, leaf, a.taken.number, missing) {
         return Ok(false);
     }
@@ -173,9 +183,10 @@ fn cut_one<'a, T: Copy>(
         return Ok(false);
     }
     kept.push(number)?;
-    let whole = covers(span, part.first, part.end);
-    let last = is_last(asked, leaf, a.taken.number);
-    Ok(whole && last)
+    if !covers(span, part.first, part.end) {
+        return Ok(false);
+    }
+    Ok(is_last(asked, leaf, a.taken.number))
 }
 
 // Of the part's leaves those that are enough for each of its pieces.

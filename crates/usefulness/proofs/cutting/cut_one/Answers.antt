@@ -5,7 +5,7 @@ use Rattle.pattern_matrix.specs.Views.{plain_leaf}
 use Rattle.pattern_matrix.proofs.Getting.{got-read}
 use Rattle.usefulness.specs.States.{plain_asked, is_noted, scope_of}
 use Rattle.usefulness.specs.Cutting.{IsCutSoFar, EndsWhole}
-use Rattle.usefulness.proofs.Reading.{got_at, leaf_within}
+use Rattle.usefulness.proofs.Reading.{got_at, some_at, leaf_within}
 use Rattle.usefulness.proofs.Cuts.{step_apart, step_idle, step_kept, step_last}
 use Rattle.usefulness.proofs.Repeated.{step_repeated}
 use Rattle.usefulness.proofs.cutting.cut_one.Goals as goal
@@ -26,18 +26,18 @@ returns-then-not-meets-clause-more g c = λ e seen so_far.
     let spans = c.args.spans.now in
     let number = c.args.number in
     let kept = c.args.kept.now.items in
-    let leaf = c.index-leaf.result.now in
-    let asked = c.index-asked.result.now in
     let none : Span = record { first = 0; end = 0 } in
     let span = get_or spans number none in
     let same = c.requires.spans in
     let below = c.requires.within in
     let within : number < length a.leaves.items = omega (arith, same, below) in
-    let of_row = leaf_within (scope_of c.args.reached.now) a c.requires.apart number leaf within c.index-leaf.ensures in
-    let got_leaf = got_at plain_leaf a.leaves.items number leaf within c.index-leaf.ensures in
-    let got_row = got_at plain_asked a.rows.items leaf.row asked of_row c.index-asked.ensures in
+    let leaf = some_at a.leaves.items number within in
+    let of_row = leaf_within (scope_of c.args.reached.now) a c.requires.apart number leaf.0 within leaf.1 in
+    let asked = some_at a.rows.items leaf.0.row of_row in
+    let got_leaf = got_at plain_leaf a.leaves.items number leaf.0 within leaf.1 in
+    let got_row = got_at plain_asked a.rows.items leaf.0.row asked.0 of_row asked.1 in
     let got_span = got-read plain_span spans number none below in
-    step_apart c.args.missing a spans number (plain_leaf leaf) (plain_asked asked) (plain_span span) got_leaf got_row got_span c.args.reached.now.marks part.first part.end seen kept so_far (sym c.meets.ensures ∙ c.if-not-meets.true)
+    step_apart c.args.missing a spans number (plain_leaf leaf.0) (plain_asked asked.0) (plain_span span) got_leaf got_row got_span c.args.reached.now.marks part.first part.end seen kept so_far (sym c.meets.ensures ∙ c.if-not-meets.true)
 
 pub returns-then-is_idle-clause-more : goal.returns-then-is_idle-clause-more
 returns-then-is_idle-clause-more g c = λ e seen so_far.
@@ -80,8 +80,8 @@ returns-then-is_repeated-clause-more g c = λ e seen so_far.
     step_repeated c.args.missing a spans (scope_of c.args.reached.now) c.requires.apart number (plain_leaf leaf) (plain_asked asked) (plain_span span) got_leaf got_row got_span c.args.reached.now.marks part.first part.end seen kept so_far
     (c.is_repeated.ensures.guarded c.if-is_repeated.true) (subst (EndsWhole a spans part.first part.end leaf.row) c.as_slice.ensures.value (c.is_repeated.ensures.whole c.if-is_repeated.true))
 
-pub returns-then-whole-clause-more : goal.returns-then-whole-clause-more
-returns-then-whole-clause-more g c = λ e seen so_far.
+pub returns-clause-more : goal.returns-clause-more
+returns-clause-more g c = λ e seen so_far.
     let a = c.args.a.now in
     let part = c.args.part.now in
     let spans = c.args.spans.now in
@@ -101,8 +101,8 @@ returns-then-whole-clause-more g c = λ e seen so_far.
     subst (IsCutSoFar (is_noted c.args.reached.now) c.args.missing a spans part.first part.end (seen ++ number ∷ [])) (sym c.in_ok-push.ensures.items)
     (step_kept c.args.missing a spans number (plain_leaf leaf) (plain_asked asked) (plain_span span) got_leaf got_row got_span c.args.reached.now.marks part.first part.end seen kept so_far below (sym c.meets.ensures ∙ c.if-not-meets.false))
 
-pub returns-else-whole-clause-more : goal.returns-else-whole-clause-more
-returns-else-whole-clause-more g c = λ e seen so_far.
+pub returns-then-not-covers-clause-more : goal.returns-then-not-covers-clause-more
+returns-then-not-covers-clause-more g c = λ e seen so_far.
     let a = c.args.a.now in
     let part = c.args.part.now in
     let spans = c.args.spans.now in
@@ -122,8 +122,8 @@ returns-else-whole-clause-more g c = λ e seen so_far.
     subst (IsCutSoFar (is_noted c.args.reached.now) c.args.missing a spans part.first part.end (seen ++ number ∷ [])) (sym c.in_ok-push.ensures.items)
     (step_kept c.args.missing a spans number (plain_leaf leaf) (plain_asked asked) (plain_span span) got_leaf got_row got_span c.args.reached.now.marks part.first part.end seen kept so_far below (sym c.meets.ensures ∙ c.if-not-meets.false))
 
-pub returns-then-whole-clause-last : goal.returns-then-whole-clause-last
-returns-then-whole-clause-last g c = λ e seen rest so_far.
+pub returns-clause-last : goal.returns-clause-last
+returns-clause-last g c = λ e seen rest so_far.
     let a = c.args.a.now in
     let part = c.args.part.now in
     let spans = c.args.spans.now in
@@ -141,4 +141,4 @@ returns-then-whole-clause-last g c = λ e seen rest so_far.
     let got_row = got_at plain_asked a.rows.items leaf.row asked of_row c.index-asked.ensures in
     let got_span = got-read plain_span spans number none below in
     subst (IsCutSoFar (is_noted c.args.reached.now) c.args.missing a spans part.first part.end (seen ++ number ∷ rest)) (sym c.in_ok-push.ensures.items)
-    (step_last c.args.missing a spans number (plain_leaf leaf) (plain_asked asked) (plain_span span) got_leaf got_row got_span c.args.reached.now.marks part.first part.end seen kept so_far rest below (sym c.meets.ensures ∙ c.if-not-meets.false) (sym c.covers-whole.ensures ∙ c.if-whole.true) (sym c.is_last-last.ensures ∙ e))
+    (step_last c.args.missing a spans number (plain_leaf leaf) (plain_asked asked) (plain_span span) got_leaf got_row got_span c.args.reached.now.marks part.first part.end seen kept so_far rest below (sym c.meets.ensures ∙ c.if-not-meets.false) (sym c.covers.ensures ∙ c.if-not-covers.false) (sym c.is_last.ensures ∙ e))
