@@ -79,7 +79,8 @@ same-row a b h =
 
 pub same-matrix : (a b : KnownMatrix) → matrix_eq.ghosts.eq a b ≡ true → plain_known_matrix a ≡ plain_known_matrix b
 same-matrix a b h =
-    let k = both _ _ h in
+    let d = both _ _ h in
+    let k = both _ _ d.1 in
     let columns : map plain_known_column a.columns.items ≡ map plain_known_column b.columns.items = pointwise-map
     (λ x y. column_eq.ghosts.eq x y) plain_known_column a.columns.items b.columns.items same-column k.0 in
     let rows : map plain_known_row a.rows.items ≡ map plain_known_row b.rows.items = pointwise-map

@@ -15,14 +15,14 @@ use pat_context::{Step, Validity};
 use std::alloc::Global;
 
 // What tells a column: its place, at which the match has one type, and whether that is sure.
-#[derive(PartialEq, Eq, Hash, Drop)]
+#[derive(PartialEq, Eq, Drop)]
 pub(crate) struct KnownColumn<'a> {
     pub(crate) place: &'a [Step],
     pub(crate) validity: Validity,
 }
 
 // What tells a name that a row has caught.
-#[derive(PartialEq, Eq, Hash, Drop)]
+#[derive(PartialEq, Eq, Drop)]
 pub(crate) struct KnownName<'a> {
     pub(crate) name: &'a str,
     pub(crate) mode: Mode,
@@ -33,7 +33,7 @@ pub(crate) struct KnownName<'a> {
 }
 
 // What tells a row: its patterns by their uids, and all else.
-#[derive(PartialEq, Eq, Hash, Drop)]
+#[derive(PartialEq, Eq, Drop)]
 pub(crate) struct KnownRow<'a> {
     pub(crate) heads: Vec<Option<u64>>,
     pub(crate) arm: u32,
@@ -43,9 +43,14 @@ pub(crate) struct KnownRow<'a> {
 }
 
 // What tells a matrix.
-#[derive(PartialEq, Eq, Hash, Drop)]
+#[derive(PartialEq, Eq, Drop)]
+#[derive_where(Hash)]
 pub(crate) struct KnownMatrix<'a> {
+    // A number made of all the rest, by which alone the matrix is looked for among the others.
+    pub(crate) digest: u64,
+    #[derive_where(skip(Hash))]
     pub(crate) columns: Vec<KnownColumn<'a>>,
+    #[derive_where(skip(Hash))]
     pub(crate) rows: Vec<KnownRow<'a>>,
 }
 

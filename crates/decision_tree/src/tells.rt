@@ -6,6 +6,7 @@ ghost use Rattle.keyed_matrix.specs.Views.{plain_rows};
 ghost use Rattle.decision_tree.specs.Known.{head_uid, known_column, known_row, known_matrix};
 ghost use Rattle.decision_tree.specs.KnownViews.{plain_known_column, plain_name, plain_known_row, plain_known_matrix};
 
+use crate::digests::digest_of;
 use crate::known::{KnownColumn, KnownMatrix, KnownName, KnownRow};
 use keyed_matrix::{Caught, KeyedColumn, KeyedRow};
 use no_memory::NoMemory;
@@ -120,5 +121,10 @@ pub(crate) fn known_matrix<'a, T: Copy>(
     for row in rows {
         all.push(known_row(alloc, row)?)?;
     }
-    Ok(KnownMatrix { columns, rows: all })
+    let digest = digest_of(&columns, &all);
+    Ok(KnownMatrix {
+        digest,
+        columns,
+        rows: all,
+    })
 }

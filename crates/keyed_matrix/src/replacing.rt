@@ -13,19 +13,6 @@ use pattern_arena::{Bound, DePat};
 use smallvec::SmallVec;
 use std::alloc::Global;
 
-// Adds the heads.
-fn add_heads<'a, T: Copy>(
-    all: &mut Vec<Option<&'a DePat<'a, T>>>,
-    more: &[Option<&'a DePat<'a, T>>],
-) -> Result<(), NoMemory>
-    ensures { OnOk result (all.new.items ≡ all.old.items ++ more.now) }
-{
-    for head in more {
-        all.push(*head)?;
-    }
-    Ok(())
-}
-
 // The heads with these in place of the head with the number.
 fn replaced_heads<'a, T: Copy>(
     alloc: Global,
@@ -36,10 +23,10 @@ fn replaced_heads<'a, T: Copy>(
     requires { i < length heads.now }
     ensures { IfOk result (λ v. plain_heads v.items ≡ replaced_at i (plain_heads heads.now) (plain_heads new.now)) }
 {
-    let mut all = Vec::new(alloc);
-    add_heads(&mut all, &heads[..i])?;
-    add_heads(&mut all, new)?;
-    add_heads(&mut all, &heads[i + 1..])?;
+    let mut all = Vec::with_capacity(alloc, heads.len().saturating_add(new.len()))?;
+    all.extend_from_slice(&heads[..i])?;
+    all.extend_from_slice(new)?;
+    all.extend_from_slice(&heads[i + 1..])?;
     Ok(all)
 }
 

@@ -1,0 +1,86 @@
+// A number made of what tells a matrix, by which it is looked for: equal matrices have one, and others seldom the same.
+use crate::known::{KnownColumn, KnownName, KnownRow};
+use pat_context::Step;
+
+// The digest with one number more: an odd number near 2^64 divided by the golden ratio spreads it upwards, and the turn
+// brings that down again.
+fn mixed(digest: u64, number: u64) -> u64 {
+    (digest ^ number)
+        .wrapping_mul(0x9E37_79B9_7F4A_7C15)
+        .rotate_left(29)
+}
+
+fn step_number(step: &Step) -> u64 {
+    match step {
+        Step::Through => 1,
+        Step::Field { variant, part } => mixed(*variant as u64, *part as u64),
+        Step::Front(k) => mixed(2, *k),
+        Step::Back(k) => mixed(3, *k),
+        Step::Middle { front, back } => mixed(*front, *back),
+    }
+}
+
+// The digest with the place.
+fn with_place(digest: u64, place: &[Step]) -> u64 {
+    let mut digest = mixed(digest, place.len() as u64);
+    for step in place {
+        digest = mixed(digest, step_number(step));
+    }
+    digest
+}
+
+// The digest with the places of the names.
+fn with_names<'a>(digest: u64, names: &[KnownName<'a>]) -> u64 {
+    let mut digest = digest;
+    for name in names {
+        digest = with_place(digest, name.place);
+    }
+    digest
+}
+
+// The digest with the alternatives.
+fn with_chosen(digest: u64, chosen: &[u64]) -> u64 {
+    let mut digest = digest;
+    for uid in chosen {
+        digest = mixed(digest, *uid);
+    }
+    digest
+}
+
+// The digest with the heads.
+fn with_heads(digest: u64, heads: &[Option<u64>]) -> u64 {
+    let mut digest = digest;
+    for head in heads {
+        digest = match head {
+            None => mixed(digest, 0),
+            Some(uid) => mixed(digest, *uid),
+        };
+    }
+    digest
+}
+
+// The digest with the row.
+fn with_row<'a>(digest: u64, row: &KnownRow<'a>) -> u64 {
+    let arm = mixed(digest, row.arm as u64);
+    let heads = with_heads(arm, &row.heads);
+    let chosen = with_chosen(heads, &row.chosen);
+    with_names(chosen, &row.caught)
+}
+
+// The digest of the columns.
+fn columns_digest<'a>(columns: &[KnownColumn<'a>]) -> u64 {
+    let mut digest = 0;
+    for column in columns {
+        digest = with_place(digest, column.place);
+    }
+    digest
+}
+
+// The digest of the matrix.
+pub(crate) fn digest_of<'a>(columns: &[KnownColumn<'a>], rows: &[KnownRow<'a>]) -> u64 {
+    let mut digest = columns_digest(columns);
+    for row in rows {
+        digest = with_row(digest, row);
+    }
+    digest
+}
