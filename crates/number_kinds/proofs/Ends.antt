@@ -1,5 +1,5 @@
 -- The ends of a written range ascend, where both are numbers of the type and the range is not empty.
-use Rattle.std.proofs.Common.{◌≡◌, ◌⊎◌, inl, inr, ℤ, pos, ◌-ℤ◌, Bool, true, false, not, ◌&&◌, ◌||◌, List, [], ◌∷◌, Option, Some, None, refl, sym, ◌∙◌, ap, arith}
+use Rattle.std.proofs.Common.{◌≡◌, ◌⊎◌, inl, inr, ℤ, pos, ◌-ℤ◌, Bool, true, false, not, ◌&&◌, ◌||◌, [], ◌∷◌, Option, Some, None, refl, sym, ◌∙◌, ap, arith}
 use Rattle.std.specs.Prelude.{IsTrue, IfSome, int_le, int_lt, option_map}
 use Rattle.std.specs.List.{list_any}
 use Rattle.std.specs.Ordering.{int_eq}
@@ -10,7 +10,7 @@ use Rattle.match_model.specs.declared.Width.TheVariants.{Endless, Bits16, Bits32
 use Rattle.match_model.specs.declared.IntKind.{IntKind}
 use Rattle.match_model.specs.declared.IntKind.TheVariants.{U8, U16, U32, U64, U128, USize, I8, I16, I32, I64, I128, ISize}
 use Rattle.match_model.specs.Types.{CharType, IntType}
-use Rattle.match_model.specs.Numbers.{MEnd, Free, At, MRange, is_from, is_up_to, is_at, in_range, ends_ascend, closed, kind_range, numbers_of}
+use Rattle.match_model.specs.Numbers.{MEnd, Free, At, is_from, is_up_to, is_at, in_range, ends_ascend, closed, kind_range, numbers_of}
 use Rattle.match_model.specs.SourcePatterns.{before_by, number_before, low_written, high_written}
 use Rattle.range_split.specs.declared.num.Num.{Num}
 use Rattle.range_split.specs.declared.range.Range.{Range}
@@ -19,7 +19,7 @@ use Rattle.range_split.specs.Ranges.{plain_range}
 use Rattle.number_kinds.specs.declared.kinds.NumberKind.{NumberKind}
 use Rattle.number_kinds.specs.declared.kinds.NumberKind.TheVariants as kinds
 use Rattle.number_kinds.specs.Kinds.{kind_type, scalar_ranges}
-use Rattle.number_kinds.specs.Literals.{literal_width, is_literal_of, has_no_number}
+use Rattle.number_kinds.specs.Literals.{is_literal_of, has_no_number}
 
 -- what both are
 both_true : (a b : Bool) → IsTrue (a && b) → IsTrue a × IsTrue b

@@ -45,10 +45,7 @@ fn usize_numbers(width: Width) -> Range
     ensures { plain_range result ≡ kind_range width USize }
 {
     match width {
-        Width::Endless => Range {
-            low: End::At(Num::new(false, 0)),
-            high: End::Free,
-        },
+        Width::Endless => Range::between(&End::At(Num::new(false, 0)), &End::Free),
         Width::Bits16 => unsigned(u16::MAX as u128),
         Width::Bits32 => unsigned(u32::MAX as u128),
         Width::Bits64 => unsigned(u64::MAX as u128),
@@ -60,10 +57,7 @@ fn isize_numbers(width: Width) -> Range
     ensures { plain_range result ≡ kind_range width ISize }
 {
     match width {
-        Width::Endless => Range {
-            low: End::Free,
-            high: End::Free,
-        },
+        Width::Endless => Range::between(&End::Free, &End::Free),
         Width::Bits16 => signed(i16::MAX as u128),
         Width::Bits32 => signed(i32::MAX as u128),
         Width::Bits64 => signed(i64::MAX as u128),
@@ -89,10 +83,9 @@ fn signed(greatest: u128) -> Range
     requires { greatest < 2 ^ 127 }
     ensures { plain_range result ≡ closed (negsuc greatest) (pos greatest) }
 {
-    Range {
-        low: End::At(Num::new(true, greatest + 1)),
-        high: End::At(Num::new(false, greatest)),
-    }
+    let low = Num::new(true, greatest + 1);
+    let high = Num::new(false, greatest);
+    Range::between(&End::At(low), &End::At(high))
 }
 
 // The numbers from one to another, neither below zero.
@@ -100,10 +93,9 @@ fn between(least: u128, greatest: u128) -> Range
     requires { least ≤ greatest }
     ensures { plain_range result ≡ closed (pos least) (pos greatest) }
 {
-    Range {
-        low: End::At(Num::new(false, least)),
-        high: End::At(Num::new(false, greatest)),
-    }
+    let low = Num::new(false, least);
+    let high = Num::new(false, greatest);
+    Range::between(&End::At(low), &End::At(high))
 }
 
 /// Whether the number is one of the type's.
@@ -130,7 +122,7 @@ pub(crate) fn least(width: Width, kind: NumberKind) -> End
 {
     match kind {
         NumberKind::Char => End::At(Num::new(false, 0)),
-        NumberKind::Int(kind) => kind_numbers(width, kind).low,
+        NumberKind::Int(kind) => kind_numbers(width, kind).low(),
     }
 }
 
@@ -140,6 +132,6 @@ pub(crate) fn greatest(width: Width, kind: NumberKind) -> End
 {
     match kind {
         NumberKind::Char => End::At(Num::new(false, 0x10ffff)),
-        NumberKind::Int(kind) => kind_numbers(width, kind).high,
+        NumberKind::Int(kind) => kind_numbers(width, kind).high(),
     }
 }

@@ -100,7 +100,7 @@ pub fn written_range(
 {
     let low = low_end(width, kind, low);
     let high = high_end(width, kind, inclusive, high);
-    Range { low, high }
+    Range::between(&low, &high)
 }
 
 // A low end as it is written, or the type's least number.

@@ -1,11 +1,12 @@
 -- The ranges of the program's constructors and sets can be held.
-use Rattle.std.proofs.Common.{Some, None}
+use Rattle.std.proofs.Common.{Some, None, true, false}
 use Rattle.match_model.specs.Made.{IsHeldEnd, IsMadeRange, IsMade, IsMadeSet}
-use Rattle.range_split.proofs.Held.{num_held}
+use Rattle.range_split.proofs.Held.{kept_held}
 use Rattle.range_split.specs.declared.range.Range.{Range}
-use Rattle.range_split.specs.declared.end.End.{End}
-use Rattle.range_split.specs.declared.end.End.TheVariants as end
-use Rattle.range_split.specs.Ends.{plain_end}
+use Rattle.range_split.specs.declared.range.EndKind.{EndKind}
+use Rattle.range_split.specs.declared.range.EndKind.TheVariants as end
+use Rattle.range_split.specs.declared.size.Size.{Size}
+use Rattle.range_split.specs.Ends.{kept_end}
 use Rattle.range_split.specs.Ranges.{plain_range}
 use Rattle.pat_context.specs.Views.{plain_ctor, plain_set}
 use Rattle.pat_context.specs.declared.ctor.Ctor.{Ctor}
@@ -13,12 +14,13 @@ use Rattle.pat_context.specs.declared.ctor.Ctor.TheVariants as c
 use Rattle.pat_context.specs.declared.ctor.CtorSet.{CtorSet}
 use Rattle.pat_context.specs.declared.ctor.CtorSet.TheVariants as s
 
-held_end : (e : End) → IsHeldEnd (plain_end e)
-held_end end.Free = tt
-held_end (end.At n) = num_held n
+held_end : (k : EndKind) (s : Size) → IsHeldEnd (kept_end k s)
+held_end end.Free s = tt
+held_end end.Negative s = kept_held true s
+held_end end.Positive s = kept_held false s
 
 made_range : (r : Range) → IsMadeRange (plain_range r)
-made_range r = record { up = r.ascending; low = held_end r.low; high = held_end r.high }
+made_range r = record { up = r.ascending; low = held_end r.low_kind r.low_size; high = held_end r.high_kind r.high_size }
 
 pub made_ctor : (x : Ctor) → IsMade (plain_ctor x)
 made_ctor (c.Numbers r) = made_range r

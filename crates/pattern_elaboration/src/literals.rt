@@ -121,10 +121,8 @@ fn number_at<'a>(
 fn single(number: Num) -> Range
     ensures { plain_range result ≡ closed (num_value number) (num_value number) }
 {
-    Range {
-        low: End::At(number),
-        high: End::At(number),
-    }
+    let at = End::At(number);
+    Range::between(&at, &at)
 }
 
 // A pattern with nothing below, behind the references that were peeled.

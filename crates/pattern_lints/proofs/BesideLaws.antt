@@ -4,18 +4,19 @@ use Rattle.std.specs.Prelude.{int_le}
 use Rattle.std.proofs.lemmas.Int.{ints}
 use Rattle.std.proofs.lemmas.Bool.Decides.{nat_tests}
 use Rattle.match_model.specs.Values.{MValue, Flag, Num, Node, Row, values_list, parts_of}
-use Rattle.match_model.specs.Numbers.{Free, At, MRange, in_range, is_from, is_up_to, closed}
+use Rattle.match_model.specs.Numbers.{Free, MRange, in_range, is_from, is_up_to, closed}
 use Rattle.match_model.specs.Constructors.{MCtor, SingleCtor, PointCtor, OrCtor, VariantCtor, FlagCtor, NumbersCtor, RowCtor, FixedShape, builds, parts_met, least_held, greatest_held}
 use Rattle.match_model.specs.ArenaPatterns.{MDePat, ctor_of, subs_of}
 use Rattle.match_model.specs.Rows.{Head}
 use Rattle.match_model.specs.ArenaWays.{NumberedPart, numbered_from, parts_built}
-use Rattle.range_split.specs.declared.end.End.{End}
-use Rattle.range_split.specs.declared.end.End.TheVariants as ends
+use Rattle.range_split.specs.declared.range.EndKind.{EndKind}
+use Rattle.range_split.specs.declared.range.EndKind.TheVariants as ends
 use Rattle.range_split.specs.declared.range.Range.{Range}
-use Rattle.range_split.specs.Numbers.{num_value}
-use Rattle.range_split.specs.Ends.{plain_end}
+use Rattle.range_split.specs.declared.size.Size.{Size}
+use Rattle.range_split.specs.Numbers.{signed, whole_size}
+use Rattle.range_split.specs.Ends.{kept_end}
 use Rattle.range_split.specs.Ranges.{plain_range}
-use Rattle.range_split.proofs.Held.{num_held}
+use Rattle.range_split.proofs.Held.{kept_held}
 use Rattle.pattern_lints.specs.Along.{matches, MeetsAlong}
 use Rattle.pattern_lints.specs.Meeting.{IsSharp}
 use Rattle.pattern_lints.specs.Beside.{own_number, own_range, number_below, number_beside, is_steady, MatchesPart, LiesBelow, LiesBeside, held_of, low_held, high_held}
@@ -225,17 +226,19 @@ up-free l g x h = go (int_le x l) (int_le g x) refl refl
     go false false e f =
         subst (λ c. int_le (if c then l else (if int_le g x then g else x)) g ≡ true) (sym e) (subst (λ c. int_le (if c then g else x) g ≡ true) (sym f) (turn g x f))
 
-low-bound : (e : End) (x : ℤ) → is_from (plain_end e) x ≡ true → int_le (low_held (plain_end e)) (held_of x) ≡ true
-low-bound ends.Free x h = from-free least_held greatest_held x refl
-low-bound (ends.At n) x h = from-between least_held greatest_held (num_value n) x (num_held n).1 h
+low-bound : (k : EndKind) (s : Size) (x : ℤ) → is_from (kept_end k s) x ≡ true → int_le (low_held (kept_end k s)) (held_of x) ≡ true
+low-bound ends.Free s x h = from-free least_held greatest_held x refl
+low-bound ends.Negative s x h = from-between least_held greatest_held (signed true (whole_size s)) x (kept_held true s).1 h
+low-bound ends.Positive s x h = from-between least_held greatest_held (signed false (whole_size s)) x (kept_held false s).1 h
 
-high-bound : (e : End) (x : ℤ) → is_up_to (plain_end e) x ≡ true → int_le (held_of x) (high_held (plain_end e)) ≡ true
-high-bound ends.Free x h = up-free least_held greatest_held x refl
-high-bound (ends.At n) x h = up-between least_held greatest_held (num_value n) x (num_held n).0 h
+high-bound : (k : EndKind) (s : Size) (x : ℤ) → is_up_to (kept_end k s) x ≡ true → int_le (held_of x) (high_held (kept_end k s)) ≡ true
+high-bound ends.Free s x h = up-free least_held greatest_held x refl
+high-bound ends.Negative s x h = up-between least_held greatest_held (signed true (whole_size s)) x (kept_held true s).0 h
+high-bound ends.Positive s x h = up-between least_held greatest_held (signed false (whole_size s)) x (kept_held false s).0 h
 
 -- the ends of a range bound the held numbers of what is in it
 pub range-bounds : (r : Range) (x : ℤ) → in_range (plain_range r) x ≡ true →
-    (int_le (low_held (plain_end r.low)) (held_of x) ≡ true) × (int_le (held_of x) (high_held (plain_end r.high)) ≡ true)
+    (int_le (low_held (plain_range r).low) (held_of x) ≡ true) × (int_le (held_of x) (high_held (plain_range r).high) ≡ true)
 range-bounds r x h =
-    let b = both-true (is_from (plain_end r.low) x) (is_up_to (plain_end r.high) x) h in
-    (low-bound r.low x b.0, high-bound r.high x b.1)
+    let b = both-true (is_from (plain_range r).low x) (is_up_to (plain_range r).high x) h in
+    (low-bound r.low_kind r.low_size x b.0, high-bound r.high_kind r.high_size x b.1)

@@ -1,5 +1,5 @@
 -- Ends sorted by their key ascend, and those that face an end stand together.
-use Rattle.std.proofs.Common.{◌≡◌, ◌<◌, ◌≤◌, ◌⊎◌, inl, inr, ℕ, zero, suc, ◌-◌, ◌^◌, ℤ, Bool, true, false, not, ◌&&◌, ◌||◌, List, [], ◌∷◌, length, get_or, slice_get, Some, refl, sym, ap, subst, ◌∙◌, arith, add-one, nat_lt, nat_eq}
+use Rattle.std.proofs.Common.{◌≡◌, ◌<◌, ◌≤◌, ◌⊎◌, inl, inr, ℕ, zero, suc, ◌^◌, ℤ, Bool, true, false, not, ◌&&◌, ◌||◌, List, [], ◌∷◌, length, get_or, slice_get, Some, refl, sym, ap, subst, ◌∙◌, arith, add-one, nat_lt, nat_eq}
 use Rattle.std.specs.Prelude.{IsTrue, int_le}
 use Rattle.std.specs.List.Sorted.{IsSortedByKey, IsPartitionedBy}
 use Rattle.std.specs.Ordering.{nat_cmp, is_lt, ordering_then}

@@ -11,7 +11,6 @@ use Rattle.std.proofs.lemmas.List.Filters.{All-dedup}
 use Rattle.std.proofs.lemmas.List.Sorted.{IsPermutation-sym, IsPermutation-map, Contains-permutation}
 use Rattle.match_model.specs.Overlaps.{MOverlap, overlap_before}
 use Rattle.range_split.specs.Numbers.{signed, num_value}
-use Rattle.range_split.specs.contracts.num.NumPartialEq.TheImpl as num_eq
 use Rattle.witnesses.specs.declared.judgement.Overlap.{Overlap}
 use Rattle.witnesses.specs.contracts.judgement.OverlapPartialEq.TheImpl as overlap_eq
 use Rattle.pattern_lints.specs.Views.{plain_overlap, plain_overlaps, IsInOrder}

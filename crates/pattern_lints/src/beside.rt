@@ -32,10 +32,7 @@ pub(crate) struct Column {
 fn all_numbers() -> Range
     ensures { plain_range result ≡ record { low = Free; high = Free } }
 {
-    Range {
-        low: End::Free,
-        high: End::Free,
-    }
+    Range::between(&End::Free, &End::Free)
 }
 
 // The range of one number.
@@ -43,7 +40,7 @@ fn one_number(number: u128) -> Range
     ensures { plain_range result ≡ closed (pos number) (pos number) }
 {
     let at = End::At(Num::new(false, number));
-    Range { low: at, high: at }
+    Range::between(&at, &at)
 }
 
 // The numbers of the values that the constructor builds.
@@ -162,5 +159,5 @@ pub(crate) fn bounds(range: &Range) -> (Num, Num)
     ensures { (x : ℤ) → IsTrue (in_range (plain_range range.now) x)
         → IsTrue (int_le (num_value result.0) (held_of x)) × IsTrue (int_le (held_of x) (num_value result.1)) }
 {
-    (low_number(&range.low), high_number(&range.high))
+    (low_number(&range.low()), high_number(&range.high()))
 }

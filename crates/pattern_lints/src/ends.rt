@@ -65,8 +65,8 @@ fn end_of(range: &Range, side: Side) -> End
     ensures { plain_end result ≡ end_at side (plain_range range.now) }
 {
     match side {
-        Side::Low => range.low,
-        Side::High => range.high,
+        Side::Low => range.low(),
+        Side::High => range.high(),
     }
 }
 

@@ -10,7 +10,8 @@ use Rattle.match_model.specs.Pieces.{is_at}
 use Rattle.range_split.specs.declared.num.Num.{Num}
 use Rattle.range_split.specs.declared.end.End.{End}
 use Rattle.range_split.specs.declared.end.End.TheVariants as ends
-use Rattle.range_split.specs.Numbers.{signed, num_value}
+use Rattle.range_split.specs.declared.size.Size.{Size}
+use Rattle.range_split.specs.Numbers.{signed, num_value, whole_size}
 use Rattle.range_split.specs.Ends.{plain_end}
 
 signed_held : (negative : Bool) (size : ℕ) → size < 2 ^ 128 → IsTrue (int_le least_held (signed negative size)) × IsTrue (int_le (signed negative size) greatest_held)
@@ -19,6 +20,13 @@ signed_held false size h = (grind (arith, ints), grind (arith, ints))
 
 pub num_held : (n : Num) → IsTrue (int_le least_held (num_value n)) × IsTrue (int_le (num_value n) greatest_held)
 num_held n = signed_held n.negative n.size n.size_fits
+
+whole_size_fits : (s : Size) → whole_size s < 2 ^ 128
+whole_size_fits s = let u = s.upper_fits in let l = s.lower_fits in omega arith
+
+pub kept_held : (negative : Bool) (s : Size) →
+    IsTrue (int_le least_held (signed negative (whole_size s))) × IsTrue (int_le (signed negative (whole_size s)) greatest_held)
+kept_held negative s = signed_held negative (whole_size s) (whole_size_fits s)
 
 between : (l n least : ℤ) → IsTrue (int_le least l) → IsTrue (int_le l n) → (l ≡ n → ⊥) → IsTrue (int_lt least n)
 between l n least p q r = grind (arith, ints)

@@ -8,7 +8,6 @@ use Rattle.match_model.specs.Numbers.{MEnd, At, MRange, is_up_to}
 use Rattle.match_model.specs.Pieces.{is_at}
 use Rattle.range_split.specs.declared.cut.Cut.{Cut}
 use Rattle.range_split.specs.declared.num.Num.{Num}
-use Rattle.range_split.specs.declared.end.End.{End}
 use Rattle.range_split.specs.declared.end.End.TheVariants as ends
 use Rattle.range_split.specs.declared.range.Range.{Range}
 use Rattle.range_split.specs.declared.walk.Walk.{Walk}
@@ -51,17 +50,17 @@ more_ended : (e i : ℕ) (t : Bool) (e' : ℕ) → e' ≡ e + bit t → e ≤ i 
 more_ended e i t e' f h = let k = at_most_one t in omega arith
 
 -- no cut is passed yet
-pub not_walked : (high : MEnd) (low : End) (begun : ℕ) (walk : Walk) (cuts : List Cut) (done : List (MRange × Bool)) → done ≡ [] → walk.low ≡ low → walk.begun ≡ begun → walk.ended ≡ 0 →
-    Rise (plain_end low) (plain_cuts cuts) → IsTrue (ends_ascend (plain_end low) high) → begun ≤ 2 ^ 64 →
-    Walked high (pieces_from (plain_end low) high begun 0 (plain_cuts cuts)) done walk cuts 0
+pub not_walked : (high low : MEnd) (begun : ℕ) (walk : Walk) (cuts : List Cut) (done : List (MRange × Bool)) → done ≡ [] → plain_end walk.low ≡ low → walk.begun ≡ begun → walk.ended ≡ 0 →
+    Rise low (plain_cuts cuts) → IsTrue (ends_ascend low high) → begun ≤ 2 ^ 64 →
+    Walked high (pieces_from low high begun 0 (plain_cuts cuts)) done walk cuts 0
 not_walked high low begun walk cuts done d l b e rise up few =
     record {
       goes_on = ap (λ ps. ps ++ pieces_from (plain_end walk.low) high walk.begun walk.ended (plain_cuts cuts)) d
-          ∙ ap (λ (x : End). pieces_from (plain_end x) high walk.begun walk.ended (plain_cuts cuts)) l
-          ∙ ap (λ x. pieces_from (plain_end low) high x walk.ended (plain_cuts cuts)) b
-          ∙ ap (λ x. pieces_from (plain_end low) high begun x (plain_cuts cuts)) e;
-      rises = subst (λ (x : End). Rise (plain_end x) (plain_cuts cuts)) (sym l) rise;
-      ascends = subst (λ (x : End). IsTrue (ends_ascend (plain_end x) high)) (sym l) up;
+          ∙ ap (λ (x : MEnd). pieces_from x high walk.begun walk.ended (plain_cuts cuts)) l
+          ∙ ap (λ x. pieces_from low high x walk.ended (plain_cuts cuts)) b
+          ∙ ap (λ x. pieces_from low high begun x (plain_cuts cuts)) e;
+      rises = subst (λ (x : MEnd). Rise x (plain_cuts cuts)) (sym l) rise;
+      ascends = subst (λ (x : MEnd). IsTrue (ends_ascend x high)) (sym l) up;
       begun_few = omega (arith, b, few);
       ended_few = omega (arith, e);
     }

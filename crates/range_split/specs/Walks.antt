@@ -9,15 +9,13 @@ use Rattle.range_split.specs.declared.cut.Cut.{Cut}
 use Rattle.range_split.specs.declared.range.Range.{Range}
 use Rattle.range_split.specs.declared.walk.Walk.{Walk}
 use Rattle.range_split.specs.Ends.{plain_end}
+pub use Rattle.range_split.specs.Ranges.{range_of}
 use Rattle.range_split.specs.Splits.{plain_pieces}
 use Rattle.range_split.specs.Cuts.{cut_number, plain_cut, cuts_of, has_start, Rise}
 
 -- how much one test counts
 abbrev pub bit : Bool → ℕ
 bit b = cond b 1 0
-
-abbrev pub range_of : (low high : MEnd) → MRange
-range_of low high = record { low = low; high = high }
 
 -- the pieces from a low end on, where so many ranges have begun and so many have ended
 abbrev pub pieces_from : (low high : MEnd) → (begun ended : ℕ) → List (ℤ × Bool) → List (MRange × Bool)

@@ -1,7 +1,6 @@
 // The cuts of a column, gathered range by range.
 ghost use Rattle.std.specs.Prelude.{◌≡◌, option_map};
 ghost use Rattle.std.specs.Option.{option_to_list};
-ghost use Rattle.range_split.specs.Ends.{plain_end};
 ghost use Rattle.range_split.specs.Ranges.{plain_range};
 ghost use Rattle.range_split.specs.Splits.{HasRoomBelow, HasRoomAbove};
 ghost use Rattle.range_split.specs.Cuts.{plain_cut, begin_cut, end_cut, has_start};
@@ -78,19 +77,19 @@ impl Cuts {
 fn starts(whole: &Range, column: &Range) -> bool
     ensures { result ≡ has_start (plain_range whole.now) (plain_range column.now) }
 {
-    is_low_within(&column.low, &whole.low) && ascend(&whole.low, &column.high)
+    is_low_within(&column.low(), &whole.low()) && ascend(&whole.low(), &column.high())
 }
 
 // The cut before a range of the column, where it begins inside the whole.
 fn cut_before(whole: &Range, column: &Range) -> Option<Cut>
     requires { HasRoomBelow (plain_range whole.now) (plain_range column.now) }
     ensures { option_to_list (option_map plain_cut result)
-        ≡ begin_cut (plain_range whole.now) (plain_end column.now.low) }
+        ≡ begin_cut (plain_range whole.now) (plain_range column.now).low }
 {
-    match column.low {
+    match column.low() {
         End::Free => None,
         End::At(first) => {
-            if whole.contains(&first) && !is_at(&whole.low, &first) {
+            if whole.contains(&first) && !is_at(&whole.low(), &first) {
                 Some(Cut::before(&first, true))
             } else {
                 None
@@ -103,12 +102,12 @@ fn cut_before(whole: &Range, column: &Range) -> Option<Cut>
 fn cut_behind(whole: &Range, column: &Range) -> Option<Cut>
     requires { HasRoomAbove (plain_range whole.now) (plain_range column.now) }
     ensures { option_to_list (option_map plain_cut result)
-        ≡ end_cut (plain_range whole.now) (plain_end column.now.high) }
+        ≡ end_cut (plain_range whole.now) (plain_range column.now).high }
 {
-    match column.high {
+    match column.high() {
         End::Free => None,
         End::At(last) => {
-            if whole.contains(&last) && !is_at(&whole.high, &last) {
+            if whole.contains(&last) && !is_at(&whole.high(), &last) {
                 let first = last.next();
                 Some(Cut::before(&first, false))
             } else {

@@ -20,6 +20,7 @@ pub mod laws;
 mod num;
 mod pieces;
 mod range;
+mod size;
 mod walk;
 
 pub use cut::Cut;
@@ -27,5 +28,6 @@ pub use cuts::Cuts;
 pub use end::End;
 pub use num::Num;
 pub use pieces::split;
-pub use range::Range;
+pub use range::{EndKind, Range};
+pub use size::Size;
 pub use walk::Walk;

@@ -47,7 +47,7 @@ fn sorted_cuts(alloc: Global, whole: &Range, columns: &[Range]) -> Result<Cuts, 
 // The pieces between ascending cuts.
 fn pieces_between(alloc: Global, whole: &Range, cuts: &Cuts) -> Result<Vec<(Range, bool)>, NoMemory>
     requires { AreInOrder (plain_range whole.now) cuts.now.begun (plain_cuts cuts.now.places.items) }
-    ensures { IfOk result (λ v. plain_pieces v.items ≡ pieces_from (plain_end whole.now.low) (plain_end whole.now.high)
+    ensures { IfOk result (λ v. plain_pieces v.items ≡ pieces_from (plain_range whole.now).low (plain_range whole.now).high
         cuts.now.begun 0 (plain_cuts cuts.now.places.items)) }
 {
     let mut pieces = Vec::with_capacity(alloc, cuts.places.len())?;
@@ -58,7 +58,7 @@ fn pieces_between(alloc: Global, whole: &Range, cuts: &Cuts) -> Result<Vec<(Rang
             None => (),
         }
     }
-    pieces.push(walk.last(&whole.high))?;
+    pieces.push(walk.last(&whole.high()))?;
     Ok(pieces)
 }
 

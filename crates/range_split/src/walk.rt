@@ -25,16 +25,17 @@ impl Walk {
     ghost use Rattle.range_split.specs.Ranges.{plain_range};
     ghost use Rattle.range_split.specs.Splits.{plain_pieces};
     ghost use Rattle.range_split.specs.Cuts.{cut_number};
-    ghost use Rattle.range_split.specs.Walks.{Passes, range_of};
+    ghost use Rattle.range_split.specs.Walks.{Passes};
+    ghost use Rattle.range_split.specs.Ranges.{range_of};
 
     /// The walk at the low end of the whole, of which so many ranges have the first numbers.
     pub fn new(whole: &Range, begun: u128) -> Walk
-        ensures low { result.low ≡ whole.now.low }
+        ensures low { plain_end result.low ≡ (plain_range whole.now).low }
         ensures begun { result.begun ≡ begun }
         ensures ended { result.ended ≡ 0 }
     {
         Walk {
-            low: whole.low,
+            low: whole.low(),
             begun,
             ended: 0,
         }
@@ -72,9 +73,8 @@ impl Walk {
         if is_at(&self.low, first) {
             None
         } else {
-            let low = self.low;
             let high = End::At(first.previous());
-            Some((Range { low, high }, self.begun != self.ended))
+            Some((Range::between(&self.low, &high), self.begun != self.ended))
         }
     }
 
@@ -84,8 +84,6 @@ impl Walk {
         ensures range { plain_range result.0 ≡ range_of (plain_end self.now.low) (plain_end high.now) }
         ensures flag { result.1 ≡ not (nat_eq self.now.begun self.now.ended) }
     {
-        let low = self.low;
-        let range = Range { low, high: *high };
-        (range, self.begun != self.ended)
+        (Range::between(&self.low, high), self.begun != self.ended)
     }
 }

@@ -33,10 +33,7 @@ fn usize_numbers(width: Width) -> Range
     ensures { plain_range result ≡ kind_range width USize }
 {
     match width {
-        Width::Endless => Range {
-            low: End::At(Num::new(false, 0)),
-            high: End::Free,
-        },
+        Width::Endless => Range::between(&End::At(Num::new(false, 0)), &End::Free),
         Width::Bits16 => unsigned(u16::MAX as u128),
         Width::Bits32 => unsigned(u32::MAX as u128),
         Width::Bits64 => unsigned(u64::MAX as u128),
@@ -48,10 +45,7 @@ fn isize_numbers(width: Width) -> Range
     ensures { plain_range result ≡ kind_range width ISize }
 {
     match width {
-        Width::Endless => Range {
-            low: End::Free,
-            high: End::Free,
-        },
+        Width::Endless => Range::between(&End::Free, &End::Free),
         Width::Bits16 => signed(i16::MAX as u128),
         Width::Bits32 => signed(i32::MAX as u128),
         Width::Bits64 => signed(i64::MAX as u128),
@@ -70,10 +64,9 @@ fn signed(greatest: u128) -> Range
     requires { greatest < 2 ^ 127 }
     ensures { plain_range result ≡ closed (negsuc greatest) (pos greatest) }
 {
-    Range {
-        low: End::At(Num::new(true, greatest + 1)),
-        high: End::At(Num::new(false, greatest)),
-    }
+    let low = Num::new(true, greatest + 1);
+    let high = Num::new(false, greatest);
+    Range::between(&End::At(low), &End::At(high))
 }
 
 // The numbers from one to another, neither below zero.
@@ -81,8 +74,7 @@ pub(crate) fn between(least: u128, greatest: u128) -> Range
     requires { least ≤ greatest }
     ensures { plain_range result ≡ closed (pos least) (pos greatest) }
 {
-    Range {
-        low: End::At(Num::new(false, least)),
-        high: End::At(Num::new(false, greatest)),
-    }
+    let low = Num::new(false, least);
+    let high = Num::new(false, greatest);
+    Range::between(&End::At(low), &End::At(high))
 }

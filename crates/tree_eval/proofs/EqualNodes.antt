@@ -1,20 +1,21 @@
 -- What is one node of the definitions, the derived test finds equal.
-use Rattle.std.proofs.Common.{◌≡◌, ℕ, Bool, true, false, ◌&&◌, map, zero, suc, refl, ap, sym, ◌∙◌, rules, nat_eq, chars}
+use Rattle.std.proofs.Common.{◌≡◌, ℕ, ◌+◌, ◌*◌, ◌^◌, ◌<◌, true, false, not, ◌&&◌, map, zero, suc, refl, ap, sym, ◌∙◌, rules, arith, nat_eq, chars}
+use Rattle.std.specs.Prelude.{IsTrue}
 use Rattle.std.specs.String.{string_bytes}
 use Rattle.std.specs.declared.string.String.{String}
 use Rattle.std.specs.declared.alloc.Global.{Global}
 use Rattle.std.proofs.lemmas.Slice.Eq.{bytes_eq-Decides}
 use Rattle.std.proofs.lemmas.Str.{IsUtf8-had, encodes-chars}
 use lib.Utf8.{encodes}
-use Rattle.range_split.specs.declared.num.Num.{Num}
-use Rattle.range_split.specs.declared.end.End.{End}
-use Rattle.range_split.specs.declared.end.End.TheVariants.{Free, At}
+use Rattle.range_split.specs.declared.size.Size.{Size}
+use Rattle.range_split.specs.declared.range.EndKind.{EndKind}
+use Rattle.range_split.specs.declared.range.EndKind.TheVariants as ends
 use Rattle.range_split.specs.declared.range.Range.{Range}
-use Rattle.range_split.specs.Numbers.{signed, num_value}
-use Rattle.range_split.specs.Ends.{plain_end}
+use Rattle.range_split.specs.Numbers.{signed, whole_size}
+use Rattle.range_split.specs.Ends.{kept_end, is_kept}
 use Rattle.range_split.specs.Ranges.{plain_range}
-use Rattle.range_split.specs.contracts.num.NumPartialEq.TheImpl as num_eq
-use Rattle.range_split.specs.contracts.end.EndPartialEq.TheImpl as end_eq
+use Rattle.range_split.specs.contracts.size.SizePartialEq.TheImpl as size_eq
+use Rattle.range_split.specs.contracts.range.EndKindPartialEq.TheImpl as kind_eq
 use Rattle.range_split.specs.contracts.range.RangePartialEq.TheImpl as range_eq
 use Rattle.pat_context.specs.declared.place.Step.{Step}
 use Rattle.pat_context.specs.declared.place.Step.TheVariants as st
@@ -32,7 +33,7 @@ use Rattle.tree_eval.specs.contracts.tree.CasePartialEq.TheImpl as case_eq
 use Rattle.tree_eval.specs.contracts.tree.BindPartialEq.TheImpl as bind_eq
 use Rattle.tree_eval.specs.contracts.tree.NodePartialEq.TheImpl as node_eq
 use Rattle.tree_eval.specs.Nodes.{plain_case, plain_branch, plain_bind, plain_node}
-use Rattle.tree_eval.proofs.Pointwise.{and_true, nat-itself, pointwise-from}
+use Rattle.tree_eval.proofs.Pointwise.{and_true, nat-itself, nat-same, pointwise-from}
 
 equal_step : (a b : Step) → plain_step a ≡ plain_step b → step_eq.ghosts.eq a b ≡ true
 equal_step st.Through st.Through h = refl
@@ -47,32 +48,48 @@ equal_step a b h = cc
 equal_place : (a b : Place) → plain_place (steps_of a) ≡ plain_place (steps_of b) → place_eq.ghosts.eq a b ≡ true
 equal_place a b h = pointwise-from (λ x y. step_eq.ghosts.eq x y) plain_step (steps_of a) (steps_of b) equal_step h
 
--- a number has one sign and size, since zero is not negative
-one_number : (a b : Bool) (m n : ℕ) → (m ≡ 0 → a ≡ false) → (n ≡ 0 → b ≡ false) → signed a m ≡ signed b n →
-    (a ≡ b) × (m ≡ n)
-one_number false false m n h k e = (refl, cc)
-one_number true true (suc m) (suc n) h k e = (refl, let f : m ≡ n = cc in ap suc f)
-one_number true b zero n h k e = let z : true ≡ false = h refl in cc
-one_number a true m zero h k e = let z : true ≡ false = k refl in cc
-one_number true false (suc m) n h k e = cc
-one_number false true m (suc n) h k e = cc
+-- a number has one pair of halves
+halves : (a b c d : ℕ) → b < 2 ^ 64 → d < 2 ^ 64 → a * 2 ^ 64 + b ≡ c * 2 ^ 64 + d → (a ≡ c) × (b ≡ d)
+halves a b c d l m e = (omega (arith, l, m, e), omega (arith, l, m, e))
 
-equal_num : (a b : Num) → num_value a ≡ num_value b → num_eq.ghosts.eq a b ≡ true
-equal_num a b h =
-    let e = one_number a.negative b.negative a.size b.size a.zero_is_not_negative b.zero_is_not_negative h in
-    let negative : a.negative ≡ b.negative = e.0 in
-    let size : a.size ≡ b.size = e.1 in
-    search (rules, negative, size)
+equal_size : (a b : Size) → whole_size a ≡ whole_size b → size_eq.ghosts.eq a b ≡ true
+equal_size a b h =
+    let e = halves a.upper a.lower b.upper b.lower a.lower_fits b.lower_fits h in
+    and_true _ _ (nat-itself a.upper b.upper e.0) (nat-itself a.lower b.lower e.1)
 
-equal_end : (a b : End) → plain_end a ≡ plain_end b → end_eq.ghosts.eq a b ≡ true
-equal_end Free Free h = refl
-equal_end (At m) (At n) h = let e : num_value m ≡ num_value n = cc in equal_num m n e
-equal_end Free (At n) h = cc
-equal_end (At m) Free h = cc
+same_signs : (m n : ℕ) → signed true m ≡ signed true n → m ≡ n
+same_signs zero zero e = refl
+same_signs (suc m) (suc n) e = let f : m ≡ n = cc in ap suc f
+same_signs zero (suc n) e = cc
+same_signs (suc m) zero e = cc
+
+other_signs : (m n : ℕ) → not (nat_eq m 0) ≡ true → signed true m ≡ signed false n → ⊥
+other_signs zero n h e = cc
+other_signs (suc m) n h e = cc
+
+-- an end is kept in one way
+equal_end : (j k : EndKind) (a b : Size) → IsTrue (is_kept j a) → IsTrue (is_kept k b) → kept_end j a ≡ kept_end k b →
+    (kind_eq.ghosts.eq j k ≡ true) × (size_eq.ghosts.eq a b ≡ true)
+equal_end ends.Free ends.Free a b p q h =
+    (refl, equal_size a b (nat-same (whole_size a) 0 p ∙ sym (nat-same (whole_size b) 0 q)))
+equal_end ends.Negative ends.Negative a b p q h =
+    let e : signed true (whole_size a) ≡ signed true (whole_size b) = cc in (refl, equal_size a b (same_signs _ _ e))
+equal_end ends.Positive ends.Positive a b p q h =
+    let e : whole_size a ≡ whole_size b = cc in (refl, equal_size a b e)
+equal_end ends.Negative ends.Positive a b p q h =
+    let e : signed true (whole_size a) ≡ signed false (whole_size b) = cc in absurd (other_signs (whole_size a) (whole_size b) p e)
+equal_end ends.Positive ends.Negative a b p q h =
+    let e : signed false (whole_size a) ≡ signed true (whole_size b) = cc in absurd (other_signs (whole_size b) (whole_size a) q (sym e))
+equal_end ends.Free ends.Negative a b p q h = cc
+equal_end ends.Free ends.Positive a b p q h = cc
+equal_end ends.Negative ends.Free a b p q h = cc
+equal_end ends.Positive ends.Free a b p q h = cc
 
 equal_range : (a b : Range) → plain_range a ≡ plain_range b → range_eq.ghosts.eq a b ≡ true
 equal_range a b h =
-    and_true _ _ (equal_end a.low b.low (ap (λ r. r.low) h)) (equal_end a.high b.high (ap (λ r. r.high) h))
+    let low = equal_end a.low_kind b.low_kind a.low_size b.low_size a.low_is_kept b.low_is_kept (ap (λ r. r.low) h) in
+    let high = equal_end a.high_kind b.high_kind a.high_size b.high_size a.high_is_kept b.high_is_kept (ap (λ r. r.high) h) in
+    and_true _ _ low.0 (and_true _ _ high.0 (and_true _ _ low.1 high.1))
 
 -- a text has one spelling
 one_spelling : (a b : String Global) → chars (string_bytes a) ≡ chars (string_bytes b) → string_bytes a ≡ string_bytes b

@@ -1,18 +1,19 @@
 -- Nodes that the derived test finds equal are one node of the definitions.
-use Rattle.std.proofs.Common.{◌≡◌, ℕ, true, ◌&&◌, map, refl, ap, rules, nat_eq}
+use Rattle.std.proofs.Common.{◌≡◌, ℕ, ◌+◌, ◌*◌, ◌^◌, true, false, ◌&&◌, map, refl, ap, rules, nat_eq}
 use Rattle.std.specs.String.{string_bytes}
 use Rattle.std.proofs.lemmas.Slice.Eq.{bytes_eq-Decides}
+use Rattle.match_model.specs.Numbers.{At}
 use Rattle.match_model.specs.declared.Mode.{Mode}
 use Rattle.match_model.specs.contracts.ModePartialEq.TheImpl as mode_eq
-use Rattle.range_split.specs.declared.num.Num.{Num}
-use Rattle.range_split.specs.declared.end.End.{End}
-use Rattle.range_split.specs.declared.end.End.TheVariants.{Free, At}
+use Rattle.range_split.specs.declared.size.Size.{Size}
+use Rattle.range_split.specs.declared.range.EndKind.{EndKind}
 use Rattle.range_split.specs.declared.range.Range.{Range}
-use Rattle.range_split.specs.Numbers.{num_value}
-use Rattle.range_split.specs.Ends.{plain_end}
+use Rattle.range_split.specs.declared.range.EndKind.TheVariants as ends
+use Rattle.range_split.specs.Numbers.{signed, whole_size}
+use Rattle.range_split.specs.Ends.{kept_end}
 use Rattle.range_split.specs.Ranges.{plain_range}
-use Rattle.range_split.specs.contracts.num.NumPartialEq.TheImpl as num_eq
-use Rattle.range_split.specs.contracts.end.EndPartialEq.TheImpl as end_eq
+use Rattle.range_split.specs.contracts.size.SizePartialEq.TheImpl as size_eq
+use Rattle.range_split.specs.contracts.range.EndKindPartialEq.TheImpl as kind_eq
 use Rattle.range_split.specs.contracts.range.RangePartialEq.TheImpl as range_eq
 use Rattle.pat_context.specs.declared.place.Step.{Step}
 use Rattle.pat_context.specs.declared.place.Place.{Place}
@@ -37,23 +38,28 @@ same_step a b h = let e : a ≡ b = search (rules, h) in ap plain_step e
 same_place : (a b : Place) → place_eq.ghosts.eq a b ≡ true → plain_place (steps_of a) ≡ plain_place (steps_of b)
 same_place a b h = pointwise-map (λ x y. step_eq.ghosts.eq x y) plain_step (steps_of a) (steps_of b) same_step h
 
-same_num : (a b : Num) → num_eq.ghosts.eq a b ≡ true → num_value a ≡ num_value b
-same_num a b h =
-    let negative : a.negative ≡ b.negative = search (rules, h) in
-    let size : a.size ≡ b.size = search (rules, h) in
-    rw (negative, size) refl
+same_size : (a b : Size) → size_eq.ghosts.eq a b ≡ true → whole_size a ≡ whole_size b
+same_size a b h =
+    let k = both _ _ h in
+    let upper = nat-same a.upper b.upper k.0 in
+    let lower = nat-same a.lower b.lower k.1 in
+    λ i. upper i * 2 ^ 64 + lower i
 
-same_end : (a b : End) → end_eq.ghosts.eq a b ≡ true → plain_end a ≡ plain_end b
-same_end Free Free h = refl
-same_end (At m) (At n) h = let e : num_eq.ghosts.eq m n ≡ true = h in rw (same_num m n e) refl
-same_end Free (At n) h = cc
-same_end (At m) Free h = cc
+same_end : (j k : EndKind) (a b : Size) → kind_eq.ghosts.eq j k ≡ true → size_eq.ghosts.eq a b ≡ true → kept_end j a ≡ kept_end k b
+same_end ends.Free ends.Free a b e s = refl
+same_end ends.Negative ends.Negative a b e s = ap (λ n. At (signed true n)) (same_size a b s)
+same_end ends.Positive ends.Positive a b e s = ap (λ n. At (signed false n)) (same_size a b s)
+same_end j k a b e s = cc
 
 same_range : (a b : Range) → range_eq.ghosts.eq a b ≡ true → plain_range a ≡ plain_range b
 same_range a b h =
     let k = both _ _ h in
-    let low : plain_end a.low ≡ plain_end b.low = same_end a.low b.low k.0 in
-    let high : plain_end a.high ≡ plain_end b.high = same_end a.high b.high k.1 in
+    let l = both _ _ k.1 in
+    let m = both _ _ l.1 in
+    let low : kept_end a.low_kind a.low_size ≡ kept_end b.low_kind b.low_size =
+    same_end a.low_kind b.low_kind a.low_size b.low_size k.0 m.0 in
+    let high : kept_end a.high_kind a.high_size ≡ kept_end b.high_kind b.high_size =
+    same_end a.high_kind b.high_kind a.high_size b.high_size l.0 m.1 in
     λ i. record { low = low i; high = high i }
 
 same_case : (a b : Case) → case_eq.ghosts.eq a b ≡ true → plain_case a ≡ plain_case b

@@ -38,8 +38,8 @@ fn char_end(end: &End) -> Option<char>
 fn characters<'t>(range: &Range) -> NamedWitness<'t>
     ensures { witness_view result ≡ numbers_tree CharType (plain_range range.now) }
 {
-    let low = char_end(&range.low);
-    let high = char_end(&range.high);
+    let low = char_end(&range.low());
+    let high = char_end(&range.high());
     NamedWitness::Chars { low, high }
 }
 

@@ -96,9 +96,9 @@ fn push_two(text: &mut String, low: &Num, high: &Num) -> Result<(), AllocError>
 // Adds the numbers of a range by its ends.
 fn push_numbers(text: &mut String, range: &Range) -> Result<(), AllocError>
     ensures { OnOk result (string_bytes text.new ≡ string_bytes text.old
-        ++ numbers_text (plain_end range.now.low) (plain_end range.now.high)) }
+        ++ numbers_text (plain_range range.now).low (plain_range range.now).high) }
 {
-    match (&range.low, &range.high) {
+    match (&range.low(), &range.high()) {
         (End::Free, End::Free) => text.push('_'),
         (End::Free, End::At(high)) => {
             text.push_str("..=")?;
@@ -123,10 +123,10 @@ fn push_numbers(text: &mut String, range: &Range) -> Result<(), AllocError>
 pub fn push_ints(text: &mut String, kind: IntKind, range: &Range) -> Result<(), AllocError>
     ensures { OnOk result (string_bytes text.new ≡ string_bytes text.old ++ ints_text kind (plain_range range.now)) }
 {
-    if begins_above_literals(kind, &range.low) {
+    if begins_above_literals(kind, &range.low()) {
         return text.push_str(above_text(kind));
     }
-    if ends_below_literals(kind, &range.high) {
+    if ends_below_literals(kind, &range.high()) {
         return text.push_str("..isize::MIN");
     }
     push_numbers(text, range)

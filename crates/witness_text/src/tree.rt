@@ -4,6 +4,7 @@ ghost use Rattle.serde_json.specs.Data.{boolean, string, no_items};
 ghost use Rattle.serde_json.specs.View.{items_of};
 ghost use Rattle.serde_json.specs.Written.{compact_text, items_text};
 ghost use Rattle.range_split.specs.Ends.{plain_end};
+ghost use Rattle.range_split.specs.Ranges.{plain_range};
 ghost use Rattle.range_split.specs.Numbers.{num_value};
 ghost use Rattle.witness_text.specs.Trees.{name_view, texts_view, witness_view, witnesses_view, fields_view};
 ghost use Rattle.witness_text.specs.Texts.{name_text};
@@ -66,12 +67,12 @@ fn push_char_end(text: &mut String, end: Option<char>) -> Result<(), AllocError>
 /// memory; the text may then end within the range.
 pub fn push_range(text: &mut String, range: &Range) -> Result<(), AllocError>
     ensures { OnOk result (string_bytes text.new ≡ string_bytes text.old
-        ++ compact_text (range_data (end_data (plain_end range.now.low)) (end_data (plain_end range.now.high)))) }
+        ++ compact_text (range_data (end_data (plain_range range.now).low) (end_data (plain_range range.now).high))) }
 {
     text.push_str("[\"range\",")?;
-    push_end(text, &range.low)?;
+    push_end(text, &range.low())?;
     text.push(',')?;
-    push_end(text, &range.high)?;
+    push_end(text, &range.high())?;
     text.push(']')?;
     Ok(())
 }

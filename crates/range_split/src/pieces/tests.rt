@@ -26,14 +26,14 @@ fn has_room_below(whole: &Range, column: &Range) -> bool
     ensures { IsTrue result ↔ HasRoomBelow (plain_range whole.now) (plain_range column.now) }
 {
     let least = Num::new(true, u128::MAX);
-    !(matches!(whole.low, End::Free) && is_at(&column.low, &least))
+    !(matches!(whole.low(), End::Free) && is_at(&column.low(), &least))
 }
 
 fn has_room_above(whole: &Range, column: &Range) -> bool
     ensures { IsTrue result ↔ HasRoomAbove (plain_range whole.now) (plain_range column.now) }
 {
     let greatest = Num::new(false, u128::MAX);
-    !(matches!(whole.high, End::Free) && is_at(&column.high, &greatest))
+    !(matches!(whole.high(), End::Free) && is_at(&column.high(), &greatest))
 }
 
 // The pieces are the expected ones. The conditions of the call are met by each row.

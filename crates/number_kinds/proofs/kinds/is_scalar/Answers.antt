@@ -1,4 +1,3 @@
-use Rattle.std.proofs.Common.{refl}
 use Rattle.number_kinds.proofs.Ends.{first_true, first_false}
 use Rattle.number_kinds.proofs.kinds.is_scalar.Goals as goal
 

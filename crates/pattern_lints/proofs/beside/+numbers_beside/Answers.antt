@@ -19,3 +19,11 @@ returns-then-depth-gt0 g t c =
     (subst (λ d. LiesBeside (tree p) (c.in-Some.i.now ∷ c.in-Some.rest.now) d c.args.steps.now r) back
     (part-beside (tree p) c.in-Some.i.now c.in-Some.rest.now (tree c.in-Some-nth.sub.now) (c.args.depth - 1) c.args.steps.now r (λ e. apart (sym (ctor_of-tree p) ∙ e))
     (sym c.nth.ensures ∙ ap plain_head c.in-Some-nth.is) c.numbers_beside-then-depth-gt0.ensures))
+
+pub returns-else-depth-gt0 : goal.returns-else-depth-gt0
+returns-else-depth-gt0 g t c =
+    let p = c.args.p.now in
+    let r = plain_range c.numbers_at_step.result in
+    let none : 0 ≡ c.args.depth = omega (arith, c.if-depth-gt0.false) in
+    subst (λ path. LiesBeside (tree p) path c.args.depth c.args.steps.now r) (sym c.in-Some.ensures.cases.0)
+    (subst (λ d. LiesBeside (tree p) (c.in-Some.i.now ∷ c.in-Some.rest.now) d c.args.steps.now r) none c.numbers_at_step.ensures)
