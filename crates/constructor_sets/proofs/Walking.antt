@@ -137,7 +137,7 @@ ranges_up (_ ∷ hs) = ranges_up hs
 
 -- what is found between the cuts of the heads is found of their split, whatever room is made before
 pub adds_split : (whole : Range) (heads : List Ctor) (begun : ℕ) (cuts : List (ℤ × Bool)) (f g h : Found) → walks.AreCuts (plain_range whole) (filter_map range_of (plain_ctors heads)) begun cuts →
-    g.ctors.items ≡ f.ctors.items → g.missing ≡ f.missing → g.gaps.items ≡ f.gaps.items → AddsAll (walks.pieces_from (plain_end whole.low) (plain_end whole.high) begun 0 cuts) g h →
+    g.ctors.items ≡ f.ctors.items → g.missing ≡ f.missing → g.gaps.items ≡ f.gaps.items → AddsAll (walks.pieces_from (plain_range whole).low (plain_range whole).high begun 0 cuts) g h →
     AddsSplit (plain_range whole) (filter_map range_of (plain_ctors heads)) f h
 adds_split whole heads begun cuts f g h are x y z a = record {
   pieces = a.pieces;

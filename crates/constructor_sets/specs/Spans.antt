@@ -53,6 +53,11 @@ AreSpans pieces [] [] = ⊤
 AreSpans pieces (h ∷ heads) (s ∷ spans) = IsSpan pieces h s × AreSpans pieces heads spans
 AreSpans pieces _ _ = ⊥
 
+-- each span that does not end before it begins is that of the head at its place
+abbrev pub AreKnownSpans : (pieces : List MCtor) (heads : List Ctor) (spans : List Span) → Type 0
+AreKnownSpans pieces heads spans = (i : ℕ) (h : Ctor) (s : Span) → i < length spans → (slice_index_or spans i s).first ≤ (slice_index_or spans i s).end →
+    IsSpan pieces (plain_ctor (slice_index_or heads i h)) (plain_span (slice_index_or spans i s))
+
 -- each head has each of the pieces
 abbrev pub AreHadByAll : (pieces heads : List MCtor) → Type 0
 AreHadByAll pieces heads = All (λ p. All (λ h. IsTrue (has_piece h p)) heads) pieces

@@ -3,7 +3,7 @@ ghost use Rattle.std.specs.Prelude.{◌≡◌, ◌++◌, ◌||◌, ◌∷◌, []
 ghost use Rattle.std.specs.List.{All, list_any, filter_map};
 ghost use Rattle.match_model.specs.Constructors.{has_piece};
 ghost use Rattle.pat_context.specs.Views.{plain_ctor, plain_set, is_sure};
-ghost use Rattle.constructor_sets.specs.Columns.{plain_ctors};
+ghost use Rattle.constructor_sets.specs.Columns.{plain_ctors, plain_flagged, IsSetSplit};
 ghost use Rattle.constructor_sets.specs.Serving.{IsServing};
 ghost use Rattle.constructor_sets.specs.Spans.{plain_span};
 ghost use Rattle.constructor_sets.specs.Present.{is_sharp_head, present_piece, is_missing, gap_of, AreFound};
@@ -13,6 +13,7 @@ use crate::numbers::found_numbers;
 use crate::set_pieces::set_pieces;
 use crate::spans::spans_by_set;
 use crate::split::piece_state;
+use crate::texts::present_texts;
 use crate::variants::present_variants;
 use crate::{PieceState, PresentPieces};
 use no_memory::NoMemory;
@@ -42,6 +43,7 @@ pub fn present<'a, C: PatCx>(
         CtorSet::Variants { count, later } => present_variants(
             alloc, cx, ty, validity, count, later, heads,
         ),
+        CtorSet::Texts => present_texts(alloc, cx, ty, validity, heads),
         set => present_pieces(alloc, cx, ty, validity, set, heads),
     }
 }
@@ -101,27 +103,32 @@ fn found_by_set<'a, C: PatCx>(
         CtorSet::Numbers { first, second } => {
             found_numbers(alloc, cx, ty, validity, &first, &second, heads)
         }
-        _ => found_pieces(alloc, cx, ty, validity, heads),
+        set => {
+            let pieces = set_pieces(alloc, &set, heads)?;
+            found_pieces(alloc, cx, ty, validity, &set, heads, &pieces)
+        }
     }
 }
 
 // The same by the pieces of the set.
-fn found_pieces<'a, C: PatCx>(
+pub(crate) fn found_pieces<'a, C: PatCx>(
     alloc: Global,
     cx: &C,
     ty: C::Ty,
     validity: Validity,
+    set: &CtorSet,
     heads: &[Ctor<'a>],
+    pieces: &[(Ctor<'a>, bool)],
 ) -> Result<Found<'a>, NoMemory>
     requires ty { C.is_type cx.now ty }
+    requires set { plain_set set.now ≡ (C.context cx.now).set_of ty }
     requires heads { All (λ h. IsTrue (is_sharp_head ((C.context cx.now).set_of ty) h)) (plain_ctors heads.now) }
+    requires pieces { IsSetSplit (plain_set set.now) (plain_ctors heads.now) (plain_flagged pieces.now) }
     ensures { IfOk result (λ f. AreFound (C.is_value cx.now) (C.context cx.now)
         (record { type = ty; sure = is_sure validity }) (plain_ctors heads.now)
         (plain_ctors f.ctors.items) f.missing (plain_ctors f.gaps.items)) }
 {
-    let set = cx.set(ty);
-    let pieces = set_pieces(alloc, &set, heads)?;
-    by_states(alloc, cx, ty, validity, &set, heads, &pieces)
+    by_states(alloc, cx, ty, validity, set, heads, pieces)
 }
 
 // The pieces that are present, whether some is missing, and the missing ranges and lengths. None of the heads is a

@@ -65,7 +65,7 @@ fn keep(places: &mut [usize], key: usize, place: usize) {
 // A key that heads with the same low end share.
 fn low_key(head: &Ctor) -> usize {
     match head {
-        Ctor::Numbers(range) => end_key(&range.low),
+        Ctor::Numbers(range) => end_key(&range.low()),
         Ctor::Text(text) => text.len() % KEYS,
         _ => 0,
     }
@@ -74,7 +74,7 @@ fn low_key(head: &Ctor) -> usize {
 // A key that heads with the same high end share.
 fn high_key(head: &Ctor) -> usize {
     match head {
-        Ctor::Numbers(range) => end_key(&range.high),
+        Ctor::Numbers(range) => end_key(&range.high()),
         _ => low_key(head),
     }
 }

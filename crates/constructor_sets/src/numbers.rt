@@ -4,7 +4,6 @@ ghost use Rattle.std.specs.List.{All};
 ghost use Rattle.std.specs.Option.{option_to_list};
 ghost use Rattle.match_model.specs.Constructors.{NumberSet};
 ghost use Rattle.match_model.specs.Pieces.{range_of};
-ghost use Rattle.range_split.specs.Ends.{plain_end};
 ghost use Rattle.range_split.specs.Ranges.{plain_range};
 ghost use Rattle.range_split.specs.Cuts.{plain_cuts};
 ghost use Rattle.range_split.specs.Walks.{AreCuts, AreInOrder, pieces_from};
@@ -98,7 +97,7 @@ fn add_head(cuts: &mut Cuts, whole: &Range, head: &Ctor) -> Result<(), NoMemory>
 // Adds the pieces between cuts in order.
 fn add_pieces<'a>(found: &mut Found<'a>, whole: &Range, cuts: &Cuts) -> Result<(), NoMemory>
     requires { AreInOrder (plain_range whole.now) cuts.now.begun (plain_cuts cuts.now.places.items) }
-    ensures { OnOk result (AddsAll (pieces_from (plain_end whole.now.low) (plain_end whole.now.high) cuts.now.begun 0
+    ensures { OnOk result (AddsAll (pieces_from (plain_range whole.now).low (plain_range whole.now).high cuts.now.begun 0
         (plain_cuts cuts.now.places.items)) found.old found.new) }
 {
     let mut walk = Walk::new(whole, cuts.begun);
@@ -106,7 +105,7 @@ fn add_pieces<'a>(found: &mut Found<'a>, whole: &Range, cuts: &Cuts) -> Result<(
         let piece = walk.pass(cut);
         add_range(found, piece)?;
     }
-    let last = walk.last(&whole.high);
+    let last = walk.last(&whole.high());
     add_range(found, Some(last))?;
     Ok(())
 }

@@ -1,20 +1,20 @@
 // The pieces of a set of constructors by the heads of a column.
 ghost use Rattle.std.specs.Prelude.{◌≡◌, ◌<◌, ◌^◌, IsTrue, IfOk, OnOk, map, length, true};
 ghost use Rattle.std.specs.List.{All, list_any, filter_map};
-ghost use Rattle.std.specs.Str.{IsUtf8};
-ghost use Rattle.match_model.specs.Constructors.{VariantSet, NumberSet, SingleSet, PointSet, FlagSet, TextSet};
-ghost use Rattle.match_model.specs.Constructors.{VariantCtor, TextCtor};
+ghost use Rattle.match_model.specs.Constructors.{VariantSet, NumberSet, SingleSet, PointSet, FlagSet};
+ghost use Rattle.match_model.specs.Constructors.{VariantCtor};
 ghost use Rattle.match_model.specs.ContextLaws.{RangesAscend};
-ghost use Rattle.match_model.specs.Pieces.{range_of, text_of, AreNamed, each_below};
+ghost use Rattle.match_model.specs.Pieces.{range_of, each_below};
 ghost use Rattle.range_split.specs.Splits.{plain_ranges, HasRoomBelow, HasRoomAbove};
 ghost use Rattle.range_split.specs.Ranges.{plain_range};
 ghost use Rattle.pat_context.specs.Views.{plain_ctor, plain_set, plain_second};
-ghost use Rattle.constructor_sets.specs.Columns.{is_head, writes, plain_ctors, plain_flagged, plain_texts};
+ghost use Rattle.constructor_sets.specs.Columns.{is_head, writes, plain_ctors, plain_flagged};
 ghost use Rattle.constructor_sets.specs.Columns.{IsSetSplit, AreVariantMarks, AddsRanges, IsVariantBelow};
 
 use crate::arrays::array;
 use crate::heads::is_written;
 use crate::lengths::slices;
+use crate::texts::texts;
 use no_memory::NoMemory;
 use pat_context::{Ctor, CtorSet};
 use range_split::{Range, split};
@@ -182,58 +182,4 @@ fn add_ranges<'a>(
         pieces.push((Ctor::Numbers(*range), *present))?;
     }
     Ok(())
-}
-
-// The pieces of texts.
-fn texts<'a>(alloc: Global, column: &[Ctor<'a>]) -> Result<Vec<(Ctor<'a>, bool)>, NoMemory>
-    requires { All (λ h. IsTrue (is_head TextSet h)) (plain_ctors column.now) }
-    ensures { IfOk result (λ v. IsSetSplit TextSet (plain_ctors column.now) (plain_flagged v.items)) }
-{
-    let named = named_texts(alloc, column)?;
-    let mut pieces = text_pieces(alloc, &named)?;
-    pieces.push((Ctor::OtherText, false))?;
-    Ok(pieces)
-}
-
-// A piece for each text.
-fn text_pieces<'a>(alloc: Global, named: &[&'a str]) -> Result<Vec<(Ctor<'a>, bool)>, NoMemory>
-    ensures { IfOk result (λ v. plain_flagged v.items ≡ map (λ t. (TextCtor t, true)) (plain_texts named.now)) }
-{
-    let mut pieces = Vec::with_capacity(alloc, named.len() + 1)?;
-    for text in named {
-        pieces.push((Ctor::Text(text), true))?;
-    }
-    Ok(pieces)
-}
-
-// The texts of the column, ascending, each once.
-fn named_texts<'a>(alloc: Global, column: &[Ctor<'a>]) -> Result<Vec<&'a str>, NoMemory>
-    ensures { IfOk result (λ v. AreNamed (filter_map text_of (plain_ctors column.now)) (plain_texts v.items)) }
-{
-    let mut named = texts_of(alloc, column)?;
-    named.sort()?;
-    named.dedup();
-    Ok(named)
-}
-
-// The texts of the column.
-fn texts_of<'a>(alloc: Global, column: &[Ctor<'a>]) -> Result<Vec<&'a str>, NoMemory>
-    ensures same { IfOk result (λ v. plain_texts v.items ≡ filter_map text_of (plain_ctors column.now)) }
-    ensures texts { IfOk result (λ v. All (λ t. IsUtf8 t.now) v.items) }
-{
-    let mut texts = Vec::with_capacity(alloc, column.len())?;
-    for head in column {
-        if let Ctor::Text(text) = *head {
-            texts.push(as_text(text))?;
-        }
-    }
-    Ok(texts)
-}
-
-// The text itself; its bytes are UTF-8.
-fn as_text(text: &str) -> &str
-    ensures same { result.now ≡ text.now }
-    ensures utf8 { IsUtf8 result.now }
-{
-    text
 }

@@ -9,6 +9,7 @@ ghost use Rattle.constructor_sets.specs.Spans.{starts_before, Precedes, plain_sp
 ghost use Rattle.constructor_sets.specs.Spans.{HoldsBelow, FailsAt, IsFirst, IsEnd, AreHadByAll};
 
 use crate::Span;
+use crate::guide::Guide;
 use crate::heads::{has_piece, starts_before};
 use crate::hints::Hints;
 use crate::known::spans_by_length;
@@ -82,7 +83,11 @@ fn spans_of(alloc: Global, pieces: &[Ctor], heads: &[Ctor]) -> Result<Vec<Span>,
 }
 
 // The same, where there is one piece at most.
-fn spans_of_one(alloc: Global, pieces: &[Ctor], heads: &[Ctor]) -> Result<Vec<Span>, NoMemory>
+pub(crate) fn spans_of_one(
+    alloc: Global,
+    pieces: &[Ctor],
+    heads: &[Ctor],
+) -> Result<Vec<Span>, NoMemory>
     requires one { length pieces.now ≤ 1 }
     ensures { IfOk result (λ v. AreSpans (plain_ctors pieces.now) (plain_ctors heads.now) (map plain_span v.items)) }
 {
@@ -108,7 +113,7 @@ fn span_of_one(pieces: &[Ctor], head: &Ctor) -> Span
     }
 }
 
-// The same, each looked for where a head like it was found, and beside the two before.
+// The same, each looked for where a head like it was found, beside the two before, and where a guide tells.
 fn spans_in_turn(alloc: Global, pieces: &[Ctor], heads: &[Ctor]) -> Result<Vec<Span>, NoMemory>
     requires rising { AllPairs Precedes (plain_ctors pieces.now) }
     requires heads { All (λ h. IsTrue (is_written (plain_ctor h))) heads.now }
@@ -116,11 +121,12 @@ fn spans_in_turn(alloc: Global, pieces: &[Ctor], heads: &[Ctor]) -> Result<Vec<S
 {
     let mut spans = Vec::with_capacity(alloc, heads.len())?;
     let mut hints = Hints::with_room(alloc, heads.len())?;
+    let guide = Guide::new(alloc, pieces)?;
     let mut near = Span { first: 0, end: 0 };
     let mut old = near;
     for head in heads {
         let like = hints.span(head);
-        let span = span_of(pieces, head, like, near, old);
+        let span = guided_span(pieces, head, &guide, like, near, old);
         spans.push(span)?;
         hints.keep(head, span);
         old = near;
@@ -173,20 +179,107 @@ pub(crate) fn span_of(pieces: &[Ctor], head: &Ctor, like: Span, near: Span, old:
     Span { first, end }
 }
 
+// The same, looked for where the guide tells before it is looked for among all.
+fn guided_span(
+    pieces: &[Ctor],
+    head: &Ctor,
+    guide: &Guide,
+    like: Span,
+    near: Span,
+    old: Span,
+) -> Span
+    requires rising { AllPairs Precedes (plain_ctors pieces.now) }
+    requires head { IsTrue (is_written (plain_ctor head.now)) }
+    ensures { IsSpan (plain_ctors pieces.now) (plain_ctor head.now) (plain_span result) }
+{
+    let first = guided_first(pieces, head, guide, like.first, near.first, old.first);
+    let end = guided_end(pieces, head, guide, first, like.end, near.end, old.end);
+    Span { first, end }
+}
+
+// How many of the pieces begin before all that the head has, looked for where the guide tells before it is looked for
+// among all.
+fn guided_first(
+    pieces: &[Ctor],
+    head: &Ctor,
+    guide: &Guide,
+    like: usize,
+    near: usize,
+    old: usize,
+) -> usize
+    requires rising { AllPairs Precedes (plain_ctors pieces.now) }
+    ensures { IsFirst (plain_ctor head.now) pieces.now result }
+{
+    match near_first(pieces, head, like, near, old) {
+        Some(first) => first,
+        None => first_within(pieces, head, guide.firsts(head)),
+    }
+}
+
+// How many of the pieces lie before what the head has or are of it, looked for in the same way.
+fn guided_end(
+    pieces: &[Ctor],
+    head: &Ctor,
+    guide: &Guide,
+    first: usize,
+    like: usize,
+    near: usize,
+    old: usize,
+) -> usize
+    requires rising { AllPairs Precedes (plain_ctors pieces.now) }
+    requires head { IsTrue (is_written (plain_ctor head.now)) }
+    requires first { IsFirst (plain_ctor head.now) pieces.now first }
+    ensures { IsEnd (plain_ctor head.now) pieces.now result }
+{
+    match near_end(pieces, head, first, like, near, old) {
+        Some(end) => end,
+        None => end_within(pieces, head, first, guide.ends(head)),
+    }
+}
+
 // How many of the pieces begin before all that the head has; it may be `like`, or close to `near` or `old`.
 fn first_of(pieces: &[Ctor], head: &Ctor, like: usize, near: usize, old: usize) -> usize
     requires rising { AllPairs Precedes (plain_ctors pieces.now) }
     ensures { IsFirst (plain_ctor head.now) pieces.now result }
 {
-    match first_at(pieces, head, like) {
+    match near_first(pieces, head, like, near, old) {
         Some(first) => first,
+        None => search_first(pieces, head),
+    }
+}
+
+// The same, if it is `like`, or close to `near` or `old`.
+fn near_first(pieces: &[Ctor], head: &Ctor, like: usize, near: usize, old: usize) -> Option<usize>
+    requires rising { AllPairs Precedes (plain_ctors pieces.now) }
+    ensures { IfSome result (λ n. IsFirst (plain_ctor head.now) pieces.now n) }
+{
+    match first_at(pieces, head, like) {
+        Some(first) => Some(first),
         None => match first_beside(pieces, head, near) {
-            Some(first) => first,
-            None => match first_beside(pieces, head, old) {
-                Some(first) => first,
-                None => search_first(pieces, head),
-            },
+            Some(first) => Some(first),
+            None => first_beside(pieces, head, old),
         },
+    }
+}
+
+// The same, looked for between two counts before it is looked for among all.
+fn first_within(pieces: &[Ctor], head: &Ctor, counts: Span) -> usize
+    requires rising { AllPairs Precedes (plain_ctors pieces.now) }
+    ensures { IsFirst (plain_ctor head.now) pieces.now result }
+{
+    match first_at(pieces, head, likely_first(pieces, head, counts)) {
+        Some(first) => first,
+        None => search_first(pieces, head),
+    }
+}
+
+// A count that is likely, between two counts: it is to be tested.
+fn likely_first(pieces: &[Ctor], head: &Ctor, counts: Span) -> usize {
+    if counts.first <= counts.end && counts.end <= pieces.len() {
+        let few = &pieces[counts.first..counts.end];
+        counts.first + few.partition_point(|piece: &Ctor| -> bool { starts_before(piece, head) })
+    } else {
+        counts.first
     }
 }
 
@@ -272,18 +365,58 @@ fn end_of(pieces: &[Ctor], head: &Ctor, first: usize, like: usize, near: usize, 
     requires first { IsFirst (plain_ctor head.now) pieces.now first }
     ensures { IsEnd (plain_ctor head.now) pieces.now result }
 {
-    match end_at(pieces, head, first, like) {
+    match near_end(pieces, head, first, like, near, old) {
         Some(end) => end,
+        None => search_end(pieces, head),
+    }
+}
+
+// The same, if it is `like`, or one more than `first`, or close to `near` or `old`.
+fn near_end(
+    pieces: &[Ctor],
+    head: &Ctor,
+    first: usize,
+    like: usize,
+    near: usize,
+    old: usize,
+) -> Option<usize>
+    requires rising { AllPairs Precedes (plain_ctors pieces.now) }
+    requires head { IsTrue (is_written (plain_ctor head.now)) }
+    requires first { IsFirst (plain_ctor head.now) pieces.now first }
+    ensures { IfSome result (λ n. IsEnd (plain_ctor head.now) pieces.now n) }
+{
+    match end_at(pieces, head, first, like) {
+        Some(end) => Some(end),
         None => match end_at(pieces, head, first, first.saturating_add(1)) {
-            Some(end) => end,
+            Some(end) => Some(end),
             None => match end_beside(pieces, head, first, near) {
-                Some(end) => end,
-                None => match end_beside(pieces, head, first, old) {
-                    Some(end) => end,
-                    None => search_end(pieces, head),
-                },
+                Some(end) => Some(end),
+                None => end_beside(pieces, head, first, old),
             },
         },
+    }
+}
+
+// The same, looked for between two counts before it is looked for among all.
+fn end_within(pieces: &[Ctor], head: &Ctor, first: usize, counts: Span) -> usize
+    requires rising { AllPairs Precedes (plain_ctors pieces.now) }
+    requires head { IsTrue (is_written (plain_ctor head.now)) }
+    requires first { IsFirst (plain_ctor head.now) pieces.now first }
+    ensures { IsEnd (plain_ctor head.now) pieces.now result }
+{
+    match end_at(pieces, head, first, likely_end(pieces, head, counts)) {
+        Some(end) => end,
+        None => search_end(pieces, head),
+    }
+}
+
+// A count that is likely, between two counts: it is to be tested.
+fn likely_end(pieces: &[Ctor], head: &Ctor, counts: Span) -> usize {
+    if counts.first <= counts.end && counts.end <= pieces.len() {
+        let few = &pieces[counts.first..counts.end];
+        counts.first + few.partition_point(|piece: &Ctor| -> bool { is_up_to(piece, head) })
+    } else {
+        counts.first
     }
 }
 
