@@ -29,7 +29,7 @@ from run import FAMILIES
 
 CRATES = (
     "no_memory", "match_model", "range_split", "slice_split", "pat_context", "pattern_arena", "constructor_sets", "witnesses",
-    "pattern_matrix", "usefulness", "witness_search",
+    "pattern_matrix", "distinct_heads", "usefulness", "witness_search",
 )
 READER = ("words", "types", "patterns")
 SHORTEST = 0.00005

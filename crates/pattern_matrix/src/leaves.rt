@@ -63,7 +63,7 @@ fn choosing(
     chosen: &[u64],
     uid: u64,
     several: bool,
-) -> Result<SmallVec<u64, 8>, NoMemory>
+) -> Result<SmallVec<u64, 2>, NoMemory>
     ensures { IfOk result (λ c. c.items ≡ chosen.now ++ cond several (uid ∷ []) []) }
 {
     let mut all = SmallVec::from_slice(alloc, chosen)?;

@@ -113,7 +113,7 @@ fn add_others<'a, T: Copy>(
 }
 
 // The alternatives that were chosen for a row, and those for a leaf.
-fn both_chosen(alloc: Global, chosen: &[u64], more: &[u64]) -> Result<SmallVec<u64, 8>, NoMemory>
+fn both_chosen(alloc: Global, chosen: &[u64], more: &[u64]) -> Result<SmallVec<u64, 2>, NoMemory>
     ensures { IfOk result (λ c. c.items ≡ chosen.now ++ more.now) }
 {
     let mut all = SmallVec::from_slice(alloc, chosen)?;
@@ -141,6 +141,14 @@ fn add_leaf_parts<'a, T: Copy>(
     }
 }
 
+// Room for these heads, the leaf's one among them, once it is taken apart.
+fn room_for<'a, T: Copy>(heads: &[Head<'a, T>], head: Option<&'a DePat<'a, T>>) -> usize {
+    match head {
+        None => heads.len(),
+        Some(p) => p.subs.len().saturating_add(heads.len().saturating_sub(1)),
+    }
+}
+
 /// The row of the leaf, which is of this row, with the heads of so many parts, at the columns from the first number on, in
 /// place of that at the column. The leaf writes so many parts. The only error is want of memory.
 pub fn opened_row<'a, T: Copy>(
@@ -155,7 +163,7 @@ pub fn opened_row<'a, T: Copy>(
     requires parts { length (leaf_parts count (plain_leaf leaf.now).head) ≡ count }
     ensures { IfOk result (λ r. plain_row r ≡ opened_row column first count (plain_leaf leaf.now) (plain_row row.now)) }
 {
-    let mut heads = Vec::new(alloc);
+    let mut heads = Vec::with_capacity(alloc, room_for(&row.heads, leaf.head))?;
     add_leaf_parts(&mut heads, first, leaf.head, count)?;
     add_others(&mut heads, &row.heads, column)?;
     let chosen = both_chosen(alloc, row.chosen.as_slice(), leaf.chosen.as_slice())?;
@@ -264,7 +272,7 @@ pub fn dropped_row<'a, T: Copy>(
 ) -> Result<Row<'a, T>, NoMemory>
     ensures { IfOk result (λ r. plain_row r ≡ dropped_row column (plain_leaf leaf.now) (plain_row row.now)) }
 {
-    let mut heads = Vec::new(alloc);
+    let mut heads = Vec::with_capacity(alloc, row.heads.len())?;
     add_others(&mut heads, &row.heads, column)?;
     let chosen = both_chosen(alloc, row.chosen.as_slice(), leaf.chosen.as_slice())?;
     Ok(Row {

@@ -1,10 +1,10 @@
 -- A search begins with the rows of a match, and ends with what it promises.
-use Rattle.std.proofs.Common.{◌≡◌, ◌⊎◌, inl, inr, ◌≤◌, ◌<◌, ℕ, suc, ◌+◌, Bool, true, false, List, [], ◌∷◌, ◌++◌, length, cond, Some, refl, ap, sym, ◌∙◌, arith}
+use Rattle.std.proofs.Common.{◌≡◌, ◌⊎◌, inl, inr, ◌<◌, ℕ, suc, Bool, true, false, List, [], ◌∷◌, ◌++◌, length, cond, Some, refl, ap, sym, ◌∙◌, arith}
 use Rattle.std.proofs.lemmas.List.Elements.{All-nil, All-cons}
 use Rattle.std.specs.List.{All, Contains}
 use Rattle.match_model.specs.Values.{MValue}
 use Rattle.match_model.specs.Contexts.{Context}
-use Rattle.match_model.specs.ArenaPatterns.{MDePat, MDeArm, MDeMatch}
+use Rattle.match_model.specs.ArenaPatterns.{MDeArm, MDeMatch}
 use Rattle.match_model.specs.Rows.{is_wild}
 use Rattle.match_model.specs.Matrices.{first_rows}
 use Rattle.match_model.proofs.Basics.{untrue}
@@ -22,9 +22,8 @@ use Rattle.usefulness.specs.Children.{bare_wanted, bare_rows, bare_sub}
 use Rattle.usefulness.specs.Listing.{IsListedAs}
 use Rattle.usefulness.specs.Starting.{wanted_all, behind_row, asked_from}
 use Rattle.usefulness.proofs.BareRows.{comes_bare, comes_named}
-use Rattle.usefulness.proofs.Looking.{in_left, in_right, stood_fit, stood_back}
-use Rattle.usefulness.proofs.Inside.{itself_in}
-use Rattle.usefulness.specs.Scope.{Scope, patterns_in, patterns_of}
+use Rattle.usefulness.proofs.Looking.{stood_fit, stood_back}
+use Rattle.usefulness.specs.Scope.{Scope, patterns_of}
 
 module _ {T : Type 0} (IsType : T → Type 0) (IsValue : T → Bool → MValue → Type 0) (cx : Context T) where
   -- once the rows of a submatrix were listed and nothing was marked before
@@ -89,17 +88,9 @@ pub first_view : {T : Type 0} (m : MDeMatch T) → sub_view ((0, record { type =
 first_view m = ap (λ ys. record { places = record { type = m.type; sure = m.sure } ∷ []; rows = ys }) (rows_start (length m.arms) 0 m.arms)
 
 -- they are of these arms, and over the one column
-row_starts_in : {T : Type 0} (scope : Scope T) (i : ℕ) (a : MDeArm T) → i < scope.arms → Contains (patterns_of scope.written) a.pat → IsRowIn scope (0 ∷ []) (record { row = starting_row i a; wanted = true })
+pub row_starts_in : {T : Type 0} (scope : Scope T) (i : ℕ) (a : MDeArm T) → i < scope.arms → Contains (patterns_of scope.written) a.pat → IsRowIn scope (0 ∷ []) (record { row = starting_row i a; wanted = true })
 row_starts_in {T} scope i a l k = record { arm = l; heads = go (is_wild (Some a.pat)) refl }
   where
     go : (b : Bool) → is_wild (Some a.pat) ≡ b → All (IsHeadIn scope (0 ∷ [])) (cond b [] ((0, a.pat) ∷ []))
     go true e = All-nil (IsHeadIn scope (0 ∷ []))
     go false e = All-cons (IsHeadIn scope (0 ∷ [])) (0, a.pat) [] (record { column = here 0 []; sharp = e; known = k }) (All-nil (IsHeadIn scope (0 ∷ [])))
-
-pub starting_in : {T : Type 0} (scope : Scope T) (i : ℕ) (xs : List (MDeArm T)) → i + length xs ≤ scope.arms → ((p : MDePat T) → Contains (patterns_of xs) p → Contains (patterns_of scope.written) p) →
-    All (IsRowIn scope (0 ∷ [])) (wanted_all (starting_rows i xs))
-starting_in scope i [] l k = All-nil (IsRowIn scope (0 ∷ []))
-starting_in scope i (a ∷ xs) l k =
-    All-cons (IsRowIn scope (0 ∷ [])) (record { row = starting_row i a; wanted = true }) (wanted_all (starting_rows (suc i) xs))
-    (row_starts_in scope i a (omega (arith, l)) (k a.pat (in_left (patterns_in a.pat) (patterns_of xs) a.pat (itself_in a.pat))))
-    (starting_in scope (suc i) xs (omega (arith, l)) (λ p c. k p (in_right (patterns_in a.pat) (patterns_of xs) p c)))

@@ -19,10 +19,11 @@ use crate::cutting::next_cut;
 use crate::entering::piece_child;
 use crate::frames::{Apart, Frame, Reached};
 use crate::wild::wild_child;
-use constructor_sets::{PresentPieces, Span, present};
+use constructor_sets::{PresentPieces, Span};
+use distinct_heads::{are_wild, leaf_pieces};
 use no_memory::NoMemory;
 use pat_context::{Ctor, PatCx};
-use pattern_matrix::{all_parts, leaf_ctors, leaf_spans};
+use pattern_matrix::{all_parts, leaf_spans};
 use std::alloc::Global;
 
 // Adds the child, where there is one.
@@ -195,17 +196,10 @@ pub(crate) fn children<'a, C: PatCx>(
     ensures good { IfOk result (λ v. All (IsGood (scope_of reached.old)) v.items) }
     ensures looked { IfOk result (λ v. IsLookedAt (C.is_type cx.now) (C.is_value cx.now) (C.context cx.now) (is_noted reached.old) (is_noted reached.new) (apart_view a.now) (frame_views v.items)) }
 {
-    let ctors = leaf_ctors(alloc, &a.leaves)?;
-    if ctors.is_empty() {
+    if are_wild(&a.leaves) {
         return dropped_column(alloc, cx, reached, a);
     }
-    let found = present(
-        alloc,
-        cx,
-        a.taken.column.ty,
-        a.taken.column.validity,
-        &ctors,
-    )?;
+    let found = leaf_pieces(alloc, cx, &a.taken.column, &a.leaves)?;
     let spans = leaf_spans(alloc, &found.ctors, &a.leaves, &found.spans)?;
     split_column(alloc, cx, reached, a, &found, &spans)
 }

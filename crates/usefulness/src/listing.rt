@@ -25,6 +25,22 @@ pub(crate) fn none_listed<'a, T: Copy>(alloc: Global) -> Listing<'a, T>
     }
 }
 
+// The same, with room for so many.
+pub(crate) fn room_listed<'a, T: Copy>(
+    alloc: Global,
+    room: usize,
+) -> Result<Listing<'a, T>, NoMemory>
+    ensures rows { IfOk result (λ l. plain_askeds l.rows.items ≡ []) }
+    ensures closed { IfOk result (λ l. l.closed ≡ false) }
+    ensures kept { IfOk result (λ l. IsKept l) }
+{
+    Ok(Listing {
+        rows: Vec::with_capacity(alloc, room)?,
+        end: 0,
+        closed: false,
+    })
+}
+
 // Marks what the row answers, before which none was kept. It lists no head.
 fn note<'a, T: Copy>(
     reached: &mut Reached<'a, T>,

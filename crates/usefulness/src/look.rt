@@ -16,7 +16,7 @@ use crate::children::children;
 use crate::choice::choose;
 use crate::compact::compact;
 use crate::frames::{Apart, Asked, Frame, Listing, OpenColumn, Reached};
-use crate::listing::{finish, list_row, none_listed};
+use crate::listing::{finish, list_row, room_listed};
 use crate::telling::tell;
 use crate::told::{Told, is_told, is_untold, note_told};
 use no_memory::NoMemory;
@@ -106,7 +106,7 @@ fn relisting<'a, T: Copy>(
     requires rows { All (IsRowIn (scope_of reached.old) (numbers (plain_opens columns.now))) (plain_askeds rows.items) }
     ensures { IfOk result (λ l. IsListed (scope_of reached.old) (is_noted reached.old) reached.new (numbers (plain_opens columns.now)) (plain_askeds rows.entry.items) l) }
 {
-    let mut listing = none_listed(alloc);
+    let mut listing = room_listed(alloc, rows.len())?;
     for asked in rows {
         list_row(reached, &mut listing, asked)?;
     }

@@ -1,32 +1,89 @@
 // The search for what is reached.
-ghost use Rattle.std.specs.Prelude.{◌≡◌, ◌<◌, ◌+◌, ◌^◌, ◌++◌, ◌∷◌, [], length, IfOk, OnOk, false};
+ghost use Rattle.std.specs.Prelude.{◌≡◌, ◌<◌, ◌+◌, ◌^◌, ◌++◌, ◌∷◌, [], cond, length, map, Some, IfOk, OnOk, true, false};
 ghost use Rattle.std.specs.List.{All};
+ghost use Rattle.match_model.specs.Rows.{is_wild};
 ghost use Rattle.match_model.specs.Values.{MValue};
 ghost use Rattle.match_model.specs.WellTyped.{IsWellTyped};
 ghost use Rattle.pat_context.specs.Views.{is_sure};
-ghost use Rattle.pattern_arena.specs.Trees.{plain_match};
+ghost use Rattle.pattern_arena.specs.Trees.{plain_arm, plain_match, tree};
 ghost use Rattle.pattern_matrix.specs.Counting.{Question};
 ghost use Rattle.pattern_matrix.specs.Searching.{IsSearch, first_submatrix};
+ghost use Rattle.pattern_matrix.specs.Starting.{starting_row, starting_rows};
+ghost use Rattle.pattern_matrix.specs.Views.{plain_heads};
 ghost use Rattle.pattern_matrix.specs.SearchLaws.{IsReached};
 ghost use Rattle.usefulness.specs.Children.{bare_sub};
 ghost use Rattle.usefulness.specs.Marking.{is_marked};
 ghost use Rattle.usefulness.specs.Scope.{scope_for};
-ghost use Rattle.usefulness.specs.Starting.{asked_from};
-ghost use Rattle.usefulness.specs.States.{frame_views, is_noted, scope_of, IsGood, IsListed};
+ghost use Rattle.usefulness.specs.Starting.{asked_from, wanted_all};
+ghost use Rattle.usefulness.specs.States.{frame_views, is_noted, plain_asked, scope_of, IsGood, IsListed};
 
 use crate::Marks;
 use crate::children::add_child;
 use crate::frames::{Asked, Frame, Listing, OpenColumn, Reached};
-use crate::listing::{finish, list_row, none_listed};
+use crate::listing::{finish, list_row, room_listed};
 use crate::look::look;
 use crate::told::{keep_count, none_told};
 use no_memory::NoMemory;
-use pat_context::{PatCx, has_value};
-use pattern_arena::CheckedMatch;
+use pat_context::{Ctor, PatCx, has_value};
 use pattern_arena::laws::matches_are_made;
-use pattern_matrix::{Column, Row, first_rows};
+use pattern_arena::{CheckedArm, CheckedMatch, DePat};
+use pattern_matrix::{Column, Head, Row};
 use smallvec::SmallVec;
 use std::alloc::Global;
+
+// The pattern as the head of the first column, which has the number 0; none for a wildcard.
+fn starting_heads<'a, T: Copy>(
+    alloc: Global,
+    pat: &'a DePat<'a, T>,
+) -> Result<Vec<Head<'a, T>>, NoMemory>
+    ensures { IfOk result (λ v. plain_heads v.items ≡ cond (is_wild (Some (tree pat.entry.now))) [] ((0, tree pat.entry.now) ∷ [])) }
+{
+    match pat.ctor {
+        Ctor::Wild => Ok(Vec::new(alloc)),
+        _ => {
+            let mut heads = Vec::with_capacity(alloc, 1)?;
+            heads.push(Head { column: 0, pat })?;
+            Ok(heads)
+        }
+    }
+}
+
+// The row of the arm with the number, which is wanted.
+fn arm_row<'a, T: Copy>(
+    alloc: Global,
+    number: u32,
+    arm: &'a CheckedArm<'a, T>,
+) -> Result<Asked<'a, T>, NoMemory>
+    ensures { IfOk result (λ x. plain_asked x ≡ (record { row = starting_row number (plain_arm arm.entry.now); wanted = true })) }
+{
+    let heads = starting_heads(alloc, &arm.pat)?;
+    let row = Row {
+        heads,
+        arm: number,
+        guarded: arm.guarded,
+        chosen: SmallVec::new(alloc),
+    };
+    Ok(Asked { row, wanted: true })
+}
+
+// The rows of the arms, listed one by one.
+fn arm_listing<'a, T: Copy>(
+    alloc: Global,
+    reached: &mut Reached<'a, T>,
+    arms: &'a [CheckedArm<'a, T>],
+) -> Result<Listing<'a, T>, NoMemory>
+    requires scope { scope_of reached.old ≡ scope_for (map plain_arm arms.now) }
+    requires few { length arms.now < 2 ^ 32 }
+    ensures { IfOk result (λ l. IsListed (scope_for (map plain_arm arms.entry.now)) (is_noted reached.old) reached.new (0 ∷ [])
+        (wanted_all (starting_rows 0 (map plain_arm arms.entry.now))) l) }
+{
+    let mut listing = room_listed(alloc, arms.len() + 1)?;
+    for (i, arm) in arms.iter().enumerate() {
+        let asked = arm_row(alloc, i as u32, arm)?;
+        list_row(reached, &mut listing, asked)?;
+    }
+    Ok(listing)
+}
 
 // The rows of the arms and the one behind them, listed.
 fn first_listing<'a, T: Copy>(
@@ -38,11 +95,7 @@ fn first_listing<'a, T: Copy>(
     requires few { length m.now.arms.now < 2 ^ 32 }
     ensures { IfOk result (λ l. IsListed (scope_for (plain_match m.now).arms) (is_noted reached.old) reached.new (0 ∷ []) (asked_from (plain_match m.now).arms) l) }
 {
-    let mut listing = none_listed(alloc);
-    let rows = first_rows(alloc, m)?;
-    for row in rows {
-        list_row(reached, &mut listing, Asked { row, wanted: true })?;
-    }
+    let mut listing = arm_listing(alloc, reached, m.arms)?;
     let behind = Row {
         heads: Vec::new(alloc),
         arm: m.arms.len() as u32,

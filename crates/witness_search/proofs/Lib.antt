@@ -13,3 +13,4 @@ pub mod Turning
 pub mod Walking
 pub mod Order
 mod FlagMatch
+pub mod CoveredPieces

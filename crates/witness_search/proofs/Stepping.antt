@@ -81,7 +81,6 @@ module _ {T : Type 0} (IsType : T → Type 0) (cx : Context T) where
         typed = subst (AllTyped cx (cols (o ∷ places))) (sym same) (bare_typed cx (cols (o ∷ places)) (flat_map expand_row hss) (expanded_typed cx column (cols places) hss w.typed));
         none_or = subst NoneOr (sym same) (bare_none (flat_map expand_row hss) (none_same cx (flat_map expand_row hss) (expanded_none cx column (cols places) hss w.typed)));
         column = c ∙ sym (column_is numbers rows leaves within);
-        ctors = c;
         within = within;
         below = w.below;
         others = both_apart number next numbers (All-tail (λ d. d < next) number numbers w.numbers_below) w.apart.0;
@@ -156,6 +155,18 @@ module _ {T : Type 0} (IsType : T → Type 0) (cx : Context T) where
   piece_heads numbers all n piece rows new leaves e =
       ap all_heads e ∙ heads_bare (specialised_rows [] piece n (leaf_views numbers rows leaves)) ∙ ap bares (special_all [] piece n (leaf_views numbers rows leaves))
 
+  -- as many columns as places are open once a piece is entered
+  pub piece_many : (next number : ℕ) (o : Open T) (numbers : List ℕ) (places : List (Open T)) (rows : List (SparseRow T)) (leaves : List (SparseLeaf T)) (heads : List MCtor) (piece : MCtor) →
+      IsApart IsType cx next number o numbers places rows leaves heads →
+      length (columns_from next (cx.arity piece o.type) ++ numbers) ≡ length (parts_open cx o piece ++ places)
+  piece_many next number o numbers places rows leaves heads piece a =
+      let n = cx.arity piece o.type in
+      let i = length-append (columns_from next n) numbers in
+      let j = length_columns next n in
+      let k = length-append (parts_open cx o piece) places in
+      let m = length-below (part_open cx o piece) n in
+      omega (arith, i, j, k, m, a.as_many)
+
   pub piece_well : (IsValue : T → Bool → MValue → Type 0) → PartsLaw IsType IsValue cx → (next number : ℕ) (o : Open T) (numbers : List ℕ) (places : List (Open T)) (rows new : List (SparseRow T)) (leaves : List (SparseLeaf T)) (heads : List MCtor) (piece : MCtor) →
       IsApart IsType cx next number o numbers places rows leaves heads → IsEnterable cx o piece →
       row_views (columns_from next (cx.arity piece o.type) ++ numbers) new ≡ map bare_row (specialised_rows [] piece (cx.arity piece o.type) (leaf_views numbers rows leaves)) →
@@ -172,12 +183,7 @@ module _ {T : Type 0} (IsType : T → Type 0) (cx : Context T) where
         below = f;
         numbers_below = All-append (λ d. d < next + n) (columns_from next n) numbers (columns_below next n (next + n) (omega arith)) (more_below next (next + n) numbers (omega arith) below);
         apart = columns_apart next n numbers below a.apart;
-        as_many =
-            let i = length-append (columns_from next n) numbers in
-            let j = length_columns next n in
-            let k = length-append (parts_open cx o piece) places in
-            let m = length-below (part_open cx o piece) n in
-            omega (arith, i, j, k, m, a.as_many);
+        as_many = piece_many next number o numbers places rows leaves heads piece a;
       }
 
   pub piece_back : (IsValue : T → Bool → MValue → Type 0) (numbers all : List ℕ) (n : ℕ) (places : List (Open T)) (piece : MCtor) (rows new : List (SparseRow T)) (leaves : List (SparseLeaf T)) →

@@ -1,6 +1,6 @@
 -- The steps of the search, as its code has them.
-use Rattle.std.proofs.Common.{◌≡◌, ◌<◌, ℕ, ◌+◌, Bool, List, [], ◌∷◌, ◌++◌, map, length, sym, ap, subst, arith}
-use Rattle.std.specs.List.{All}
+use Rattle.std.proofs.Common.{◌≡◌, ◌<◌, ℕ, ◌+◌, Bool, List, [], ◌∷◌, ◌++◌, true, map, length, refl, sym, ap, subst, arith}
+use Rattle.std.specs.List.{All, list_any}
 use Rattle.std.proofs.lemmas.List.{length-map}
 use Rattle.match_model.specs.Values.{MValue}
 use Rattle.match_model.specs.Constructors.{MCtor}
@@ -12,8 +12,9 @@ use Rattle.match_model.specs.WellTyped.{IsHeadTyped}
 use Rattle.match_model.specs.Rows.{parts_open, all_specialised}
 use Rattle.match_model.specs.Witness.{MWitness, AnyOf}
 use Rattle.match_model.specs.WitnessList.{Witnesses}
-use Rattle.constructor_sets.specs.Columns.{plain_ctors}
 use Rattle.pattern_matrix.specs.Columns.{plain_column}
+use Rattle.pattern_matrix.specs.Halving.{leaf_ctors}
+use Rattle.pattern_matrix.specs.Opening.{opened_rows}
 use Rattle.pattern_matrix.specs.Sparse.{SparseRow, bare_head, bare_row, row_views, leaf_views, leaves_listed, columns_from, AreBelow, AreOthers, AreParts, IsLeafOf}
 use Rattle.pattern_matrix.specs.Views.{plain_row, plain_rows, plain_leaf, plain_leaves}
 use Rattle.pattern_matrix.specs.declared.rows.Leaf.{Leaf}
@@ -21,12 +22,15 @@ use Rattle.pattern_matrix.specs.declared.rows.Row.{Row}
 use Rattle.witness_search.specs.Bares.{wild_rests}
 use Rattle.witness_search.specs.Found.{AreSplitWitnesses, IsEnterable, IsOfPiece, ArePieceLeaves}
 use Rattle.witness_search.specs.Opened.{places_of, numbers_of}
+use Rattle.witness_search.specs.Starts.{lists_none}
 use Rattle.witness_search.specs.Wells.{heads_over, apart_heads, IsWell, IsTakenApart}
 use Rattle.witness_search.specs.declared.apart.Apart.{Apart}
 use Rattle.witness_search.specs.declared.opened.Opened.{Opened}
+use Rattle.pattern_matrix.proofs.Opened.{opened_views}
+use Rattle.witness_search.proofs.Ends.{bare_found}
 use Rattle.witness_search.proofs.Leaves.{leaves_typed, parts_fit, listed_fit, rows_of_piece}
 use Rattle.witness_search.proofs.Plain.{within_code}
-use Rattle.witness_search.proofs.Stepping.{wild_back, split_back, piece_well, piece_back}
+use Rattle.witness_search.proofs.Stepping.{wild_back, split_back, piece_well, piece_many, piece_back}
 
 module _ {T : Type 0} (IsType : T → Type 0) (cx : Context T) (IsValue : T → Bool → MValue → Type 0) where
   -- what is found of rows and places, by what stands for them
@@ -41,21 +45,21 @@ module _ {T : Type 0} (IsType : T → Type 0) (cx : Context T) (IsValue : T → 
   some_rows rows new e l = let a = length-map rows plain_row in omega (arith, a, l, ap length e)
 
   pub wild_found : (others : List (Opened T)) (e : Apart T) (rows : List (Row T)) (place : Opened T) → e.rows.items ≡ rows → e.place ≡ place →
-      IsTakenApart IsType cx others e → 0 < length rows → plain_ctors e.heads.items ≡ [] → (ws : List (List MWitness)) →
+      IsTakenApart IsType cx others e → 0 < length rows → leaf_ctors (plain_leaves e.leaves.items) ≡ [] → (ws : List (List MWitness)) →
       Witnesses cx IsValue (places_of others) (wild_rests (apart_heads others e)) ws →
       Witnesses cx IsValue (plain_column place.column ∷ places_of others) (heads_over (place.number ∷ numbers_of others) (plain_rows rows)) (map (λ w. AnyOf ∷ w) ws)
   wild_found others e rows place r p a l n ws h =
       moved others e.rows.items rows e.place place r p (map (λ w. AnyOf ∷ w) ws)
-      (wild_back IsType cx IsValue e.next e.place.number (plain_column e.place.column) (numbers_of others) (places_of others) (plain_rows e.rows.items) (plain_leaves e.leaves.items) (plain_ctors e.heads.items)
+      (wild_back IsType cx IsValue e.next e.place.number (plain_column e.place.column) (numbers_of others) (places_of others) (plain_rows e.rows.items) (plain_leaves e.leaves.items) (leaf_ctors (plain_leaves e.leaves.items))
       a (some_rows e.rows.items rows r l) n ws h)
 
   pub split_found : (others : List (Opened T)) (e : Apart T) (rows : List (Row T)) (place : Opened T) → e.rows.items ≡ rows → e.place ≡ place →
-      IsTakenApart IsType cx others e → 0 < length rows → 0 < length (plain_ctors e.heads.items) → (ws : List (List MWitness)) →
+      IsTakenApart IsType cx others e → 0 < length rows → 0 < length (leaf_ctors (plain_leaves e.leaves.items)) → (ws : List (List MWitness)) →
       AreSplitWitnesses cx IsValue (plain_column e.place.column) (places_of others) (apart_heads others e) ws →
       Witnesses cx IsValue (plain_column place.column ∷ places_of others) (heads_over (place.number ∷ numbers_of others) (plain_rows rows)) ws
   split_found others e rows place r p a l n ws h =
       moved others e.rows.items rows e.place place r p ws
-      (split_back IsType cx IsValue e.next e.place.number (plain_column e.place.column) (numbers_of others) (places_of others) (plain_rows e.rows.items) (plain_leaves e.leaves.items) (plain_ctors e.heads.items)
+      (split_back IsType cx IsValue e.next e.place.number (plain_column e.place.column) (numbers_of others) (places_of others) (plain_rows e.rows.items) (plain_leaves e.leaves.items) (leaf_ctors (plain_leaves e.leaves.items))
       a (some_rows e.rows.items rows r l) n ws h)
 
   -- the rows of the piece, by the leaves and the columns that code has
@@ -69,7 +73,7 @@ module _ {T : Type 0} (IsType : T → Type 0) (cx : Context T) (IsValue : T → 
       ArePieceRows others e piece n (columns_from e.next n ++ numbers_of others) new → AreBelow (e.next + n) new → IsWell IsType cx (e.next + n) numbers places new
   entered_well law others e piece new n numbers places a b en ens eps er eb =
       let o = plain_column e.place.column in
-      let w = piece_well IsType cx IsValue law e.next e.place.number o (numbers_of others) (places_of others) (plain_rows e.rows.items) new (plain_leaves e.leaves.items) (plain_ctors e.heads.items) piece a b
+      let w = piece_well IsType cx IsValue law e.next e.place.number o (numbers_of others) (places_of others) (plain_rows e.rows.items) new (plain_leaves e.leaves.items) (leaf_ctors (plain_leaves e.leaves.items)) piece a b
       (subst (λ k. ArePieceRows others e piece k (columns_from e.next k ++ numbers_of others) new) en er) (subst (λ k. AreBelow (e.next + k) new) en eb) in
       subst (λ ps. IsWell IsType cx (e.next + n) numbers ps new) (sym eps)
       (subst (λ ns. IsWell IsType cx (e.next + n) ns (parts_open cx o piece ++ places_of others) new) (sym ens)
@@ -127,3 +131,21 @@ module _ {T : Type 0} (IsType : T → Type 0) (cx : Context T) (IsValue : T → 
       rows_of_piece piece n (numbers_of others) (columns_from e.next n ++ numbers_of others) (plain_rows e.rows.items) new (plain_leaves e.leaves.items) found f
       (subst (λ (rs : List (Row T)). row_views (columns_from e.next n ++ numbers_of others) new ≡ map bare_row (specialised_rows [] piece n (leaf_views (numbers_of others) (plain_rows rs) (leaves_listed (plain_leaves e.leaves.items) found)))) er
       (subst (λ (ls : List (Leaf T)). row_views (columns_from e.next n ++ numbers_of others) new ≡ map bare_row (specialised_rows [] piece n (leaf_views (numbers_of others) (plain_rows lent) (leaves_listed (plain_leaves ls) found)))) el here))
+
+  -- a row that lists no head leaves nothing of the piece
+  pub covered_piece : PartsLaw IsType IsValue cx → (others : List (Opened T)) (e : Apart T) (piece : MCtor) (found : List ℕ) → IsTakenApart IsType cx others e →
+      IsEnterable cx (plain_column e.place.column) piece → ArePieceLeaves piece (plain_leaves e.leaves.items) found →
+      ((first count : ℕ) → list_any lists_none (opened_rows e.place.number first count (plain_rows e.rows.items) (leaves_listed (plain_leaves e.leaves.items) found)) ≡ true) →
+      IsOfPiece cx IsValue (plain_column e.place.column) (places_of others) (apart_heads others e) piece []
+  covered_piece law others e piece found a b f h =
+      let n = cx.arity piece e.place.column.ty in
+      let here = leaves_listed (plain_leaves e.leaves.items) found in
+      let new = opened_rows e.place.number e.next n (plain_rows e.rows.items) here in
+      let numbers = columns_from e.next n ++ numbers_of others in
+      let places = parts_open cx (plain_column e.place.column) piece ++ places_of others in
+      entered_back others e piece new n numbers places refl refl refl
+      (rows_given law others e piece n found e.rows.items e.leaves.items new refl refl a b refl f
+      (λ place p os below apart are. opened_views place p e.place.number e.next n os apart (plain_rows e.rows.items) here below are)) []
+      (bare_found cx IsValue places numbers new
+      (piece_many IsType cx e.next e.place.number (plain_column e.place.column) (numbers_of others) (places_of others) (plain_rows e.rows.items) (plain_leaves e.leaves.items) (leaf_ctors (plain_leaves e.leaves.items)) piece a)
+      (h e.next n))

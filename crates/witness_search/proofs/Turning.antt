@@ -16,9 +16,10 @@ use Rattle.constructor_sets.specs.declared.piece.PieceState.{PieceState}
 use Rattle.constructor_sets.specs.declared.piece.PieceState.TheVariants as state
 use Rattle.constructor_sets.specs.declared.piece.PresentPieces.{PresentPieces}
 use Rattle.pattern_matrix.specs.Columns.{plain_column}
+use Rattle.pattern_matrix.specs.Halving.{leaf_ctors}
 use Rattle.pattern_matrix.specs.Parts.{IsFull, pieces_left}
 use Rattle.pattern_matrix.specs.Sparse.{SparseRow, columns_from}
-use Rattle.pattern_matrix.specs.Views.{plain_rows}
+use Rattle.pattern_matrix.specs.Views.{plain_rows, plain_leaves}
 use Rattle.pattern_matrix.specs.declared.halving.Part.{Part}
 use Rattle.pattern_matrix.specs.declared.rows.Row.{Row}
 use Rattle.witnesses.specs.Views.{plain_stack, plain_names}
@@ -88,6 +89,28 @@ module _ {T : Type 0} (IsType : T → Type 0) (cx : Context T) (IsValue : T → 
         full = g.full;
       }
 
+  -- one more piece, which heads have, and of which rows leave nothing
+  pub covered : (opened : List (Opened T)) (w : Walk T) (piece : Piece) (todo : List Part) → w.done < length w.cut.pieces.items → piece ≡ get_or w.cut.pieces.items w.done piece →
+      piece.state ≡ state.Present → IsGoneThrough IsType cx IsValue opened w → IsLeft (pieces_left w.todo.items) (pieces_left todo) → All (IsFull w.cut.spans.items) todo →
+      IsOfPiece cx IsValue (plain_column w.e.place.column) (places_of opened) (apart_heads opened w.e) (plain_ctor piece.ctor) [] →
+      IsWalked IsType cx IsValue opened w.e w.cut todo (w.done + 1) (map plain_stack w.all.items)
+  covered opened w piece todo l is p g left full none =
+      let names = plain_names w.cut.names.items in
+      let o = plain_column w.e.place.column in
+      let pieces = w.cut.pieces.items in
+      let all = map plain_stack w.all.items in
+      let next : w.done + 1 ≡ suc w.done = omega arith in
+      let shown : plain_piece piece ≡ (plain_ctor piece.ctor, state.Present) = ap (λ s. (plain_ctor piece.ctor, s)) p in
+      record {
+        apart = g.apart;
+        cut = g.cut;
+        found = goes_on cx IsValue names o (places_of opened) (apart_heads opened w.e) pieces w.done (w.done + 1) piece all [] all next l is g.found
+            (subst (λ q. AreOfPiece cx IsValue names o (places_of opened) (apart_heads opened w.e) q []) (sym shown) ([], none, refl)) (sym (append-nil all));
+        left = left_behind (plain_ctors w.cut.ctors.items) (pieces_left w.todo.items) (pieces_left todo) pieces w.done (w.done + 1) piece next l is g.left
+            (subst (λ q. IsLeftBehind q (pieces_left w.todo.items) (pieces_left todo)) (sym shown) left);
+        full = full;
+      }
+
   -- ---- what waits
 
   module _ (root : Root T) where
@@ -112,7 +135,7 @@ module _ {T : Type 0} (IsType : T → Type 0) (cx : Context T) (IsValue : T → 
 
     -- a place where all rows are wild waits
     pub wild_look : (old new : List (Frame T)) (opened : List (Opened T)) (e bare : Apart T) (rows : List (Row T)) (place : Opened T) (behind : List (SparseRow T)) → IsPut old new bare Wild →
-        bare.place ≡ place → e.rows.items ≡ rows → e.place ≡ place → IsTakenApart IsType cx opened e → 0 < length rows → plain_ctors e.heads.items ≡ [] →
+        bare.place ≡ place → e.rows.items ≡ rows → e.place ≡ place → IsTakenApart IsType cx opened e → 0 < length rows → leaf_ctors (plain_leaves e.leaves.items) ≡ [] →
         IsWantedAt IsType cx IsValue root (reverse old) opened place (plain_rows rows) →
         ((ws : List (List MWitness)) → Witnesses cx IsValue (places_of opened) (heads_over (numbers_of opened) behind) ws → Witnesses cx IsValue (places_of opened) (wild_rests (apart_heads opened e)) ws) →
         IsWanted IsType cx IsValue root (reverse new) opened behind
@@ -123,7 +146,7 @@ module _ {T : Type 0} (IsType : T → Type 0) (cx : Context T) (IsValue : T → 
 
     -- what is found of all pieces of a place is wanted
     pub split_ends : (fs : List (Frame T)) (opened : List (Opened T)) (e : Apart T) (rows : List (Row T)) (place : Opened T) → e.rows.items ≡ rows → e.place ≡ place →
-        IsTakenApart IsType cx opened e → 0 < length rows → 0 < length (plain_ctors e.heads.items) → IsWantedAt IsType cx IsValue root fs opened place (plain_rows rows) →
+        IsTakenApart IsType cx opened e → 0 < length rows → 0 < length (leaf_ctors (plain_leaves e.leaves.items)) → IsWantedAt IsType cx IsValue root fs opened place (plain_rows rows) →
         Ends IsType cx IsValue root fs opened e
     split_ends fs opened e rows place er ep a some n w = λ us h.
         subst (λ (x : Opened T). Accepts IsType cx IsValue root fs (opened ++ x ∷ []) us) (sym ep) (w us (split_found IsType cx IsValue opened e rows place er ep a some n us h))
@@ -131,7 +154,7 @@ module _ {T : Type 0} (IsType : T → Type 0) (cx : Context T) (IsValue : T → 
     -- a place of which a piece is missing waits
     pub missing_look : (old new : List (Frame T)) (opened : List (Opened T)) (e : Apart T) (found : PresentPieces) (behind : List (SparseRow T)) → IsPut old new e (Missing found) →
         IsTakenApart IsType cx opened e →
-        ArePresent IsValue cx (plain_column e.place.column) (plain_ctors e.heads.items) (plain_ctors found.ctors.items) found.missing (plain_ctors found.gaps.items) (map plain_span found.spans.items) →
+        ArePresent IsValue cx (plain_column e.place.column) (leaf_ctors (plain_leaves e.leaves.items)) (plain_ctors found.ctors.items) found.missing (plain_ctors found.gaps.items) (map plain_span found.spans.items) →
         found.missing ≡ true → Ends IsType cx IsValue root (reverse old) opened e →
         ((ws : List (List MWitness)) → Witnesses cx IsValue (places_of opened) (heads_over (numbers_of opened) behind) ws → Witnesses cx IsValue (places_of opened) (wild_rests (apart_heads opened e)) ws) →
         IsWanted IsType cx IsValue root (reverse new) opened behind

@@ -14,9 +14,10 @@ use Rattle.constructor_sets.specs.Spans.{plain_span}
 use Rattle.constructor_sets.specs.declared.piece.Piece.{Piece}
 use Rattle.constructor_sets.specs.declared.piece.PresentPieces.{PresentPieces}
 use Rattle.pattern_matrix.specs.Columns.{plain_column}
+use Rattle.pattern_matrix.specs.Halving.{leaf_ctors}
 use Rattle.pattern_matrix.specs.Parts.{IsFull, pieces_left}
 use Rattle.pattern_matrix.specs.Sparse.{SparseRow}
-use Rattle.pattern_matrix.specs.Views.{plain_rows}
+use Rattle.pattern_matrix.specs.Views.{plain_rows, plain_leaves}
 use Rattle.pattern_matrix.specs.declared.halving.Part.{Part}
 use Rattle.witnesses.specs.Views.{plain_stack, plain_names}
 use Rattle.witness_search.specs.Bares.{wild_rests}
@@ -51,7 +52,7 @@ GoesOn cx IsValue named o places rows pieces i done =
 -- a place was taken apart, and some piece of it is missing; these are the stacks of the rows that are wild there
 pub record IsMissing {T : Type 0} (IsType : T → Type 0) (cx : Context T) (IsValue : T → Bool → MValue → Type 0) (opened : List (Opened T)) (e : Apart T) (p : PresentPieces) (ws : List (List MWitness)) : Type 0 where
   pub apart : IsTakenApart IsType cx opened e
-  pub found : ArePresent IsValue cx (plain_column e.place.column) (plain_ctors e.heads.items) (plain_ctors p.ctors.items) p.missing (plain_ctors p.gaps.items) (map plain_span p.spans.items)
+  pub found : ArePresent IsValue cx (plain_column e.place.column) (leaf_ctors (plain_leaves e.leaves.items)) (plain_ctors p.ctors.items) p.missing (plain_ctors p.gaps.items) (map plain_span p.spans.items)
   pub missing : p.missing ≡ true
   pub behind : Witnesses cx IsValue (places_of opened) (wild_rests (apart_heads opened e)) ws
 
@@ -69,7 +70,7 @@ IsGoneThrough IsType cx IsValue opened w = IsWalked IsType cx IsValue opened w.e
 
 -- the place that waits, and its rows
 abbrev pub waiting : {T : Type 0} → Frame T → Apart T
-waiting f = record { rows = f.rows; place = box_value f.place; next = f.next; leaves = f.leaves; heads = f.heads }
+waiting f = record { rows = f.rows; place = box_value f.place; next = f.next; leaves = f.leaves }
 
 -- this place was put behind those that wait, at this stage
 abbrev pub IsPut : {T : Type 0} → (old new : List (Frame T)) → Apart T → Stage → Type 0

@@ -4,7 +4,6 @@ use Rattle.std.specs.List.{All, flat_map}
 use Rattle.match_model.specs.Constructors.{MCtor}
 use Rattle.match_model.specs.Contexts.{Context, Open}
 use Rattle.match_model.specs.Rows.{Head, column_of, expand_row, starts_or}
-use Rattle.constructor_sets.specs.Columns.{plain_ctors}
 use Rattle.pattern_matrix.specs.HeadRows.{cols, AreTypes, AllTyped, all_heads}
 use Rattle.pattern_matrix.specs.Columns.{plain_column}
 use Rattle.pattern_matrix.specs.Halving.{leaf_ctors}
@@ -52,7 +51,6 @@ pub record IsApart {T : Type 0} (IsType : T → Type 0) (cx : Context T) (next n
   pub typed : AllTyped cx (cols (o ∷ places)) (leaf_heads numbers rows leaves)
   pub none_or : NoneOr (leaf_heads numbers rows leaves)
   pub column : heads ≡ column_of (leaf_heads numbers rows leaves)
-  pub ctors : heads ≡ leaf_ctors leaves
   pub within : All (λ l. l.row < length rows) leaves
   pub below : AreBelow next rows
   pub others : AreOthers number next numbers
@@ -63,7 +61,7 @@ pub record IsApart {T : Type 0} (IsType : T → Type 0) (cx : Context T) (next n
 -- the same of code, over these other places
 abbrev pub IsTakenApart : {T : Type 0} → (T → Type 0) → Context T → List (Opened T) → Apart T → Type 0
 IsTakenApart IsType cx opened e =
-    IsApart IsType cx e.next e.place.number (plain_column e.place.column) (numbers_of opened) (places_of opened) (plain_rows e.rows.items) (plain_leaves e.leaves.items) (plain_ctors e.heads.items)
+    IsApart IsType cx e.next e.place.number (plain_column e.place.column) (numbers_of opened) (places_of opened) (plain_rows e.rows.items) (plain_leaves e.leaves.items) (leaf_ctors (plain_leaves e.leaves.items))
 
 -- the heads of what was taken apart, over these other places
 abbrev pub apart_heads : {T : Type 0} → List (Opened T) → Apart T → List (List (Head T))

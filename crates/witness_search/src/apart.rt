@@ -13,10 +13,10 @@ ghost use Rattle.witness_search.specs.Wells.{heads_over, apart_heads, IsWell, Is
 use crate::opened::{Opened, open_parts};
 use no_memory::NoMemory;
 use pat_context::{Ctor, PatCx};
-use pattern_matrix::{Leaf, Row, leaf_ctors, leaves_at, piece_rows, wild_rows};
+use pattern_matrix::{Leaf, Row, leaves_at, piece_rows, wild_rows};
 use std::alloc::Global;
 
-// Rows, an open place, what stands there in the rows with or-patterns taken apart, and the constructors of that.
+// Rows, an open place, and what stands there in the rows with or-patterns taken apart.
 #[derive(Drop)]
 pub(crate) struct Apart<'a, T: Copy> {
     pub(crate) rows: Vec<Row<'a, T>>,
@@ -24,7 +24,6 @@ pub(crate) struct Apart<'a, T: Copy> {
     // The number of the place that is opened next; those of all others are less.
     pub(crate) next: usize,
     pub(crate) leaves: Vec<Leaf<'a, T>>,
-    pub(crate) heads: Vec<Ctor<'a>>,
 }
 
 // Takes the rows apart at the place, which stands before the others.
@@ -43,13 +42,11 @@ pub(crate) fn take_apart<'a, C: PatCx>(
     ensures apart { IfOk result (λ e. IsTakenApart (C.is_type cx.now) (C.context cx.now) others.now.items e) }
 {
     let leaves = leaves_at(alloc, &rows, place.number)?;
-    let heads = leaf_ctors(alloc, &leaves)?;
     Ok(Apart {
         rows,
         place,
         next,
         leaves,
-        heads,
     })
 }
 

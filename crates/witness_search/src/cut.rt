@@ -7,7 +7,7 @@ ghost use Rattle.constructor_sets.specs.Columns.{plain_ctors};
 ghost use Rattle.constructor_sets.specs.Present.{ArePresent};
 ghost use Rattle.constructor_sets.specs.Spans.{plain_span};
 ghost use Rattle.pattern_matrix.specs.Columns.{plain_column};
-ghost use Rattle.pattern_matrix.specs.Halving.{AreLeafSpans};
+ghost use Rattle.pattern_matrix.specs.Halving.{AreLeafSpans, leaf_ctors};
 ghost use Rattle.pattern_matrix.specs.Parts.{IsFull, pieces_left, plain_spans};
 ghost use Rattle.pattern_matrix.specs.Views.{plain_leaves};
 ghost use Rattle.witnesses.specs.Views.{plain_stack};
@@ -52,14 +52,14 @@ pub(crate) fn cut_pieces<'a, C: PatCx>(
     behind: Vec<Stack>,
 ) -> Result<Cut<'a>, NoMemory>
     requires apart { IsTakenApart (C.is_type cx.now) (C.context cx.now) others.now.items e.now }
-    requires found { ArePresent (C.is_value cx.now) (C.context cx.now) (plain_column e.now.place.column) (plain_ctors e.now.heads.items)
+    requires found { ArePresent (C.is_value cx.now) (C.context cx.now) (plain_column e.now.place.column) (leaf_ctors (plain_leaves e.now.leaves.items))
         (plain_ctors found.ctors.items) found.missing (plain_ctors found.gaps.items) (map plain_span found.spans.items) }
     requires missing { found.missing ≡ true → Witnesses (C.context cx.now) (C.is_value cx.now) (places_of others.now.items) (wild_rests (apart_heads others.now.items e.now)) (map plain_stack behind.items) }
     requires none { found.missing ≡ false → behind.items ≡ [] }
     ensures { IfOk result (λ c. IsCut (C.context cx.now) (C.is_value cx.now) others.now.items e.now c) }
 {
     let none = behind.is_empty();
-    let pieces = listed_pieces(alloc, cx, &e.place.column, &e.heads, &found.ctors, none)?;
+    let pieces = listed_pieces(alloc, cx, &e.place.column, &e.leaves, &found.ctors, none)?;
     let names = named_texts(alloc, &pieces)?;
     let spans = leaf_spans(alloc, &found.ctors, &e.leaves, &found.spans)?;
     Ok(Cut {

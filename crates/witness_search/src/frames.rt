@@ -55,7 +55,6 @@ pub(crate) struct Frame<'a, T: Copy> {
     pub(crate) place: Box<Opened<T>>,
     pub(crate) next: usize,
     pub(crate) leaves: Vec<Leaf<'a, T>>,
-    pub(crate) heads: Vec<Ctor<'a>>,
     pub(crate) stage: Stage<'a>,
 }
 

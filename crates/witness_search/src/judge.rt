@@ -58,8 +58,8 @@ pub fn judge_by<'a, C: PatCx, M: Marked>(
 {
     matches_are_made(m);
     judged_by_marks(cx);
-    let unreachable = unreachable_list(alloc, m, marks)?;
     let witnesses = witnesses_where(alloc, cx, m, marks)?;
+    let unreachable = unreachable_list(alloc, m, marks)?;
     Ok(Judgement {
         exhaustive: witnesses.is_empty(),
         witnesses,

@@ -2,6 +2,7 @@
 #![tactic(auto)]
 
 mod apart;
+mod covered;
 mod cut;
 mod frames;
 mod judge;

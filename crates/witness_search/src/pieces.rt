@@ -5,13 +5,16 @@ ghost use Rattle.match_model.specs.Pieces.{text_of};
 ghost use Rattle.constructor_sets.specs.Columns.{plain_ctors, plain_piece, IsColumnSplit};
 ghost use Rattle.constructor_sets.specs.Present.{is_sharp_head};
 ghost use Rattle.pattern_matrix.specs.Columns.{plain_column};
+ghost use Rattle.pattern_matrix.specs.Halving.{leaf_ctors};
+ghost use Rattle.pattern_matrix.specs.Views.{plain_leaves};
 ghost use Rattle.witnesses.specs.Views.{plain_names};
 ghost use Rattle.witness_search.specs.Found.{as_present};
 
-use constructor_sets::{Piece, PieceState, split_column};
+use constructor_sets::{Piece, PieceState};
+use distinct_heads::split_leaves;
 use no_memory::NoMemory;
 use pat_context::{Ctor, PatCx};
-use pattern_matrix::Column;
+use pattern_matrix::{Column, Leaf};
 use std::alloc::Global;
 
 // The texts that the pieces name.
@@ -46,21 +49,21 @@ pub(crate) fn listed_pieces<'a, C: PatCx>(
     alloc: Global,
     cx: &C,
     column: &Column<C::Ty>,
-    heads: &[Ctor<'a>],
+    leaves: &[Leaf<'a, C::Ty>],
     ctors: &[Ctor<'a>],
     present: bool,
 ) -> Result<Vec<Piece<'a>>, NoMemory>
     requires ty { C.is_type cx.now column.now.ty }
-    requires heads { All (λ h. IsTrue (is_sharp_head ((C.context cx.now).set_of column.now.ty) h)) (plain_ctors heads.now) }
+    requires heads { All (λ h. IsTrue (is_sharp_head ((C.context cx.now).set_of column.now.ty) h)) (leaf_ctors (plain_leaves leaves.now)) }
     ensures present { IfOk result (λ v. present ≡ true → map plain_piece v.items ≡ as_present (plain_ctors ctors.now)) }
     ensures split { IfOk result (λ v. present ≡ false → IsColumnSplit (C.is_value cx.now) (C.context cx.now) (plain_column column.now)
-        (plain_ctors heads.now) (map plain_piece v.items)) }
+        (leaf_ctors (plain_leaves leaves.now)) (map plain_piece v.items)) }
 {
     if present {
         let pieces = present_only(alloc, ctors)?;
         Ok(pieces)
     } else {
-        let split = split_column(alloc, cx, column.ty, column.validity, heads)?;
-        Ok(split.pieces)
+        let pieces = split_leaves(alloc, cx, column, leaves)?;
+        Ok(pieces)
     }
 }

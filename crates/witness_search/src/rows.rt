@@ -39,10 +39,10 @@ fn starting_heads<'a, T: Copy>(
 ) -> Result<Vec<Head<'a, T>>, NoMemory>
     ensures { IfOk result (λ v. plain_heads v.items ≡ starting_heads (tree pat.entry.now)) }
 {
-    let mut heads = Vec::new(alloc);
     match pat.ctor {
-        Ctor::Wild => Ok(heads),
+        Ctor::Wild => Ok(Vec::new(alloc)),
         _ => {
+            let mut heads = Vec::with_capacity(alloc, 1)?;
             heads.push(Head { column: 0, pat })?;
             Ok(heads)
         }
@@ -76,7 +76,7 @@ pub(crate) fn unguarded_rows<'a, T: Copy>(
 ) -> Result<Vec<Row<'a, T>>, NoMemory>
     ensures { IfOk result (λ v. plain_rows v.items ≡ starting_rows (map plain_arm arms.entry.now)) }
 {
-    let mut rows = Vec::new(alloc);
+    let mut rows = Vec::with_capacity(alloc, arms.len())?;
     for arm in arms {
         add_arm(alloc, &mut rows, arm)?;
     }

@@ -10,7 +10,8 @@ ghost use Rattle.constructor_sets.specs.Spans.{plain_span};
 ghost use Rattle.constructor_sets.specs.declared.piece.PieceState.TheVariants.{Present, Missing, Empty};
 ghost use Rattle.pattern_arena.specs.Trees.{plain_arm};
 ghost use Rattle.pattern_matrix.specs.Columns.{plain_column};
-ghost use Rattle.pattern_matrix.specs.Views.{plain_rows};
+ghost use Rattle.pattern_matrix.specs.Halving.{leaf_ctors};
+ghost use Rattle.pattern_matrix.specs.Views.{plain_rows, plain_leaves};
 ghost use Rattle.witnesses.specs.Views.{plain_stack, plain_names};
 ghost use Rattle.witness_search.specs.Bares.{wild_rests};
 ghost use Rattle.witness_search.specs.Cuts.{wrapped_behind};
@@ -22,12 +23,14 @@ ghost use Rattle.witness_search.specs.Wells.{heads_over, apart_heads, IsWell, Is
 ghost use Rattle.witness_search.specs.declared.opened.Opened.{Opened};
 
 use crate::apart::{Apart, enter_piece, rows_behind, take_apart};
+use crate::covered::is_covered;
 use crate::cut::{Cut, cut_pieces, leaves_of_next};
 use crate::frames::{Frame, Stage, Turn, Walk, Within};
 use crate::opened::{Opened, put_back, take_first};
 use crate::rows::{has_bare, unguarded_rows};
 use crate::stacks::{add_stacks, one_of_any, with_anys, wrap_all, wrapped_copies};
-use constructor_sets::{Piece, PieceState, PresentPieces, present};
+use constructor_sets::{Piece, PieceState, PresentPieces};
+use distinct_heads::{are_wild, leaf_pieces};
 use no_memory::NoMemory;
 use pat_context::{Ctor, PatCx, count_parts};
 use pattern_arena::CheckedArm;
@@ -49,7 +52,7 @@ fn start_pieces<'a, C: PatCx>(
     behind: Vec<Stack>,
 ) -> Result<Walk<'a, C::Ty>, NoMemory>
     requires apart { IsTakenApart (C.is_type cx.now) (C.context cx.now) opened.now.items e }
-    requires found { ArePresent (C.is_value cx.now) (C.context cx.now) (plain_column e.place.column) (plain_ctors e.heads.items)
+    requires found { ArePresent (C.is_value cx.now) (C.context cx.now) (plain_column e.place.column) (leaf_ctors (plain_leaves e.leaves.items))
         (plain_ctors found.ctors.items) found.missing (plain_ctors found.gaps.items) (map plain_span found.spans.items) }
     requires missing { found.missing ≡ true → Witnesses (C.context cx.now) (C.is_value cx.now) (places_of opened.now.items) (wild_rests (apart_heads opened.now.items e)) (map plain_stack behind.items) }
     requires none { found.missing ≡ false → behind.items ≡ [] }
@@ -74,12 +77,11 @@ fn found_at<'a, C: PatCx>(
     e: &Apart<'a, C::Ty>,
 ) -> Result<PresentPieces<'a>, NoMemory>
     requires ty { C.is_type cx.now e.now.place.column.ty }
-    requires heads { All (λ h. IsTrue (is_sharp_head ((C.context cx.now).set_of e.now.place.column.ty) h)) (plain_ctors e.now.heads.items) }
-    ensures { IfOk result (λ found. ArePresent (C.is_value cx.now) (C.context cx.now) (plain_column e.now.place.column) (plain_ctors e.now.heads.items)
+    requires heads { All (λ h. IsTrue (is_sharp_head ((C.context cx.now).set_of e.now.place.column.ty) h)) (leaf_ctors (plain_leaves e.now.leaves.items)) }
+    ensures { IfOk result (λ found. ArePresent (C.is_value cx.now) (C.context cx.now) (plain_column e.now.place.column) (leaf_ctors (plain_leaves e.now.leaves.items))
         (plain_ctors found.ctors.items) found.missing (plain_ctors found.gaps.items) (map plain_span found.spans.items)) }
 {
-    let column = &e.place.column;
-    let found = present(alloc, cx, column.ty, column.validity, &e.heads)?;
+    let found = leaf_pieces(alloc, cx, &e.place.column, &e.leaves)?;
     Ok(found)
 }
 
@@ -97,7 +99,6 @@ fn put_frame<'a, T: Copy>(
         place,
         next,
         leaves,
-        heads,
     } = e;
     let place = Box::new(alloc, place)?;
     frames.push(Frame {
@@ -105,7 +106,6 @@ fn put_frame<'a, T: Copy>(
         place,
         next,
         leaves,
-        heads,
         stage,
     })?;
     Ok(())
@@ -146,7 +146,6 @@ fn bare_apart<'a, T: Copy>(alloc: Global, place: Opened<T>) -> Apart<'a, T>
         place,
         next: 0,
         leaves: Vec::new(alloc),
-        heads: Vec::new(alloc),
     }
 }
 
@@ -167,7 +166,7 @@ fn open_place<'a, C: PatCx>(
     ensures { IfOk result (λ t. IsTurn (C.is_type cx.now) (C.context cx.now) (C.is_value cx.now) root (reverse frames.new.items) opened.now.items t) }
 {
     let e = take_apart(alloc, cx, rows, place, opened, next)?;
-    if e.heads.is_empty() {
+    if are_wild(&e.leaves) {
         let behind = rows_behind(alloc, cx, &e, opened)?;
         let bare = bare_apart(alloc, place);
         put_frame(alloc, frames, bare, Stage::Wild)?;
@@ -257,7 +256,7 @@ fn pass_piece<'a, C: PatCx>(
     Ok(walk)
 }
 
-// Goes on with the rows of the next piece, which heads have.
+// Goes on with the rows of the next piece, which heads have; behind it, where they leave nothing of it.
 fn open_piece<'a, C: PatCx>(
     alloc: Global,
     cx: &C,
@@ -285,6 +284,15 @@ fn open_piece<'a, C: PatCx>(
         all,
     } = walk;
     let leaves = leaves_of_next(alloc, &mut todo, &cut, &e.leaves, &piece.ctor)?;
+    if is_covered(&e, &leaves) {
+        return Ok(Turn::Go(Walk {
+            e,
+            cut,
+            todo,
+            done: done + 1,
+            all,
+        }));
+    }
     let before = opened.len();
     let inner = enter_piece(alloc, cx, &e, opened, &piece.ctor, &leaves)?;
     let next = e.next + inner.count;
@@ -409,7 +417,6 @@ fn resume<'a, C: PatCx>(
                 place,
                 next,
                 leaves,
-                heads,
                 stage,
             } = frame;
             let place = *place;
@@ -418,7 +425,6 @@ fn resume<'a, C: PatCx>(
                 place,
                 next,
                 leaves,
-                heads,
             };
             match stage {
                 Stage::Wild => {

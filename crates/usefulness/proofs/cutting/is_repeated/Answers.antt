@@ -1,4 +1,4 @@
-use Rattle.std.proofs.Common.{◌≡◌, ℕ, zero, suc, false, ◌<◌, ◌≤◌, ◌+◌, ◌-◌, ◌&&◌, ◌∷◌, ◌++◌, ◌∙◌, [], not, nat_eq, nat_le, length, take, get_or, refl, sym, arith}
+use Rattle.std.proofs.Common.{◌≡◌, ℕ, zero, suc, false, ◌<◌, ◌≤◌, ◌+◌, ◌-◌, ◌&&◌, ◌∙◌, not, nat_eq, nat_le, length, take, get_or, refl, sym, arith}
 use Rattle.std.proofs.lemmas.Bool.{eqb-true, not-true}
 use Rattle.std.proofs.lemmas.List.{take_all}
 use Rattle.match_model.proofs.Basics.{both, untrue}
@@ -6,7 +6,7 @@ use Rattle.constructor_sets.specs.declared.piece.Span.{Span}
 use Rattle.constructor_sets.specs.Spans.{plain_span}
 use Rattle.pattern_matrix.specs.Views.{plain_leaf}
 use Rattle.pattern_matrix.proofs.Getting.{got-read}
-use Rattle.usefulness.specs.Cutting.{writes_parts, EndsWhole}
+use Rattle.usefulness.specs.Cutting.{writes_parts}
 use Rattle.usefulness.proofs.Reading.{got_at}
 use Rattle.usefulness.proofs.Cuts.{one_seen}
 use Rattle.usefulness.proofs.cutting.is_repeated.Goals as goal

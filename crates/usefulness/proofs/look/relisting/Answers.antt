@@ -9,8 +9,8 @@ use Rattle.usefulness.proofs.look.relisting.Goals as goal
 
 pub loop-asked-init : goal.loop-asked-init
 loop-asked-init g c =
-    let none = c.none_listed-listing in (
-      listed_first (scope_of c.args.reached.now) c.args.reached.now (numbers (plain_opens c.args.columns.now)) none.result refl none.ensures.rows none.ensures.closed none.ensures.kept,
+    let none = c.in_ok-listing in (
+      listed_first (scope_of c.args.reached.now) c.args.reached.now (numbers (plain_opens c.args.columns.now)) none.listing refl none.ensures.rows none.ensures.closed none.ensures.kept,
       c.into_iter-asked-iterator.ensures.into_iter_gives.0,
     )
 

@@ -1,8 +1,8 @@
 use Rattle.std.proofs.Common.{◌≡◌, ◌<◌, ℕ, [], List, map, length, subst, sym}
 use Rattle.std.specs.List.{All}
 use Rattle.match_model.specs.Matrices.{default_rows}
-use Rattle.constructor_sets.specs.Columns.{plain_ctors}
 use Rattle.pattern_matrix.specs.Columns.{plain_column}
+use Rattle.pattern_matrix.specs.Halving.{leaf_ctors}
 use Rattle.pattern_matrix.specs.Sparse.{SparseRow, bare_row, row_views, leaf_views, AreBelow}
 use Rattle.pattern_matrix.specs.Views.{plain_rows, plain_leaves}
 use Rattle.pattern_matrix.specs.declared.rows.Leaf.{Leaf}
@@ -36,7 +36,7 @@ returns-clause-well g c =
     let numbers = numbers_of others in
     let new = plain_rows c.in_ok-rows.rows.items in
     behind_well (g.C.PatCx.is_type cx) (g.C.PatCx.context cx) e.next e.place.number (plain_column e.place.column) numbers (places_of others) (plain_rows e.rows.items) new (plain_leaves e.leaves.items)
-    (plain_ctors e.heads.items) c.requires
+    (leaf_ctors (plain_leaves e.leaves.items)) c.requires
     (as_default numbers c.deref.result.now e.rows.items c.deref-2.result.now e.leaves.items new c.deref.ensures.value c.deref-2.ensures.value
     (c.in_ok-rows.ensures.rows [] numbers (others_lack e.place.number e.next numbers c.requires.others)))
     (c.in_ok-rows.ensures.within e.next (subst (λ (rs : List (Row g.row.C-Ty.Denot)). AreBelow e.next (plain_rows rs)) (sym c.deref.ensures.value) c.requires.below))

@@ -1,7 +1,6 @@
-use Rattle.std.proofs.Common.{◌≡◌, ◌<◌, ◌∷◌, [], List, map, length, ◌∙◌, ap, subst}
+use Rattle.std.proofs.Common.{◌≡◌, ◌<◌, ◌∷◌, [], List, map, length, refl, subst}
 use Rattle.std.specs.List.{All}
 use Rattle.match_model.specs.Matrices.{expand_rows}
-use Rattle.constructor_sets.specs.Columns.{plain_ctors}
 use Rattle.pattern_matrix.specs.Columns.{plain_column}
 use Rattle.pattern_matrix.specs.Halving.{leaf_ctors}
 use Rattle.pattern_matrix.specs.Sparse.{bare_row, row_views, leaf_views}
@@ -21,6 +20,6 @@ returns-clause-apart g c =
     let views : List (Row g.row.C-Ty.Denot) → Type 0 =
     λ rs. leaf_views (numbers_of others) (plain_rows rs) (plain_leaves leaves) ≡ map bare_row (expand_rows [] (row_views (c.args.place.number ∷ numbers_of others) (plain_rows rs))) in
     apart_is (g.C.PatCx.is_type cx) (g.C.PatCx.context cx) c.args.next c.args.place.number (plain_column c.args.place.column) (numbers_of others) (places_of others) (plain_rows rows) (plain_leaves leaves)
-    (plain_ctors c.in_ok-heads.heads.items) c.requires
+    (leaf_ctors (plain_leaves leaves)) c.requires
     (within_plain rows leaves (subst (λ (rs : List (Row g.row.C-Ty.Denot)). All (λ l. l.row < length rs) leaves) c.deref.ensures.value c.in_ok-leaves.ensures.within))
-    (c.in_ok-heads.ensures ∙ ap (λ ls. leaf_ctors (plain_leaves ls)) c.deref-2.ensures.value) (subst views c.deref.ensures.value (c.in_ok-leaves.ensures.rows [] (numbers_of others)))
+    refl (subst views c.deref.ensures.value (c.in_ok-leaves.ensures.rows [] (numbers_of others)))

@@ -37,8 +37,8 @@ listed_pieces-requires g c =
     let others = c.args.others.now.items in
     record {
       ty = c.requires.apart.type;
-      heads = subst (λ (cs : List Ctor). All (λ h. IsTrue (is_sharp_head ((g.C.PatCx.context cx).set_of e.place.column.ty) h)) (plain_ctors cs)) (sym c.deref.ensures.value)
-          (apart_sharp (g.C.PatCx.is_type cx) (g.C.PatCx.context cx) e.next e.place.number (plain_column e.place.column) (numbers_of others) (places_of others) (plain_rows e.rows.items) (plain_leaves e.leaves.items) (plain_ctors e.heads.items) c.requires.apart);
+      heads = subst (λ (ls : List (Leaf g.row.C-Ty.Denot)). All (λ h. IsTrue (is_sharp_head ((g.C.PatCx.context cx).set_of e.place.column.ty) h)) (leaf_ctors (plain_leaves ls))) (sym c.deref.ensures.value)
+          (apart_sharp (g.C.PatCx.is_type cx) (g.C.PatCx.context cx) e.next e.place.number (plain_column e.place.column) (numbers_of others) (places_of others) (plain_rows e.rows.items) (plain_leaves e.leaves.items) (leaf_ctors (plain_leaves e.leaves.items)) c.requires.apart);
     }
 
 nil_of : {A : Type 0} (xs : List A) → length xs ≡ 0 → xs ≡ []
@@ -52,7 +52,7 @@ leaf_spans-requires g c =
     subst (λ (cs : List Ctor). AreSpans (plain_ctors cs) (leaf_ctors (plain_leaves c.deref-5.result.now)) (plain_spans c.deref-6.result.now)) (sym c.deref-4.ensures.value)
     (subst (λ (ls : List (Leaf g.row.C-Ty.Denot)). AreSpans (plain_ctors found.ctors.items) (leaf_ctors (plain_leaves ls)) (plain_spans c.deref-6.result.now)) (sym c.deref-5.ensures.value)
     (subst (λ (ss : List Span). AreSpans (plain_ctors found.ctors.items) (leaf_ctors (plain_leaves e.leaves.items)) (plain_spans ss)) (sym c.deref-6.ensures.value)
-    (subst (λ hs. AreSpans (plain_ctors found.ctors.items) hs (plain_spans found.spans.items)) c.requires.apart.ctors c.requires.found.each)))
+    c.requires.found.each))
 
 pub returns : goal.returns
 returns g c =
@@ -64,17 +64,18 @@ returns g c =
     let o = plain_column e.place.column in
     let pieces = c.in_ok-pieces.pieces.items in
     let a = c.requires.apart in
-    cut_is (g.C.PatCx.context cx) (g.C.PatCx.is_value cx) o (places_of others) (apart_heads others e) (places_of others) (plain_leaves e.leaves.items) (plain_ctors found.ctors.items) (plain_ctors e.heads.items) (plain_ctors found.gaps.items)
+    cut_is (g.C.PatCx.context cx) (g.C.PatCx.is_value cx) o (places_of others) (apart_heads others e) (places_of others) (plain_leaves e.leaves.items) (plain_ctors found.ctors.items) (leaf_ctors (plain_leaves e.leaves.items)) (plain_ctors found.gaps.items)
     found.missing c.is_empty-none.result (plain_spans c.in_ok-spans.spans.items) (map plain_piece pieces) (plain_names c.in_ok-names.names.items) (map plain_stack behind.items)
     a.typed
     (subst (All (λ h. IsTrue (is_sharp_head ((g.C.PatCx.context cx).set_of e.place.column.ty) h))) a.column
-    (apart_sharp (g.C.PatCx.is_type cx) (g.C.PatCx.context cx) e.next e.place.number o (numbers_of others) (places_of others) (plain_rows e.rows.items) (plain_leaves e.leaves.items) (plain_ctors e.heads.items) a))
+    (apart_sharp (g.C.PatCx.is_type cx) (g.C.PatCx.context cx) e.next e.place.number o (numbers_of others) (places_of others) (plain_rows e.rows.items) (plain_leaves e.leaves.items) (leaf_ctors (plain_leaves e.leaves.items)) a))
     a.column c.requires.found.found
     (subst (λ (cs : List Ctor). AreLeafSpans (plain_ctors cs) (plain_leaves e.leaves.items) (plain_spans c.in_ok-spans.spans.items)) c.deref-4.ensures.value
     (subst (λ (ls : List (Leaf g.row.C-Ty.Denot)). AreLeafSpans (plain_ctors c.deref-4.result.now) (plain_leaves ls) (plain_spans c.in_ok-spans.spans.items)) c.deref-5.ensures.value c.in_ok-spans.ensures))
     (c.in_ok-names.ensures ∙ ap (λ (ps : List Piece). named_in (map (λ (p : MCtor × PieceState). p.0) (map plain_piece ps))) c.deref-3.ensures.value)
     (λ h. c.in_ok-pieces.ensures.present h ∙ ap (λ (cs : List Ctor). as_present (plain_ctors cs)) c.deref-2.ensures.value)
-    (λ h. subst (λ (cs : List Ctor). IsColumnSplit (g.C.PatCx.is_value cx) (g.C.PatCx.context cx) o (plain_ctors cs) (map plain_piece pieces)) c.deref.ensures.value (c.in_ok-pieces.ensures.split h))
+    (λ h. subst (λ (ls : List (Leaf g.row.C-Ty.Denot)). IsColumnSplit (g.C.PatCx.is_value cx) (g.C.PatCx.context cx) o (leaf_ctors (plain_leaves ls)) (map plain_piece pieces)) c.deref.ensures.value
+    (c.in_ok-pieces.ensures.split h))
     (λ h. ap (map plain_stack) (nil_of behind.items (omega (arith, zero_of c.is_empty-none.result (vec_len behind) c.is_empty-none.ensures h, behind.ok.0))))
     (λ h. omega (arith, pos_of c.is_empty-none.result (vec_len behind) c.is_empty-none.ensures h, behind.ok.0, length-map behind.items plain_stack))
     c.requires.missing (λ h. ap (map plain_stack) (c.requires.none h))

@@ -26,7 +26,7 @@ returns-in-Wild g c =
     let opened = c.args.opened.now.items in
     let ws = map plain_stack c.args.found.items in
     let frame = c.in-Some.frame in
-    let with_place : Opened g.row.C-Ty.Denot → Apart g.row.C-Ty.Denot = λ p. record { rows = frame.rows; place = p; next = frame.next; leaves = frame.leaves; heads = frame.heads } in
+    let with_place : Opened g.row.C-Ty.Denot → Apart g.row.C-Ty.Denot = λ p. record { rows = frame.rows; place = p; next = frame.next; leaves = frame.leaves } in
     let e = with_place c.deref-place.result.now in
     let given = subst (λ (x : Apart g.row.C-Ty.Denot). Takes (g.C.PatCx.is_type cx) (g.C.PatCx.context cx) (g.C.PatCx.is_value cx) (Accepts (g.C.PatCx.is_type cx) (g.C.PatCx.context cx) (g.C.PatCx.is_value cx) g.root (reverse new)) x frame.stage opened ws) (ap with_place (sym c.deref-place.ensures))
     (popped (g.C.PatCx.is_type cx) (g.C.PatCx.context cx) (g.C.PatCx.is_value cx) g.root c.args.frames.now.items new frame opened ws c.in-Some.ensures.items c.requires.1.1) in
@@ -42,7 +42,7 @@ returns-in-Missing g c =
     let opened = c.args.opened.now.items in
     let ws = map plain_stack c.args.found.items in
     let frame = c.in-Some.frame in
-    let with_place : Opened g.row.C-Ty.Denot → Apart g.row.C-Ty.Denot = λ p. record { rows = frame.rows; place = p; next = frame.next; leaves = frame.leaves; heads = frame.heads } in
+    let with_place : Opened g.row.C-Ty.Denot → Apart g.row.C-Ty.Denot = λ p. record { rows = frame.rows; place = p; next = frame.next; leaves = frame.leaves } in
     let e = with_place c.deref-place.result.now in
     let given = subst (λ (x : Apart g.row.C-Ty.Denot). Takes (g.C.PatCx.is_type cx) (g.C.PatCx.context cx) (g.C.PatCx.is_value cx) (Accepts (g.C.PatCx.is_type cx) (g.C.PatCx.context cx) (g.C.PatCx.is_value cx) g.root (reverse new)) x frame.stage opened ws) (ap with_place (sym c.deref-place.ensures))
     (popped (g.C.PatCx.is_type cx) (g.C.PatCx.context cx) (g.C.PatCx.is_value cx) g.root c.args.frames.now.items new frame opened ws c.in-Some.ensures.items c.requires.1.1) in
@@ -58,7 +58,7 @@ returns g c =
     let opened = c.args.opened.now.items in
     let ws = map plain_stack c.args.found.items in
     let frame = c.in-Some.frame in
-    let with_place : Opened g.row.C-Ty.Denot → Apart g.row.C-Ty.Denot = λ p. record { rows = frame.rows; place = p; next = frame.next; leaves = frame.leaves; heads = frame.heads } in
+    let with_place : Opened g.row.C-Ty.Denot → Apart g.row.C-Ty.Denot = λ p. record { rows = frame.rows; place = p; next = frame.next; leaves = frame.leaves } in
     let e = with_place c.deref-place.result.now in
     let given = subst (λ (x : Apart g.row.C-Ty.Denot). Takes (g.C.PatCx.is_type cx) (g.C.PatCx.context cx) (g.C.PatCx.is_value cx) (Accepts (g.C.PatCx.is_type cx) (g.C.PatCx.context cx) (g.C.PatCx.is_value cx) g.root (reverse new)) x frame.stage opened ws) (ap with_place (sym c.deref-place.ensures))
     (popped (g.C.PatCx.is_type cx) (g.C.PatCx.context cx) (g.C.PatCx.is_value cx) g.root c.args.frames.now.items new frame opened ws c.in-Some.ensures.items c.requires.1.1) in

@@ -1,6 +1,6 @@
 use Rattle.std.proofs.Common.{sym, subst, reverse}
-use Rattle.constructor_sets.specs.Columns.{plain_ctors}
 use Rattle.pattern_matrix.specs.Columns.{plain_column}
+use Rattle.pattern_matrix.specs.Halving.{leaf_ctors}
 use Rattle.pattern_matrix.specs.Views.{plain_rows, plain_leaves}
 use Rattle.witness_search.specs.Opened.{places_of, numbers_of}
 use Rattle.witness_search.specs.Turns.{Ends}
@@ -18,7 +18,7 @@ found_at-requires-clause-heads g c =
     let e = c.args.e in
     let others = c.args.opened.now.items in
     apart_sharp (g.C.PatCx.is_type cx) (g.C.PatCx.context cx) e.next e.place.number (plain_column e.place.column) (numbers_of others) (places_of others) (plain_rows e.rows.items) (plain_leaves e.leaves.items)
-    (plain_ctors e.heads.items) c.requires.1.1.0
+    (leaf_ctors (plain_leaves e.leaves.items)) c.requires.1.1.0
 
 pub returns-in_ok-put_frame : goal.returns-in_ok-put_frame
 returns-in_ok-put_frame g c =

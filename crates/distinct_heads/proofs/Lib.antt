@@ -1,0 +1,4 @@
+pub mod Members
+pub mod SameHeads
+pub mod Keeping
+pub mod Leaves
