@@ -1,12 +1,13 @@
 #!/usr/bin/env python3
 """Times `present` on columns of n, 2n and 4n heads of each kind, beside the same in plain Rust.
 
-    bench/pieces/run.py [RUNS] [--only WORD]
+    bench/pieces/run.py [RUNS] [--only WORD] [--least N]
 
 Writes a copy of the crates and the program of program/ (its files without their last `.txt`) into a temporary folder, proves and
 builds it with `rt run`, and plain.rs with `rustc -O`. Then both run in turn, RUNS times in all (5 if no number is given). For each
 column it prints the least processor time of `present`, half of how much longer twice as many heads take, and the time beside
-that of plain Rust; that the two tell the same of each column is checked. `--only WORD` takes the kinds whose name has the word.
+that of plain Rust; that the two tell the same of each column is checked. `--only WORD` takes the kinds whose name has the word, and
+`--least N` another n than 1,000,000.
 """
 import argparse
 import pathlib
@@ -27,8 +28,10 @@ KINDS = (
 )
 GROWTH = 1.2
 RATIO = 1.5
-# The line of both programs that goes over the kinds.
+LEAST = 1_000_000
+# The line of both programs that goes over the kinds, and the calls of the proved one that tell how many heads.
 LOOP = re.compile(r"for kind in 0\.\.\w+ \{")
+CALLS = re.compile(r"(kind, )(250_000|500_000|1_000_000)(\)\?;)")
 
 
 def narrow(source, target, kinds):
@@ -39,7 +42,7 @@ def narrow(source, target, kinds):
     target.write_text(text)
 
 
-def build(folder, kinds=range(len(KINDS))):
+def build(folder, kinds=range(len(KINDS)), heads=LEAST):
     """A copy of the crates with the program."""
     for crate in CRATES:
         shutil.copytree(ROOT / "crates" / crate, folder / "crates" / crate, ignore=shutil.ignore_patterns("must-fail", "out"))
@@ -54,6 +57,8 @@ def build(folder, kinds=range(len(KINDS))):
         shutil.copy(source, target)
     narrow(HERE / "program" / "src" / "main.rt.txt", program / "src" / "main.rt", kinds)
     narrow(HERE / "plain.rs", folder / "plain.rs", kinds)
+    main = program / "src" / "main.rt"
+    main.write_text(CALLS.sub(lambda it: it[1] + str(int(it[2]) // 250_000 * heads) + it[3], main.read_text()))
     return program
 
 
@@ -78,6 +83,7 @@ def main():
     words = argparse.ArgumentParser(description="Times the pieces of columns, beside the same in plain Rust.")
     words.add_argument("runs", nargs="?", type=int, default=5)
     words.add_argument("--only", default="", metavar="WORD")
+    words.add_argument("--least", type=int, default=LEAST, metavar="N")
     words = words.parse_args()
     count = words.runs
     kinds = [number for number, name in enumerate(KINDS) if words.only in name]
@@ -86,13 +92,13 @@ def main():
     proved, plain = [], []
     with tempfile.TemporaryDirectory() as name:
         folder = pathlib.Path(name)
-        program = build(folder, kinds)
+        program = build(folder, kinds, words.least)
         subprocess.run(["rustc", "-O", "--edition", "2024", "-o", str(folder / "plain"), str(folder / "plain.rs")], check=True)
         done = subprocess.run(["rt", "run"], cwd=program, capture_output=True, text=True)
         if done.returncode:
             raise SystemExit(done.stdout + done.stderr)
         for _ in range(count):
-            plain.append(told(subprocess.run([str(folder / "plain")], capture_output=True, text=True, check=True).stdout))
+            plain.append(told(subprocess.run([str(folder / "plain"), str(words.least)], capture_output=True, text=True, check=True).stdout))
             proved.append(told(subprocess.run([str(program / "out" / "pieces_bench")], capture_output=True, text=True, check=True).stdout))
     proved, plain = least(proved), least(plain)
     print("| heads | count | pieces | ms | half of the growth | plain Rust, ms | half of the growth | ratio |")
