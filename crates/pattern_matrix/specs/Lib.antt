@@ -12,6 +12,7 @@ pub mod Opening
 pub mod Columns
 pub mod Starting
 pub mod Halving
+pub mod HeadLists
 pub mod Parts
 pub mod Laws
 pub mod Wanted

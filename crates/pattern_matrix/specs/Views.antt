@@ -8,6 +8,7 @@ use Rattle.pattern_arena.specs.Trees.{tree}
 use Rattle.pattern_matrix.specs.declared.rows.Head.{Head}
 use Rattle.pattern_matrix.specs.declared.rows.Row.{Row}
 use Rattle.pattern_matrix.specs.declared.rows.Leaf.{Leaf}
+use Rattle.pattern_matrix.specs.HeadLists.{kept_heads}
 use Rattle.pattern_matrix.specs.Sparse.{SparseRow, SparseLeaf}
 
 -- the head with the number of its column
@@ -20,7 +21,7 @@ plain_heads heads = map plain_head heads
 
 -- the row
 abbrev pub plain_row : {T : Type 0} → Row T → SparseRow T
-plain_row r = record { heads = plain_heads r.heads.items; arm = r.arm; guarded = r.guarded; chosen = r.chosen.items }
+plain_row r = record { heads = plain_heads (kept_heads r.heads); arm = r.arm; guarded = r.guarded; chosen = r.chosen.items }
 
 -- the rows
 abbrev pub plain_rows : {T : Type 0} → List (Row T) → List (SparseRow T)

@@ -6,8 +6,8 @@ ghost use Rattle.pattern_matrix.specs.Sparse.{row_views, bare_row, AreBelow, Are
 ghost use Rattle.pattern_matrix.specs.Views.{plain_rows};
 ghost use Rattle.pattern_matrix.specs.Starting.{starting_row, starting_rows};
 
-use crate::Row;
 use crate::opening::add_head;
+use crate::{Heads, Row};
 use no_memory::NoMemory;
 use pattern_arena::{CheckedArm, CheckedMatch};
 use smallvec::SmallVec;
@@ -22,8 +22,8 @@ fn add_first<'a, T: Copy>(
 ) -> Result<(), NoMemory>
     ensures { OnOk result (plain_rows rows.new.items ≡ plain_rows rows.old.items ++ starting_row number (plain_arm arm.entry.now) ∷ []) }
 {
-    let mut heads = Vec::new(alloc);
-    add_head(&mut heads, 0, &arm.pat)?;
+    let mut heads = Heads::Bare;
+    add_head(alloc, &mut heads, 0, &arm.pat)?;
     rows.push(Row {
         heads,
         arm: number,

@@ -57,6 +57,17 @@ fn pattern_at<'a, T: Copy>(heads: &[Head<'a, T>], column: usize) -> Option<&'a D
     None
 }
 
+// The chosen alternatives. There are mostly none.
+pub(crate) fn copied(alloc: Global, chosen: &[u64]) -> Result<SmallVec<u64, 2>, NoMemory>
+    ensures { IfOk result (λ c. c.items ≡ chosen.now) }
+{
+    if chosen.is_empty() {
+        Ok(SmallVec::new(alloc))
+    } else {
+        Ok(SmallVec::from_slice(alloc, chosen)?)
+    }
+}
+
 // The chosen alternatives, and one more where there are several.
 fn choosing(
     alloc: Global,
@@ -66,7 +77,7 @@ fn choosing(
 ) -> Result<SmallVec<u64, 2>, NoMemory>
     ensures { IfOk result (λ c. c.items ≡ chosen.now ++ cond several (uid ∷ []) []) }
 {
-    let mut all = SmallVec::from_slice(alloc, chosen)?;
+    let mut all = copied(alloc, chosen)?;
     if several {
         all.push(uid)?;
     }
@@ -107,7 +118,7 @@ fn add_leaf<'a, T: Copy>(
     ensures { OnOk result (plain_leaves leaves.new.items ≡ plain_leaves leaves.old.items
         ++ (record { row = row; head = bare_head (Some (tree p.entry.now)); chosen = chosen.now }) ∷ []) }
 {
-    let chosen = SmallVec::from_slice(alloc, chosen)?;
+    let chosen = copied(alloc, chosen)?;
     leaves.push(Leaf {
         row,
         head: unless_wild(p),
@@ -171,7 +182,7 @@ fn row_leaves<'a, T: Copy>(
 {
     let mut leaves = Vec::with_capacity(alloc, rows.len())?;
     for (i, row) in rows.iter().enumerate() {
-        add_leaves(alloc, &mut leaves, i, &row.heads, column)?;
+        add_leaves(alloc, &mut leaves, i, row.heads.as_slice(), column)?;
     }
     Ok(leaves)
 }

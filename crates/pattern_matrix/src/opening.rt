@@ -1,5 +1,5 @@
 // The rows of a piece, and the rows without a column.
-ghost use Rattle.std.specs.Prelude.{◌≡◌, ◌≢◌, ◌<◌, ◌≤◌, ◌+◌, ◌-◌, ◌^◌, ◌++◌, ◌∷◌, [], List, ℕ, map, length, cond, true, IsTrue, IfOk, OnOk, Some, None, slice_get};
+ghost use Rattle.std.specs.Prelude.{◌≡◌, ◌≢◌, ◌<◌, ◌≤◌, ◌+◌, ◌-◌, ◌^◌, ◌++◌, ◌∷◌, [], List, ℕ, map, length, take, drop, cond, true, false, IsTrue, IfOk, OnOk, Some, None, slice_get};
 ghost use Rattle.std.specs.List.{All};
 ghost use Rattle.match_model.specs.Constructors.{MCtor, RowCtor, LongerShape};
 ghost use Rattle.match_model.specs.Places.{MStep};
@@ -7,11 +7,12 @@ ghost use Rattle.match_model.specs.Matrices.{specialised_rows, default_rows};
 ghost use Rattle.match_model.specs.Rows.{is_wild};
 ghost use Rattle.pattern_arena.specs.Trees.{tree, placed_ctor, placed_subs};
 ghost use Rattle.pattern_matrix.specs.Sparse.{row_views, bare_row, leaf_views, leaves_listed, leaf_parts, listed, without, columns_from, AreOthers, AreBelow, AreOver, IsLeafOf, AreParts, Lacks};
+ghost use Rattle.pattern_matrix.specs.HeadLists.{kept_heads};
 ghost use Rattle.pattern_matrix.specs.Views.{plain_heads, plain_row, plain_rows, plain_leaf, plain_leaves, plain_pattern};
 ghost use Rattle.pattern_matrix.specs.Opening.{opened_row, opened_leaf, opened_rows, pattern_parts, dropped_row, dropped_leaf, dropped_rows};
 
-use crate::leaves::is_wild;
-use crate::{Head, Leaf, Row};
+use crate::leaves::{copied, is_wild};
+use crate::{Head, Heads, Leaf, Row};
 use no_memory::NoMemory;
 use pat_context::Ctor;
 use pattern_arena::DePat;
@@ -22,30 +23,32 @@ use std::alloc::Global;
 // Adds the pattern at the column, unless it is a wildcard.
 #[tactic(auto, using(crate::proofs::Bare::bares))]
 pub(crate) fn add_head<'a, T: Copy>(
-    heads: &mut Vec<Head<'a, T>>,
+    alloc: Global,
+    heads: &mut Heads<'a, T>,
     column: usize,
     pat: &'a DePat<'a, T>,
 ) -> Result<(), NoMemory>
-    ensures { OnOk result (plain_heads heads.new.items ≡ plain_heads heads.old.items
+    ensures { OnOk result (plain_heads (kept_heads heads.new) ≡ plain_heads (kept_heads heads.old)
         ++ cond (is_wild (Some (tree pat.entry.now))) [] ((column, tree pat.entry.now) ∷ [])) }
 {
     if !is_wild(&pat.ctor) {
-        heads.push(Head { column, pat })?;
+        heads.push(alloc, Head { column, pat })?;
     }
     Ok(())
 }
 
 // Adds the patterns that are no wildcards, at the columns from this number on.
 fn add_subs<'a, T: Copy>(
-    heads: &mut Vec<Head<'a, T>>,
+    alloc: Global,
+    heads: &mut Heads<'a, T>,
     first: usize,
     subs: &'a [DePat<'a, T>],
 ) -> Result<(), NoMemory>
     requires { first + length subs.now < 2 ^ 64 }
-    ensures { OnOk result (plain_heads heads.new.items ≡ plain_heads heads.old.items ++ listed first (map (λ p. Some (tree p)) subs.entry.now)) }
+    ensures { OnOk result (plain_heads (kept_heads heads.new) ≡ plain_heads (kept_heads heads.old) ++ listed first (map (λ p. Some (tree p)) subs.entry.now)) }
 {
     for (i, p) in subs.iter().enumerate() {
-        add_head(heads, first + i, p)?;
+        add_head(alloc, heads, first + i, p)?;
     }
     Ok(())
 }
@@ -53,7 +56,8 @@ fn add_subs<'a, T: Copy>(
 // Adds the items at both ends of a row of so many items.
 #[tactic(auto, using(crate::proofs::Listing::listings))]
 fn add_items<'a, T: Copy>(
-    heads: &mut Vec<Head<'a, T>>,
+    alloc: Global,
+    heads: &mut Heads<'a, T>,
     first: usize,
     subs: &'a [DePat<'a, T>],
     front: u64,
@@ -61,53 +65,80 @@ fn add_items<'a, T: Copy>(
     count: usize,
 ) -> Result<(), NoMemory>
     requires { first + (length subs.now + (count - (front + back))) < 2 ^ 64 }
-    ensures { OnOk result (plain_heads heads.new.items ≡ plain_heads heads.old.items
+    ensures { OnOk result (plain_heads (kept_heads heads.new) ≡ plain_heads (kept_heads heads.old)
         ++ listed first (pattern_parts count (RowCtor (LongerShape front back)) subs.entry.now)) }
 {
     let cut = subs.len().min(front as usize);
     let (start, end) = subs.split_at(cut);
-    add_subs(heads, first, start)?;
+    add_subs(alloc, heads, first, start)?;
     let gap = count
         .saturating_sub(front as usize)
         .saturating_sub(back as usize);
-    add_subs(heads, first + cut + gap, end)?;
+    add_subs(alloc, heads, first + cut + gap, end)?;
     Ok(())
 }
 
 // Adds the parts that the pattern writes, of so many, at the columns from this number on.
 #[tactic(auto, using(crate::proofs::Listing::listings))]
 fn add_parts<'a, T: Copy>(
-    heads: &mut Vec<Head<'a, T>>,
+    alloc: Global,
+    heads: &mut Heads<'a, T>,
     first: usize,
     p: &'a DePat<'a, T>,
     count: usize,
 ) -> Result<(), NoMemory>
     requires fits { first + count < 2 ^ 64 }
     requires parts { length (pattern_parts count (placed_ctor p.now) (placed_subs p.now)) ≡ count }
-    ensures { OnOk result (plain_heads heads.new.items ≡ plain_heads heads.old.items
+    ensures { OnOk result (plain_heads (kept_heads heads.new) ≡ plain_heads (kept_heads heads.old)
         ++ listed first (pattern_parts count (placed_ctor p.entry.now) (placed_subs p.entry.now))) }
 {
     match p.ctor {
         Ctor::Wild => Ok(()),
         Ctor::Row(Shape::Longer { front, back }) => add_items(
-            heads, first, p.subs, front, back, count,
+            alloc, heads, first, p.subs, front, back, count,
         ),
-        _ => add_subs(heads, first, p.subs),
+        _ => add_subs(alloc, heads, first, p.subs),
+    }
+}
+
+// How many heads stand before the first one at the column.
+fn count_before<'a, T: Copy>(heads: &[Head<'a, T>], column: usize) -> usize
+    ensures within { result ≤ length heads.now }
+    ensures others { without column (plain_heads heads.now) ≡ plain_heads (take result heads.now) ++ without column (plain_heads (drop (result + 1) heads.now)) }
+{
+    for (i, head) in heads.iter().enumerate() {
+        if head.column == column {
+            return i;
+        }
+    }
+    heads.len()
+}
+
+// The heads behind so many and one more.
+fn behind<'a, 'b, T: Copy>(heads: &'b [Head<'a, T>], count: usize) -> &'b [Head<'a, T>]
+    ensures { result.now ≡ drop (count + 1) heads.now }
+{
+    if count < heads.len() {
+        &heads[count + 1..]
+    } else {
+        &[]
     }
 }
 
 // Adds the heads but those at the column.
 fn add_others<'a, T: Copy>(
-    heads: &mut Vec<Head<'a, T>>,
+    alloc: Global,
+    heads: &mut Heads<'a, T>,
     others: &[Head<'a, T>],
     column: usize,
 ) -> Result<(), NoMemory>
-    ensures { OnOk result (plain_heads heads.new.items ≡ plain_heads heads.old.items ++ without column (plain_heads others.now)) }
+    ensures { OnOk result (plain_heads (kept_heads heads.new) ≡ plain_heads (kept_heads heads.old) ++ without column (plain_heads others.now)) }
 {
-    for other in others {
-        if other.column != column {
-            heads.push(*other)?;
-        }
+    let mut rest = others;
+    while !rest.is_empty() {
+        let count = count_before(rest, column);
+        heads.extend(alloc, &rest[..count])?;
+        rest = behind(rest, count);
     }
     Ok(())
 }
@@ -116,7 +147,7 @@ fn add_others<'a, T: Copy>(
 fn both_chosen(alloc: Global, chosen: &[u64], more: &[u64]) -> Result<SmallVec<u64, 2>, NoMemory>
     ensures { IfOk result (λ c. c.items ≡ chosen.now ++ more.now) }
 {
-    let mut all = SmallVec::from_slice(alloc, chosen)?;
+    let mut all = copied(alloc, chosen)?;
     for uid in more {
         all.push(*uid)?;
     }
@@ -126,18 +157,19 @@ fn both_chosen(alloc: Global, chosen: &[u64], more: &[u64]) -> Result<SmallVec<u
 // Adds the parts that the leaf's head writes.
 #[tactic(auto, using(crate::proofs::Listing::leaf_heads))]
 fn add_leaf_parts<'a, T: Copy>(
-    heads: &mut Vec<Head<'a, T>>,
+    alloc: Global,
+    heads: &mut Heads<'a, T>,
     first: usize,
     head: Option<&'a DePat<'a, T>>,
     count: usize,
 ) -> Result<(), NoMemory>
     requires fits { first + count < 2 ^ 64 }
     requires parts { length (leaf_parts count (plain_pattern head)) ≡ count }
-    ensures { OnOk result (plain_heads heads.new.items ≡ plain_heads heads.old.items ++ listed first (leaf_parts count (plain_pattern head.entry))) }
+    ensures { OnOk result (plain_heads (kept_heads heads.new) ≡ plain_heads (kept_heads heads.old) ++ listed first (leaf_parts count (plain_pattern head.entry))) }
 {
     match head {
         None => Ok(()),
-        Some(p) => add_parts(heads, first, p, count),
+        Some(p) => add_parts(alloc, heads, first, p, count),
     }
 }
 
@@ -163,9 +195,9 @@ pub fn opened_row<'a, T: Copy>(
     requires parts { length (leaf_parts count (plain_leaf leaf.now).head) ≡ count }
     ensures { IfOk result (λ r. plain_row r ≡ opened_row column first count (plain_leaf leaf.now) (plain_row row.now)) }
 {
-    let mut heads = Vec::with_capacity(alloc, room_for(&row.heads, leaf.head))?;
-    add_leaf_parts(&mut heads, first, leaf.head, count)?;
-    add_others(&mut heads, &row.heads, column)?;
+    let mut heads = Heads::with_room(alloc, room_for(row.heads.as_slice(), leaf.head))?;
+    add_leaf_parts(alloc, &mut heads, first, leaf.head, count)?;
+    add_others(alloc, &mut heads, row.heads.as_slice(), column)?;
     let chosen = both_chosen(alloc, row.chosen.as_slice(), leaf.chosen.as_slice())?;
     Ok(Row {
         heads,
@@ -272,8 +304,8 @@ pub fn dropped_row<'a, T: Copy>(
 ) -> Result<Row<'a, T>, NoMemory>
     ensures { IfOk result (λ r. plain_row r ≡ dropped_row column (plain_leaf leaf.now) (plain_row row.now)) }
 {
-    let mut heads = Vec::with_capacity(alloc, row.heads.len())?;
-    add_others(&mut heads, &row.heads, column)?;
+    let mut heads = Heads::with_room(alloc, row.heads.len())?;
+    add_others(alloc, &mut heads, row.heads.as_slice(), column)?;
     let chosen = both_chosen(alloc, row.chosen.as_slice(), leaf.chosen.as_slice())?;
     Ok(Row {
         heads,

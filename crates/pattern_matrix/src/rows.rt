@@ -1,4 +1,5 @@
 // Rows, and what stands in them at one column.
+use crate::Heads;
 use pat_context::Validity;
 use pattern_arena::DePat;
 use smallvec::SmallVec;
@@ -14,7 +15,7 @@ pub struct Head<'a, T: Copy> {
 #[derive(Drop)]
 pub struct Row<'a, T: Copy> {
     /// The heads that are no wildcards.
-    pub heads: Vec<Head<'a, T>>,
+    pub heads: Heads<'a, T>,
     /// The number of the arm, from 0.
     pub arm: u32,
     /// Whether the arm has a guard.

@@ -19,10 +19,10 @@ use Rattle.pattern_arena.proofs.TreeFacts.{tree_out}
 use Rattle.pattern_matrix.specs.Sparse.{SparseRow, SparseLeaf, columns_from, leaves_listed, leaf_parts, listed, without}
 use Rattle.pattern_matrix.specs.Opening.{opened_row}
 use Rattle.pattern_matrix.specs.Halving.{span_has, span_meets, having, leaves_with}
-use Rattle.pattern_matrix.specs.Parts.{plain_spans, IsFull}
+use Rattle.pattern_matrix.specs.Parts.{plain_spans}
 use Rattle.pattern_matrix.specs.declared.halving.Part.{Part}
 use Rattle.pattern_matrix.specs.Counting.{Question, WantedRow, row_stops, to_arm, through_alternative}
-use Rattle.pattern_matrix.specs.Searching.{IsDone, DoFor}
+use Rattle.pattern_matrix.specs.Searching.{IsDone, DoFor, StandFor}
 use Rattle.pattern_matrix.proofs.Listing.{listed-wildcards}
 use Rattle.pattern_matrix.proofs.ListedRows as listing
 use Rattle.usefulness.specs.declared.frames.Apart.{Apart}
@@ -37,7 +37,8 @@ use Rattle.usefulness.proofs.Listed.{bare_heads, long_heads}
 use Rattle.usefulness.proofs.DoneRows.{done_row}
 use Rattle.usefulness.proofs.Dropping.{opened_got}
 use Rattle.usefulness.proofs.Settled.{all_both}
-use Rattle.usefulness.proofs.Enough.{same_do, both_do, kept_do, closed_do, stops_all}
+use Rattle.usefulness.proofs.Enough.{same_stand, stand_both, kept_do, closed_do, stops_all}
+use Rattle.usefulness.proofs.Looking.{stand_later}
 
 -- ---- bare rows
 
@@ -90,7 +91,7 @@ parts_written {T} p = go (placed_subs p) ∙ sym (ap (λ t. writes_parts (Some t
 
 -- ---- what the row of a leaf is
 
-marked_append : (m : Question → Bool) (arm : ℕ) (xs ys : List ℕ) → are_marked m arm xs ≡ true → are_marked m arm ys ≡ true → are_marked m arm (xs ++ ys) ≡ true
+pub marked_append : (m : Question → Bool) (arm : ℕ) (xs ys : List ℕ) → are_marked m arm xs ≡ true → are_marked m arm ys ≡ true → are_marked m arm (xs ++ ys) ≡ true
 marked_append m arm xs ys e f = all_both (λ id. m (through_alternative arm id)) xs ys ∙ ap (λ b. b && are_marked m arm ys) e ∙ f
 
 module _ {T : Type 0} (missing : Bool) (a : Apart T) (count : ℕ) (l : SparseLeaf T) (x : SparseAsked T) where
@@ -179,7 +180,7 @@ module _ {T : Type 0} (missing : Bool) (a : Apart T) (spans : List Span) where
   abbrev pub at : (i count : ℕ) → List ℕ → List (WantedRow T)
   at i count ks = entered_rows missing a count (leaves_listed (apart_leaves a) (having ss i ks))
 
-  at_append : (i count : ℕ) (xs ys : List ℕ) → at i count (xs ++ ys) ≡ at i count xs ++ at i count ys
+  pub at_append : (i count : ℕ) (xs ys : List ℕ) → at i count (xs ++ ys) ≡ at i count xs ++ at i count ys
   at_append i count xs ys =
       let leaves = apart_leaves a in
       let cols = columns_from a.next count ++ other_numbers a in
@@ -290,18 +291,19 @@ module _ {T : Type 0} (missing : Bool) (a : Apart T) (spans : List Span) where
     enough = λ i low high count. listing.none_listed m (length (columns_from a.next count ++ other_numbers a));
   }
 
-  -- a part that has all leaves of its pieces has enough
-  pub full_cut : (m : Question → Bool) (p : Part) → IsFull spans p → IsCutPart m missing a spans p
-  full_cut m p f = record {
-    some = f.some;
-    within = subst (λ j. All (λ k. k < j) p.leaves.items) long f.within;
+  -- a part that has all leaves has enough
+  pub whole_cut : (m : Question → Bool) (p : Part) → p.first < p.end → p.leaves.items ≡ columns_from 0 (length spans) → IsCutPart m missing a spans p
+  whole_cut m p some e = record {
+    some = some;
+    within = subst (All (λ k. k < length spans)) (sym e) (numbers_below 0 (length spans) (length spans) (omega arith));
     enough = λ i low high count.
-        subst (λ ks. DoFor m (length (columns_from a.next count ++ other_numbers a)) (at_all i count) (entered_rows missing a count (leaves_listed (apart_leaves a) ks))) (sym (f.complete i low high))
-        (same_do m (length (columns_from a.next count ++ other_numbers a)) (at_all i count));
+        subst (λ ks. StandFor m (length (columns_from a.next count ++ other_numbers a)) (at_all i count) (entered_rows missing a count (leaves_listed (apart_leaves a) (having ss i ks)))) (ap (columns_from 0) (length-map spans plain_span) ∙ sym e)
+        (same_stand m (length (columns_from a.next count ++ other_numbers a)) (at_all i count));
   }
     where
-      long : length (plain_spans spans) ≡ length spans
-      long = length-map spans plain_span
+      numbers_below : (first n bound : ℕ) → first + n ≤ bound → All (λ k. k < bound) (columns_from first n)
+      numbers_below first zero bound h = All-nil (λ (k : ℕ). k < bound)
+      numbers_below first (suc n) bound h = All-cons (λ k. k < bound) first (columns_from (suc first) n) (omega arith) (numbers_below (suc first) n bound (omega arith))
 
       at_all : (i count : ℕ) → List (WantedRow T)
       at_all i count = entered_rows missing a count (leaves_listed (apart_leaves a) (leaves_with ss i))
@@ -310,8 +312,8 @@ module _ {T : Type 0} (missing : Bool) (a : Apart T) (spans : List Span) where
   pub cut_enough : (m : Question → Bool) (p : Part) (kept : List ℕ) → IsCutPart m missing a spans p → IsCutSoFar m missing a spans p.first p.end p.leaves.items kept →
       (i : ℕ) → p.first ≤ i → i < p.end → AreEnough m missing a (leaves_listed (apart_leaves a) (leaves_with ss i)) (leaves_listed (apart_leaves a) (having ss i kept))
   cut_enough m p kept part whole = λ i low high count.
-      both_do m (length (columns_from a.next count ++ other_numbers a)) (entered_rows missing a count (leaves_listed (apart_leaves a) (leaves_with ss i))) (at i count p.leaves.items) (at i count kept)
-      (part.enough i low high count) (whole.enough i low high count)
+      stand_both m (length (columns_from a.next count ++ other_numbers a)) (entered_rows missing a count (leaves_listed (apart_leaves a) (leaves_with ss i))) (at i count p.leaves.items) (at i count kept)
+      (part.enough i low high count) (listing.listed_all m (length (columns_from a.next count ++ other_numbers a)) (at i count p.leaves.items) (at i count kept) (whole.enough i low high count))
 
   -- and for a part of its pieces
   pub cut_half : (m : Question → Bool) (p q : Part) → p.first ≤ q.first → q.first < q.end → q.end ≤ p.end → All (λ k. k < length spans) q.leaves.items →
@@ -327,7 +329,7 @@ module _ {T : Type 0} (missing : Bool) (a : Apart T) (spans : List Span) where
         some = p.some;
         within = p.within;
         enough = λ i low high count.
-            listing.listed_later old now (length (columns_from a.next count ++ other_numbers a)) (entered_rows missing a count (leaves_listed (apart_leaves a) (leaves_with ss i))) (at i count (get_or todo j d).leaves.items)
+            stand_later old now (length (columns_from a.next count ++ other_numbers a)) (entered_rows missing a count (leaves_listed (apart_leaves a) (leaves_with ss i))) (at i count (get_or todo j d).leaves.items)
             g (p.enough i low high count);
       }
 
@@ -341,7 +343,3 @@ module _ {T : Type 0} (missing : Bool) (a : Apart T) (spans : List Span) where
   one_enough m p kept e all f =
       subst (λ ks. AreEnough m missing a (leaves_listed (apart_leaves a) (leaves_with ss p.first)) (leaves_listed (apart_leaves a) ks)) (all_pass (λ k. span_has p.first (slice_get ss k)) kept all)
       (f p.first (omega arith) (omega (arith, e)))
-
-  -- and so do the parts to begin with
-  pub full_cuts : (m : Question → Bool) (todo : List Part) → All (IsFull spans) todo → All (IsCutPart m missing a spans) todo
-  full_cuts m todo all = λ j d l. full_cut m (get_or todo j d) (all j d l)

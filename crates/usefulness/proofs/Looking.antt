@@ -1,5 +1,5 @@
 -- A submatrix whose children were listed is looked at.
-use Rattle.std.proofs.Common.{◌≡◌, ◌⊎◌, inl, inr, ◌≤◌, ℕ, Bool, true, false, List, [], ◌∷◌, ◌++◌, map, length, ap, sym, subst, ◌∙◌, arith}
+use Rattle.std.proofs.Common.{◌≡◌, ◌⊎◌, inl, inr, ◌≤◌, ℕ, Bool, true, false, List, [], ◌∷◌, ◌++◌, map, length, refl, ap, sym, subst, ◌∙◌, arith}
 use Rattle.std.specs.List.{list_all, Contains}
 use Rattle.match_model.specs.Values.{MValue}
 use Rattle.match_model.specs.Contexts.{Context, Open}
@@ -17,6 +17,7 @@ use Rattle.pattern_matrix.proofs.Splitting.{splits_hand_on}
 use Rattle.usefulness.specs.Children.{bare_sub}
 use Rattle.usefulness.specs.Listing.{IsListedAs, AreAllListed}
 use Rattle.usefulness.proofs.BareRows.{fit_bare, comes_bare, comes_named, weight_bare}
+use Rattle.usefulness.proofs.Enough.{same_stand, stand_both}
 
 -- what stands for rows while less is marked does so while more is
 pub stand_later : {T : Type 0} (old now : Question → Bool) (n : ℕ) (rows kept : List (WantedRow T)) → ((q : Question) → old q ≡ true → now q ≡ true) → StandFor old n rows kept → StandFor now n rows kept
@@ -25,6 +26,34 @@ stand_later old now n rows kept g s = record {
   back = s.back;
   part = s.part;
 }
+
+-- where rows stand for others, what was listed for them was for these
+pub stood_listed : {T : Type 0} (IsValue : T → Bool → MValue → Type 0) (old now : Question → Bool) (places : List (Open T)) (rows others : List (WantedRow T)) (new : List (Submatrix T)) → StandFor old (length places) rows others →
+    IsListedAs IsValue old now (record { places = places; rows = others }) new → IsListedAs IsValue old now (record { places = places; rows = rows }) new
+stood_listed {T} IsValue old now places rows others new d l = record {
+  grow = l.grow;
+  right = λ q m. elim (l.right q m) [
+    | inl o ↦ inl o
+    | inr (vs, a, c) ↦ inr (vs, a, d.back q vs (values_long IsValue places vs a) c)
+  ];
+  listed = record {
+    each = λ n i. in_cons s n [] (λ n. (ys : List (WantedRow T)) × StandFor now (length n.places) n.rows ys × (Contains new (record { places = n.places; rows = ys }) ⊎ (ys ≡ [])))
+        (let (ys, e, h) = l.listed.each t (here t []) in (ys, stand_both now (length places) rows others ys later e, h)) (λ z (k, m, e). absurd (omega (arith, m))) i;
+    of_left = λ m i.
+        let (n, j, e, z) = l.listed.of_left m i in
+        in_cons t n [] (λ n. m.places ≡ n.places → StandFor now (length n.places) n.rows m.rows → (n : Submatrix T) × Contains (s ∷ []) n × (m.places ≡ n.places) × StandFor now (length n.places) n.rows m.rows)
+        (λ e z. (s, here s [], e, stand_both now (length places) rows others m.rows later z)) (λ z (k, h, e). absurd (omega (arith, h))) j e z;
+  };
+}
+  where
+    s : Submatrix T
+    s = record { places = places; rows = rows }
+
+    t : Submatrix T
+    t = record { places = places; rows = others }
+
+    later : StandFor now (length places) rows others
+    later = stand_later old now (length places) rows others l.grow d
 
 -- what was listed stays so while more is marked
 pub listed_later : {T : Type 0} (old now : Question → Bool) (left new : List (Submatrix T)) → ((q : Question) → old q ≡ true → now q ≡ true) → AreListed old left new → AreListed now left new
@@ -86,6 +115,33 @@ module _ {T : Type 0} (IsValue : T → Bool → MValue → Type 0) where
     grow = λ q m. m;
     right = λ q m. inl m;
     listed = record { each = λ n (k, l, e). absurd (omega (arith, l)); of_left = λ m (k, l, e). absurd (omega (arith, l)) };
+  }
+
+  -- submatrices stand for themselves
+  pub self_listed : (is_marked : Question → Bool) (left : List (Submatrix T)) → AreAllListed {T = T} IsValue is_marked is_marked left left
+  self_listed is_marked left = record {
+    grow = λ q m. m;
+    right = λ q m. inl m;
+    listed = record {
+      each = λ n i. (n.rows, same_stand is_marked (length n.places) n.rows, inl i);
+      of_left = λ n i. (n, i, refl, same_stand is_marked (length n.places) n.rows);
+    };
+  }
+
+  -- a submatrix stands for itself
+  pub itself_listed : (is_marked : Question → Bool) (s : Submatrix T) → IsListedAs {T = T} IsValue is_marked is_marked s (s ∷ [])
+  itself_listed is_marked s = record {
+    grow = λ q m. m;
+    right = λ q m. inl m;
+    listed = (self_listed is_marked (s ∷ [])).listed;
+  }
+
+  -- one alone was listed
+  pub single_listed : (old now : Question → Bool) (s : Submatrix T) (new : List (Submatrix T)) → IsListedAs IsValue old now s new → AreAllListed IsValue old now (s ∷ []) new
+  single_listed old now s new a = record {
+    grow = a.grow;
+    right = λ q m. elim (a.right q m) [ inl o ↦ inl o | inr c ↦ inr (s, here s [], c) ];
+    listed = a.listed;
   }
 
   -- the first is listed before the others, and stands behind them

@@ -8,6 +8,7 @@ use Rattle.match_model.specs.ArenaPatterns.{MDePat}
 use Rattle.match_model.specs.Contexts.{Open}
 use Rattle.pattern_matrix.specs.declared.rows.Head.{Head}
 use Rattle.pattern_matrix.specs.Sparse.{AreHeadsBelow}
+use Rattle.pattern_matrix.specs.HeadLists.{kept_heads}
 use Rattle.pattern_matrix.specs.Views.{plain_head, plain_heads}
 use Rattle.usefulness.specs.declared.frames.Asked.{Asked}
 use Rattle.usefulness.specs.declared.frames.OpenColumn.{OpenColumn}
@@ -87,10 +88,10 @@ pub note_all : {T : Type 0} (heads : List (Head T)) (i : ℕ) (b whole : Bool) (
 note_all heads i b whole c l h = sym (none_more b) ∙ ap (λ hs. b || lists_at (plain_heads hs) c) (sym (drop_of_length-le heads l)) ∙ h
 
 pub rows_step : {T : Type 0} (rows : List (Asked T)) (i : ℕ) (x : Asked T) (now old : List Bool) (c : ℕ) (whole : Bool) → i < length rows → x ≡ get_or rows i x →
-    get_or now c false ≡ (get_or old c false || lists_at (plain_heads x.row.heads.items) c) →
+    get_or now c false ≡ (get_or old c false || lists_at (plain_heads (kept_heads x.row.heads)) c) →
     (get_or old c false || some_lists (plain_askeds (drop i rows)) c) ≡ whole → (get_or now c false || some_lists (plain_askeds (drop (i + 1) rows)) c) ≡ whole
 rows_step rows i x now old c whole l e n h =
-    row_noted (get_or now c false) (get_or old c false) (lists_at (plain_heads x.row.heads.items) c) (some_lists (plain_askeds (drop (i + 1) rows)) c) whole n
+    row_noted (get_or now c false) (get_or old c false) (lists_at (plain_heads (kept_heads x.row.heads)) c) (some_lists (plain_askeds (drop (i + 1) rows)) c) whole n
     (ap (λ b. get_or old c false || b) (sym (next_any (λ (y : SparseAsked _). lists_at y.row.heads c) plain_asked rows i x l e)) ∙ h)
 
 pub rows_all : {T : Type 0} (rows : List (Asked T)) (i : ℕ) (b whole : Bool) (c : ℕ) → length rows ≤ i → (b || some_lists (plain_askeds (drop i rows)) c) ≡ whole → b ≡ whole
@@ -98,7 +99,7 @@ rows_all rows i b whole c l h = sym (none_more b) ∙ ap (λ xs. b || some_lists
 
 -- heads of a row that comes next are below
 pub next_below : {T : Type 0} (next : ℕ) (rows : List (Asked T)) (i : ℕ) (x : Asked T) → All (λ y. AreHeadsBelow next y.row.heads) (plain_askeds rows) → i < length rows → x ≡ get_or rows i x →
-    AreHeadsBelow next (plain_heads x.row.heads.items)
+    AreHeadsBelow next (plain_heads (kept_heads x.row.heads))
 next_below next rows i x a l e = at_get (λ y. AreHeadsBelow next y.row.heads) (plain_askeds rows) i (plain_asked x) a (got_at plain_asked rows i x l e)
 
 pub column_below : {T : Type 0} (n : ℕ) (heads : List (Head T)) (i : ℕ) (x : Head T) → AreHeadsBelow n (plain_heads heads) → i < length heads → x ≡ get_or heads i x → x.column < n

@@ -1,7 +1,7 @@
 -- One row more is listed, as the code does it.
 use Rattle.std.proofs.Common.{Result, Ok, Err, zero, suc, ◌<◌, ◌≡◌, ◌==◌, ℕ, ◌+◌, Bool, true, false, not, ◌&&◌, List, [], ◌∷◌, ◌++◌, map, length, drop, refl, ap, sym, subst, ◌∙◌, arith}
 use Rattle.std.proofs.lemmas.Bool.{eqb-true, eqb-false}
-use Rattle.std.specs.Result.{OnOk}
+use Rattle.std.specs.Result.{IfOk, OnOk}
 use Rattle.std.proofs.lemmas.List.{length-map, length-append}
 use Rattle.std.proofs.lemmas.List.Elements.{All-nil, All-cons, All-append}
 use Rattle.std.specs.List.{All, list_any}
@@ -138,6 +138,10 @@ module _ {T : Type 0} (scope : Scope T) (old : Question → Bool) (columns : Lis
 pub on_ok_all : {X E P Q R S : Type 0} (r : Result X E) → OnOk r P → OnOk r Q → OnOk r R → (P → Q → R → S) → OnOk r S
 on_ok_all (Ok x) p q r f = f p q r
 on_ok_all (Err e) p q r f = p
+
+pub ok_held : {X E Q : Type 0} {P : X → Type 0} (r : Result X E) → IfOk r P → ((x : X) → P x → Q) → OnOk r Q
+ok_held (Ok x) p f = f x p
+ok_held (Err e) p f = tt
 
 pub on_ok_held : {X E P : Type 0} (r : Result X E) → P → OnOk r P
 on_ok_held (Ok x) p = p

@@ -11,3 +11,4 @@ pub mod Told
 pub mod Keys
 pub mod Starting
 pub mod Cutting
+pub mod Stack

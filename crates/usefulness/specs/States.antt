@@ -12,6 +12,7 @@ use Rattle.pat_context.specs.Parts.{AreValues}
 use Rattle.pattern_matrix.specs.Sparse.{SparseLeaf, AreOthers, head_has, leaf_parts}
 use Rattle.pattern_matrix.specs.Columns.{plain_column}
 use Rattle.pattern_arena.specs.Trees.{plain_arm}
+use Rattle.pattern_matrix.specs.HeadLists.{kept_heads}
 use Rattle.pattern_matrix.specs.Views.{plain_row, plain_leaves}
 use Rattle.pattern_matrix.specs.Spreading.{all_apart}
 use Rattle.pattern_matrix.specs.Searching.{Submatrix, apart, entered, left_over}
@@ -137,4 +138,4 @@ IsChosen {T} column xs = (x : SparseAsked T) × (h : ℕ × MDePat T) × Contain
 
 -- the row with the number is there, and lists a head
 abbrev pub ListsHeads : {T : Type 0} → (i : ℕ) → List (Asked T) → Type 0
-ListsHeads {T} i rows = (i < length rows) × ((d : Asked T) → 0 < length (get_or rows i d).row.heads.items)
+ListsHeads {T} i rows = (i < length rows) × ((d : Asked T) → 0 < length (kept_heads (get_or rows i d).row.heads))

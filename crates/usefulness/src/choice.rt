@@ -51,7 +51,7 @@ fn counts<'a, T: Copy>(
 ) -> Result<Vec<usize>, NoMemory> {
     let mut counts = vec![in alloc; 0usize; next]?;
     for asked in rows {
-        count_heads(&mut counts, &asked.row.heads);
+        count_heads(&mut counts, asked.row.heads.as_slice());
     }
     Ok(counts)
 }

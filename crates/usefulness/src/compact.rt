@@ -33,7 +33,7 @@ fn used_columns<'a, T: Copy>(
 {
     let mut used = vec![in alloc; false; next]?;
     for asked in rows {
-        note_heads(&mut used, &asked.row.heads);
+        note_heads(&mut used, asked.row.heads.as_slice());
     }
     Ok(used)
 }

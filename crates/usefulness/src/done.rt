@@ -46,7 +46,7 @@ fn is_left(marks: &Marks, arm: u32, choice: bool, uid: u64) -> bool
 }
 
 // Tells whether all alternatives in the pattern are marked for the arm.
-fn is_settled<'a, T: Copy>(marks: &Marks, arm: u32, p: &'a DePat<'a, T>) -> bool
+pub(crate) fn is_settled<'a, T: Copy>(marks: &Marks, arm: u32, p: &'a DePat<'a, T>) -> bool
     ensures { result ≡ are_marked (is_marked marks.now) arm (choices_within (tree p.entry.now)) }
 {
     let choice = is_choice(p);
@@ -79,7 +79,7 @@ fn is_done<'a, T: Copy>(marks: &Marks, row: &Row<'a, T>) -> bool
 {
     marks.has_arm(row.arm)
         && are_marked(marks, row.arm, row.chosen.as_slice())
-        && are_settled(marks, row.arm, &row.heads)
+        && are_settled(marks, row.arm, row.heads.as_slice())
 }
 
 // Tells whether something new is still looked for in the row.

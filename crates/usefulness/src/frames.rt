@@ -1,7 +1,9 @@
 // What is still to be looked at, and what is made of it.
 use crate::Marks;
+use constructor_sets::Span;
+use pat_context::Ctor;
 use pattern_arena::CheckedArm;
-use pattern_matrix::{Column, Leaf, Row};
+use pattern_matrix::{Column, Leaf, Part, Row};
 
 // What was found of a match so far.
 #[derive(Drop)]
@@ -52,4 +54,35 @@ pub(crate) struct Apart<'a, T: Copy> {
     pub(crate) rows: Vec<Asked<'a, T>>,
     // What stands in the rows at the column.
     pub(crate) leaves: Vec<Leaf<'a, T>>,
+}
+
+// A column that was taken apart, some of whose pieces are still to be entered.
+#[derive(Drop)]
+pub(crate) struct Pending<'a, T: Copy> {
+    // The arms whose patterns the rows list. Nothing reads them: they tell that types live as long as patterns, since the
+    // column's type stands beside these here.
+    pub(crate) arms: &'a [CheckedArm<'a, T>],
+    pub(crate) apart: Apart<'a, T>,
+    // The pieces that heads have.
+    pub(crate) pieces: Vec<Ctor<'a>>,
+    // Whether some piece is in no head.
+    pub(crate) missing: bool,
+    // For each leaf which of the pieces it has.
+    pub(crate) spans: Vec<Span>,
+    // The pieces that are left, the last of which is entered next.
+    pub(crate) parts: Vec<Part>,
+}
+
+// What is still to be looked at.
+#[derive(Drop)]
+pub(crate) enum Todo<'a, T: Copy> {
+    Rows(Frame<'a, T>),
+    Pieces(Pending<'a, T>),
+}
+
+// What is left of rows one of whose columns was taken apart: its pieces, and the rows of values that no head has.
+#[derive(Drop)]
+pub(crate) struct Opened<'a, T: Copy> {
+    pub(crate) pieces: Option<Pending<'a, T>>,
+    pub(crate) wild: Option<Frame<'a, T>>,
 }

@@ -11,6 +11,7 @@ mod frames;
 mod listing;
 mod look;
 mod marks;
+mod pending;
 mod search;
 mod telling;
 mod told;

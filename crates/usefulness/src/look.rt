@@ -1,21 +1,23 @@
 // A submatrix that is looked at.
-ghost use Rattle.std.specs.Prelude.{◌≡◌, ◌<◌, ◌++◌, ◌∷◌, List, length, IfOk, OnOk, IfSome, Some, slice_get};
+ghost use Rattle.std.specs.Prelude.{◌≡◌, ◌<◌, ◌∷◌, List, true, length, IfOk, OnOk, IfSome, None, Some, slice_get};
 ghost use Rattle.std.specs.List.{All, Contains};
 ghost use Rattle.match_model.specs.Values.{MValue};
 ghost use Rattle.pat_context.specs.Parts.{AreValues};
 ghost use Rattle.pattern_matrix.specs.Spreading.{all_apart};
 ghost use Rattle.pattern_matrix.specs.Views.{plain_leaves};
+ghost use Rattle.pattern_matrix.specs.Counting.{Question};
 ghost use Rattle.pattern_matrix.specs.Searching.{IsFit, IsLookedAt, moved};
 ghost use Rattle.usefulness.specs.Frames.{numbers, places, rows_of, IsRowIn};
 ghost use Rattle.usefulness.specs.Told.{IsPinned, AreLighter, IsStep};
 ghost use Rattle.usefulness.specs.Keys.{told_keys};
 ghost use Rattle.usefulness.specs.Listing.{IsListedAs};
-ghost use Rattle.usefulness.specs.States.{plain_open, plain_opens, plain_askeds, frame_view, frame_views, child_views, IsGood, IsListed, is_noted, scope_of};
+ghost use Rattle.usefulness.specs.Stack.{IsOpened, opened_views};
+ghost use Rattle.usefulness.specs.States.{plain_open, plain_opens, plain_askeds, frame_view, child_views, IsGood, IsListed, is_noted, scope_of};
 
 use crate::children::children;
 use crate::choice::choose;
 use crate::compact::compact;
-use crate::frames::{Apart, Asked, Frame, Listing, OpenColumn, Reached};
+use crate::frames::{Apart, Asked, Frame, Listing, OpenColumn, Opened, Reached};
 use crate::listing::{finish, list_row, room_listed};
 use crate::telling::tell;
 use crate::told::{Told, is_told, is_untold, note_told};
@@ -48,7 +50,7 @@ fn asked_leaves<'a, T: Copy>(
 {
     let mut leaves = Vec::with_capacity(alloc, rows.len())?;
     for (i, asked) in rows.iter().enumerate() {
-        add_leaves(alloc, &mut leaves, i, &asked.row.heads, column)?;
+        add_leaves(alloc, &mut leaves, i, asked.row.heads.as_slice(), column)?;
     }
     Ok(leaves)
 }
@@ -83,56 +85,28 @@ fn split<'a, C: PatCx>(
     cx: &C,
     reached: &mut Reached<'a, C::Ty>,
     frame: Frame<'a, C::Ty>,
-) -> Result<Vec<Frame<'a, C::Ty>>, NoMemory>
+) -> Result<Opened<'a, C::Ty>, NoMemory>
     requires good { IsGood (scope_of reached.old) frame }
     requires fit { IsFit (C.is_type cx.now) (C.is_value cx.now) (C.context cx.now) (frame_view frame) }
     ensures scope { OnOk result (scope_of reached.new ≡ scope_of reached.old) }
-    ensures good { IfOk result (λ v. All (IsGood (scope_of reached.old)) v.items) }
-    ensures looked { IfOk result (λ v. IsLookedAt (C.is_type cx.now) (C.is_value cx.now) (C.context cx.now) (is_noted reached.old) (is_noted reached.new) (frame_view frame.entry) (frame_views v.items)) }
+    ensures good { IfOk result (λ o. IsOpened (C.is_type cx.now) (C.is_value cx.now) (C.context cx.now) (scope_of reached.old) (is_noted reached.new) o) }
+    ensures looked { IfOk result (λ o. IsLookedAt (C.is_type cx.now) (C.is_value cx.now) (C.context cx.now) (is_noted reached.old) (is_noted reached.new) (frame_view frame.entry) (opened_views (C.context cx.now) o)) }
 {
     let number = choose(alloc, &frame)?;
     let place = place_of(&frame.columns, number);
     let a = take_column(alloc, frame, place)?;
-    children(alloc, cx, reached, &a)
+    children(alloc, cx, reached, a)
 }
 
-// The rows over these columns, listed once more.
-fn relisting<'a, T: Copy>(
-    alloc: Global,
-    reached: &mut Reached<'a, T>,
-    columns: &[OpenColumn<T>],
-    rows: Vec<Asked<'a, T>>,
-) -> Result<Listing<'a, T>, NoMemory>
-    requires rows { All (IsRowIn (scope_of reached.old) (numbers (plain_opens columns.now))) (plain_askeds rows.items) }
-    ensures { IfOk result (λ l. IsListed (scope_of reached.old) (is_noted reached.old) reached.new (numbers (plain_opens columns.now)) (plain_askeds rows.entry.items) l) }
+// Nothing is left.
+fn none_opened<'a, T: Copy>() -> Opened<'a, T>
+    ensures pieces { result.pieces ≡ None }
+    ensures wild { result.wild ≡ None }
 {
-    let mut listing = room_listed(alloc, rows.len())?;
-    for asked in rows {
-        list_row(reached, &mut listing, asked)?;
+    Opened {
+        pieces: None,
+        wild: None,
     }
-    Ok(listing)
-}
-
-// What is still to be looked at of the rows, by what is marked now.
-fn listed_again<'a, C: PatCx>(
-    alloc: Global,
-    cx: &C,
-    reached: &mut Reached<'a, C::Ty>,
-    frame: Frame<'a, C::Ty>,
-) -> Result<Option<Frame<'a, C::Ty>>, NoMemory>
-    requires good { IsGood (scope_of reached.old) frame }
-    ensures scope { OnOk result (scope_of reached.new ≡ scope_of reached.old) }
-    ensures good { IfOk result (λ o. IfSome o (λ f. IsGood (scope_of reached.old) f)) }
-    ensures listed { IfOk result (λ o. ((vs : List MValue) × AreValues (C.is_value cx.now) (frame_view frame.entry).places vs)
-        → IsListedAs (C.is_value cx.now) (is_noted reached.old) (is_noted reached.new) (frame_view frame.entry) (child_views o)) }
-{
-    let Frame {
-        columns,
-        next,
-        rows,
-    } = frame;
-    let listing = relisting(alloc, reached, &columns, rows)?;
-    Ok(finish(listing, columns, next))
 }
 
 // Looks at the rows, unless their words were noted: what is left of them where one of their columns is taken apart.
@@ -142,20 +116,21 @@ fn look_once<'a, C: PatCx>(
     reached: &mut Reached<'a, C::Ty>,
     told: &mut Told,
     frame: Frame<'a, C::Ty>,
-) -> Result<Vec<Frame<'a, C::Ty>>, NoMemory>
+) -> Result<Opened<'a, C::Ty>, NoMemory>
     requires good { IsGood (scope_of reached.old) frame }
     requires fit { IsFit (C.is_type cx.now) (C.is_value cx.now) (C.context cx.now) (frame_view frame) }
     requires pinned { IsPinned (scope_of reached.old) }
     ensures scope { OnOk result (scope_of reached.new ≡ scope_of reached.old) }
-    ensures good { IfOk result (λ v. All (IsGood (scope_of reached.old)) v.items) }
-    ensures lighter { IfOk result (λ v. AreLighter (frame_views v.items) (frame_view frame.entry)) }
-    ensures stepped { IfOk result (λ v. IsStep (C.is_type cx.now) (C.is_value cx.now) (C.context cx.now) (scope_of reached.old) (is_noted reached.old) (is_noted reached.new)
-        (frame_view frame.entry) (frame_views v.items) (told_keys told.old) (told_keys told.new)) }
+    ensures grow { OnOk result ((q : Question) → is_noted reached.old q ≡ true → is_noted reached.new q ≡ true) }
+    ensures good { IfOk result (λ o. IsOpened (C.is_type cx.now) (C.is_value cx.now) (C.context cx.now) (scope_of reached.old) (is_noted reached.new) o) }
+    ensures lighter { IfOk result (λ o. AreLighter (opened_views (C.context cx.now) o) (frame_view frame.entry)) }
+    ensures stepped { IfOk result (λ o. IsStep (C.is_type cx.now) (C.is_value cx.now) (C.context cx.now) (scope_of reached.old) (is_noted reached.old) (is_noted reached.new)
+        (frame_view frame.entry) (opened_views (C.context cx.now) o) (told_keys told.old) (told_keys told.new)) }
 {
     let rest = compact(alloc, frame)?;
     let words = tell(alloc, &reached.marks, &rest)?;
     if is_told(told, &words) {
-        return Ok(Vec::new(alloc));
+        return Ok(none_opened());
     }
     let new = split(alloc, cx, reached, rest)?;
     note_told(told, words)?;
@@ -163,48 +138,26 @@ fn look_once<'a, C: PatCx>(
 }
 
 // Looks at the rows: the first ones of a search without a look into the words that were noted.
-fn look_at<'a, C: PatCx>(
+pub(crate) fn look_at<'a, C: PatCx>(
     alloc: Global,
     cx: &C,
     reached: &mut Reached<'a, C::Ty>,
     told: &mut Told,
     frame: Frame<'a, C::Ty>,
-) -> Result<Vec<Frame<'a, C::Ty>>, NoMemory>
+) -> Result<Opened<'a, C::Ty>, NoMemory>
     requires good { IsGood (scope_of reached.old) frame }
     requires fit { IsFit (C.is_type cx.now) (C.is_value cx.now) (C.context cx.now) (frame_view frame) }
     requires pinned { IsPinned (scope_of reached.old) }
     ensures scope { OnOk result (scope_of reached.new ≡ scope_of reached.old) }
-    ensures good { IfOk result (λ v. All (IsGood (scope_of reached.old)) v.items) }
-    ensures lighter { IfOk result (λ v. AreLighter (frame_views v.items) (frame_view frame.entry)) }
-    ensures stepped { IfOk result (λ v. IsStep (C.is_type cx.now) (C.is_value cx.now) (C.context cx.now) (scope_of reached.old) (is_noted reached.old) (is_noted reached.new)
-        (frame_view frame.entry) (frame_views v.items) (told_keys told.old) (told_keys told.new)) }
+    ensures grow { OnOk result ((q : Question) → is_noted reached.old q ≡ true → is_noted reached.new q ≡ true) }
+    ensures good { IfOk result (λ o. IsOpened (C.is_type cx.now) (C.is_value cx.now) (C.context cx.now) (scope_of reached.old) (is_noted reached.new) o) }
+    ensures lighter { IfOk result (λ o. AreLighter (opened_views (C.context cx.now) o) (frame_view frame.entry)) }
+    ensures stepped { IfOk result (λ o. IsStep (C.is_type cx.now) (C.is_value cx.now) (C.context cx.now) (scope_of reached.old) (is_noted reached.old) (is_noted reached.new)
+        (frame_view frame.entry) (opened_views (C.context cx.now) o) (told_keys told.old) (told_keys told.new)) }
 {
     if is_untold(told) {
         split(alloc, cx, reached, frame)
     } else {
         look_once(alloc, cx, reached, told, frame)
-    }
-}
-
-// Looks at the rows, by what is marked now.
-pub(crate) fn look<'a, C: PatCx>(
-    alloc: Global,
-    cx: &C,
-    reached: &mut Reached<'a, C::Ty>,
-    told: &mut Told,
-    frame: Frame<'a, C::Ty>,
-) -> Result<Vec<Frame<'a, C::Ty>>, NoMemory>
-    requires good { IsGood (scope_of reached.old) frame }
-    requires fit { IsFit (C.is_type cx.now) (C.is_value cx.now) (C.context cx.now) (frame_view frame) }
-    requires pinned { IsPinned (scope_of reached.old) }
-    ensures scope { OnOk result (scope_of reached.new ≡ scope_of reached.old) }
-    ensures good { IfOk result (λ v. All (IsGood (scope_of reached.old)) v.items) }
-    ensures lighter { IfOk result (λ v. AreLighter (frame_views v.items) (frame_view frame.entry)) }
-    ensures stepped { IfOk result (λ v. IsStep (C.is_type cx.now) (C.is_value cx.now) (C.context cx.now) (scope_of reached.old) (is_noted reached.old) (is_noted reached.new)
-        (frame_view frame.entry) (frame_views v.items) (told_keys told.old) (told_keys told.new)) }
-{
-    match listed_again(alloc, cx, reached, frame)? {
-        None => Ok(Vec::new(alloc)),
-        Some(rest) => look_at(alloc, cx, reached, told, rest),
     }
 }

@@ -1,33 +1,37 @@
 // The search for what is reached.
 ghost use Rattle.std.specs.Prelude.{◌≡◌, ◌<◌, ◌+◌, ◌^◌, ◌++◌, ◌∷◌, [], cond, length, map, Some, IfOk, OnOk, true, false};
-ghost use Rattle.std.specs.List.{All};
+ghost use Rattle.std.specs.List.{All, Contains};
 ghost use Rattle.match_model.specs.Rows.{is_wild};
 ghost use Rattle.match_model.specs.Values.{MValue};
 ghost use Rattle.match_model.specs.WellTyped.{IsWellTyped};
 ghost use Rattle.pat_context.specs.Views.{is_sure};
 ghost use Rattle.pattern_arena.specs.Trees.{plain_arm, plain_match, tree};
 ghost use Rattle.pattern_matrix.specs.Counting.{Question};
-ghost use Rattle.pattern_matrix.specs.Searching.{IsSearch, first_submatrix};
+ghost use Rattle.pattern_matrix.specs.Searching.{Submatrix, work, IsFit, IsSearch, first_submatrix};
 ghost use Rattle.pattern_matrix.specs.Starting.{starting_row, starting_rows};
+ghost use Rattle.pattern_matrix.specs.HeadLists.{kept_heads};
 ghost use Rattle.pattern_matrix.specs.Views.{plain_heads};
 ghost use Rattle.pattern_matrix.specs.SearchLaws.{IsReached};
 ghost use Rattle.usefulness.specs.Children.{bare_sub};
 ghost use Rattle.usefulness.specs.Marking.{is_marked};
 ghost use Rattle.usefulness.specs.Scope.{scope_for};
+ghost use Rattle.usefulness.specs.Keys.{told_keys};
+ghost use Rattle.usefulness.specs.Stack.{IsGoing, IsTodo, todo_view, todo_views};
 ghost use Rattle.usefulness.specs.Starting.{asked_from, wanted_all};
-ghost use Rattle.usefulness.specs.States.{frame_views, is_noted, plain_asked, scope_of, IsGood, IsListed};
+ghost use Rattle.usefulness.specs.States.{is_noted, plain_asked, scope_of, IsListed};
+ghost use Rattle.usefulness.specs.Told.{IsPinned};
 
 use crate::Marks;
-use crate::children::add_child;
-use crate::frames::{Asked, Frame, Listing, OpenColumn, Reached};
+use crate::frames::{Asked, Listing, OpenColumn, Opened, Reached, Todo};
 use crate::listing::{finish, list_row, room_listed};
-use crate::look::look;
-use crate::told::{keep_count, none_told};
+use crate::look::look_at;
+use crate::pending::{add_opened, add_rows, next_rows};
+use crate::told::{Told, keep_count, none_told};
 use no_memory::NoMemory;
 use pat_context::{Ctor, PatCx, has_value};
 use pattern_arena::laws::matches_are_made;
 use pattern_arena::{CheckedArm, CheckedMatch, DePat};
-use pattern_matrix::{Column, Head, Row};
+use pattern_matrix::{Column, Head, Heads, Row};
 use smallvec::SmallVec;
 use std::alloc::Global;
 
@@ -35,14 +39,14 @@ use std::alloc::Global;
 fn starting_heads<'a, T: Copy>(
     alloc: Global,
     pat: &'a DePat<'a, T>,
-) -> Result<Vec<Head<'a, T>>, NoMemory>
-    ensures { IfOk result (λ v. plain_heads v.items ≡ cond (is_wild (Some (tree pat.entry.now))) [] ((0, tree pat.entry.now) ∷ [])) }
+) -> Result<Heads<'a, T>, NoMemory>
+    ensures { IfOk result (λ v. plain_heads (kept_heads v) ≡ cond (is_wild (Some (tree pat.entry.now))) [] ((0, tree pat.entry.now) ∷ [])) }
 {
     match pat.ctor {
-        Ctor::Wild => Ok(Vec::new(alloc)),
+        Ctor::Wild => Ok(Heads::Bare),
         _ => {
-            let mut heads = Vec::with_capacity(alloc, 1)?;
-            heads.push(Head { column: 0, pat })?;
+            let mut heads = Heads::Bare;
+            heads.push(alloc, Head { column: 0, pat })?;
             Ok(heads)
         }
     }
@@ -97,7 +101,7 @@ fn first_listing<'a, T: Copy>(
 {
     let mut listing = arm_listing(alloc, reached, m.arms)?;
     let behind = Row {
-        heads: Vec::new(alloc),
+        heads: Heads::Bare,
         arm: m.arms.len() as u32,
         guarded: false,
         chosen: SmallVec::new(alloc),
@@ -113,34 +117,21 @@ fn first_listing<'a, T: Copy>(
     Ok(listing)
 }
 
-// Adds the rows to what is to be looked at.
-fn add_frames<'a, T: Copy>(
-    todo: &mut Vec<Frame<'a, T>>,
-    new: Vec<Frame<'a, T>>,
-) -> Result<(), NoMemory>
-    ensures { OnOk result (todo.new.items ≡ todo.old.items ++ new.entry.items) }
-{
-    for frame in new {
-        todo.push(frame)?;
-    }
-    Ok(())
-}
-
 // What is to be looked at first.
 fn first_frames<'a, C: PatCx>(
     alloc: Global,
     cx: &C,
     reached: &mut Reached<'a, C::Ty>,
     m: &CheckedMatch<'a, C::Ty>,
-) -> Result<Vec<Frame<'a, C::Ty>>, NoMemory>
+) -> Result<Vec<Todo<'a, C::Ty>>, NoMemory>
     requires typed { IsWellTyped (C.is_type cx.now) (C.context cx.now) (plain_match m.now) }
     requires value { (v : MValue) × C.is_value cx.now m.now.ty (is_sure m.now.validity) v }
     requires scope { scope_of reached.old ≡ scope_for (plain_match m.now).arms }
     requires few { length m.now.arms.now < 2 ^ 32 }
     requires none { (q : Question) → is_noted reached.old q ≡ false }
     ensures scope { OnOk result (scope_of reached.new ≡ scope_for (plain_match m.now).arms) }
-    ensures good { IfOk result (λ v. All (IsGood (scope_for (plain_match m.now).arms)) v.items) }
-    ensures search { IfOk result (λ v. IsSearch (C.is_type cx.now) (C.is_value cx.now) (C.context cx.now) (bare_sub (first_submatrix (plain_match m.now))) (is_noted reached.new) (frame_views v.items) []) }
+    ensures good { IfOk result (λ v. All (IsTodo (C.is_type cx.now) (C.is_value cx.now) (C.context cx.now) (scope_for (plain_match m.now).arms) (is_noted reached.new)) v.items) }
+    ensures search { IfOk result (λ v. IsSearch (C.is_type cx.now) (C.is_value cx.now) (C.context cx.now) (bare_sub (first_submatrix (plain_match m.now))) (is_noted reached.new) (todo_views (C.context cx.now) v.items) []) }
 {
     matches_are_made(m);
     let listing = first_listing(alloc, reached, m)?;
@@ -153,8 +144,47 @@ fn first_frames<'a, C: PatCx>(
         },
     })?;
     let mut todo = Vec::new(alloc);
-    add_child(&mut todo, finish(listing, columns, 1))?;
+    add_rows(&mut todo, finish(listing, columns, 1))?;
     Ok(todo)
+}
+
+// How many submatrices are left, at most.
+fn count_of<'a, T: Copy>(opened: &Opened<'a, T>) -> usize {
+    let pieces = match &opened.pieces {
+        None => 0,
+        Some(p) => p.pieces.len(),
+    };
+    match &opened.wild {
+        None => pieces,
+        Some(_frame) => pieces.saturating_add(1),
+    }
+}
+
+// Takes a step: the entry, which was taken from the end of the stack, is looked at, or one of its pieces, and what is left
+// of it is put there.
+fn step<'a, C: PatCx>(
+    alloc: Global,
+    cx: &C,
+    reached: &mut Reached<'a, C::Ty>,
+    told: &mut Told,
+    todo: &mut Vec<Todo<'a, C::Ty>>,
+    entry: Todo<'a, C::Ty>,
+) -> Result<(), NoMemory>
+    requires good { IsTodo (C.is_type cx.now) (C.is_value cx.now) (C.context cx.now) (scope_of reached.old) (is_noted reached.old) entry }
+    requires fit { (s : Submatrix C.Ty) → Contains (todo_view (C.context cx.now) entry) s → IsFit (C.is_type cx.now) (C.is_value cx.now) (C.context cx.now) s }
+    requires pinned { IsPinned (scope_of reached.old) }
+    ensures going { OnOk result ((first : Submatrix C.Ty) → IsGoing (C.is_type cx.now) (C.is_value cx.now) (C.context cx.now) first (scope_of reached.old) reached.old (told_keys told.old) (todo.old.items ++ entry.entry ∷ [])
+        → IsGoing (C.is_type cx.now) (C.is_value cx.now) (C.context cx.now) first (scope_of reached.old) reached.new (told_keys told.new) todo.new.items) }
+    ensures less { OnOk result (work (2 ^ 65) (todo_views (C.context cx.now) todo.new.items) < work (2 ^ 65) (todo_views (C.context cx.now) (todo.old.items ++ entry.entry ∷ []))) }
+{
+    match next_rows(alloc, cx, reached, todo, entry)? {
+        None => Ok(()),
+        Some(frame) => {
+            let opened = look_at(alloc, cx, reached, told, frame)?;
+            keep_count(told, count_of(&opened));
+            add_opened(todo, opened)
+        }
+    }
 }
 
 // Searches until nothing is to be looked at any more.
@@ -177,10 +207,8 @@ fn search<'a, C: PatCx>(
     };
     let mut told = none_told(alloc);
     let mut todo = first_frames(alloc, cx, &mut reached, m)?;
-    while let Some(frame) = todo.pop() {
-        let new = look(alloc, cx, &mut reached, &mut told, frame)?;
-        keep_count(&mut told, new.len());
-        add_frames(&mut todo, new)?;
+    while let Some(entry) = todo.pop() {
+        step(alloc, cx, &mut reached, &mut told, &mut todo, entry)?;
     }
     Ok(reached.marks)
 }

@@ -58,7 +58,7 @@ pub(crate) fn is_untold(told: &mut Told) -> bool
     true
 }
 
-// Keeps whether one submatrix alone is left of the one that was looked at, of which so many are.
+// Keeps whether one submatrix alone is left of the one that was looked at, of which at most so many are.
 pub(crate) fn keep_count(told: &mut Told, left: usize)
     ensures { told_keys told.new ≡ told_keys told.old }
 {

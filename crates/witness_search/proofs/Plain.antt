@@ -1,5 +1,5 @@
 -- Lists of code as plain lists.
-use Rattle.std.proofs.Common.{◌≡◌, ◌<◌, ℕ, Vec, Global, vec_len, eqb, List, [], ◌∷◌, ◌++◌, map, length, reverse, sym, ap, ◌∙◌, arith}
+use Rattle.std.proofs.Common.{◌≡◌, ◌<◌, ℕ, eqb, refl, List, [], ◌∷◌, ◌++◌, map, length, reverse, sym, ap, ◌∙◌, arith}
 use Rattle.std.specs.List.{All}
 use Rattle.std.proofs.lemmas.List.{length-map, reverse-append, length-reverse}
 use Rattle.std.proofs.lemmas.List.Elements.{All-cons, All-nil, All-head, All-tail}
@@ -56,7 +56,7 @@ pub empty_test : {A B : Type 0} (f : A → B) (n : ℕ) (xs : List A) → n ≡ 
 empty_test f n [] e = grind (arith, nat_tests)
 empty_test f n (x ∷ xs) e = grind (arith, nat_tests)
 
-pub empty-heads : {T : Type 0} (v : Vec (Head T) Global) → eqb (vec_len v) 0 ≡ is_empty_list (plain_heads v.items)
-empty-heads v = empty_test plain_head (vec_len v) v.items (omega (arith, v.ok.0))
+pub empty-heads : {T : Type 0} (heads : List (Head T)) → eqb (length heads) 0 ≡ is_empty_list (plain_heads heads)
+empty-heads heads = empty_test plain_head (length heads) heads refl
 
 pub ruleset empty_lists = empty-heads

@@ -3,12 +3,12 @@ ghost use Rattle.std.specs.Prelude.{◌≡◌, ◌<◌, ◌∷◌, true, nat_eq,
 ghost use Rattle.std.specs.List.{All, list_all, list_any};
 ghost use Rattle.pattern_matrix.specs.Opening.{opened_row, opened_rows};
 ghost use Rattle.pattern_matrix.specs.Sparse.{leaf_parts, leaves_listed, listed};
-ghost use Rattle.pattern_matrix.specs.Views.{plain_row, plain_rows, plain_leaf, plain_leaves, plain_pattern};
+ghost use Rattle.pattern_matrix.specs.Views.{plain_heads, plain_row, plain_rows, plain_leaf, plain_leaves, plain_pattern};
 ghost use Rattle.witness_search.specs.Starts.{lists_none};
 
 use crate::apart::Apart;
 use pattern_arena::DePat;
-use pattern_matrix::{Leaf, Row};
+use pattern_matrix::{Head, Leaf, Row};
 
 // Tells whether the head of a leaf writes no part.
 fn writes_none<'a, T: Copy>(head: Option<&'a DePat<'a, T>>) -> bool
@@ -21,10 +21,10 @@ fn writes_none<'a, T: Copy>(head: Option<&'a DePat<'a, T>>) -> bool
 }
 
 // Tells whether all heads of the row stand at the column.
-fn stands_alone<'a, T: Copy>(row: &Row<'a, T>, column: usize) -> bool
-    ensures { result ≡ list_all (λ h. nat_eq h.0 column) (plain_row row.now).heads }
+fn stands_alone<'a, T: Copy>(heads: &[Head<'a, T>], column: usize) -> bool
+    ensures { result ≡ list_all (λ h. nat_eq h.0 column) (plain_heads heads.now) }
 {
-    for head in &row.heads {
+    for head in heads {
         if head.column != column {
             return false;
         }
@@ -37,7 +37,7 @@ fn is_bare<'a, T: Copy>(row: &Row<'a, T>, leaf: &Leaf<'a, T>, column: usize) -> 
     ensures { result ≡ true → (first count : ℕ) → lists_none (opened_row column first count (plain_leaf leaf.now) (plain_row row.now)) ≡ true }
 {
     if writes_none(leaf.head) {
-        stands_alone(row, column)
+        stands_alone(row.heads.as_slice(), column)
     } else {
         false
     }

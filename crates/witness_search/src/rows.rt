@@ -2,13 +2,14 @@
 ghost use Rattle.std.specs.Prelude.{◌≡◌, ◌++◌, map, IfOk, OnOk};
 ghost use Rattle.std.specs.List.{list_any};
 ghost use Rattle.pattern_arena.specs.Trees.{plain_arm, tree};
+ghost use Rattle.pattern_matrix.specs.HeadLists.{kept_heads};
 ghost use Rattle.pattern_matrix.specs.Views.{plain_heads, plain_row, plain_rows};
 ghost use Rattle.witness_search.specs.Starts.{lists_none, starting_heads, starting_row, starting_rows};
 
 use no_memory::NoMemory;
 use pat_context::Ctor;
 use pattern_arena::{CheckedArm, DePat};
-use pattern_matrix::{Head, Row};
+use pattern_matrix::{Head, Heads, Row};
 use smallvec::SmallVec;
 use std::alloc::Global;
 
@@ -36,14 +37,14 @@ pub(crate) fn has_bare<'a, T: Copy>(rows: &[Row<'a, T>]) -> bool
 fn starting_heads<'a, T: Copy>(
     alloc: Global,
     pat: &'a DePat<'a, T>,
-) -> Result<Vec<Head<'a, T>>, NoMemory>
-    ensures { IfOk result (λ v. plain_heads v.items ≡ starting_heads (tree pat.entry.now)) }
+) -> Result<Heads<'a, T>, NoMemory>
+    ensures { IfOk result (λ v. plain_heads (kept_heads v) ≡ starting_heads (tree pat.entry.now)) }
 {
     match pat.ctor {
-        Ctor::Wild => Ok(Vec::new(alloc)),
+        Ctor::Wild => Ok(Heads::Bare),
         _ => {
-            let mut heads = Vec::with_capacity(alloc, 1)?;
-            heads.push(Head { column: 0, pat })?;
+            let mut heads = Heads::Bare;
+            heads.push(alloc, Head { column: 0, pat })?;
             Ok(heads)
         }
     }

@@ -15,7 +15,7 @@ dropped_column-requires-clause-none g c =
 pub leaf_pieces-requires-clause-heads : goal.leaf_pieces-requires-clause-heads
 leaf_pieces-requires-clause-heads g c =
     let cx = c.args.cx.now in
-    let a = c.args.a.now in
+    let a = c.args.a in
     let context = g.C.PatCx.context cx in
     subst (All (λ h. IsTrue (is_sharp_head (context.set_of a.taken.column.ty) h)))
     (sym (ap (λ ls. leaf_ctors (plain_leaves ls)) c.deref-2.ensures.value ∙ ap leaf_ctors c.requires.apart.leaves))
@@ -24,5 +24,5 @@ leaf_pieces-requires-clause-heads g c =
 pub split_column-requires-clause-some : goal.split_column-requires-clause-some
 split_column-requires-clause-some g c = λ e.
     let long = subst (λ (ls : List (Leaf g.row.C-Ty.Denot)). 0 < length (leaf_ctors (plain_leaves ls))) c.deref.ensures.value (c.are_wild.ensures.some c.if-are_wild.false) in
-    let none : length (leaf_ctors (apart_leaves c.args.a.now)) ≡ 0 = ap length e in
+    let none : length (leaf_ctors (apart_leaves c.args.a)) ≡ 0 = ap length e in
     omega (arith, long, none)

@@ -1,7 +1,5 @@
-use Rattle.std.proofs.Common.{[], sym, subst}
-use Rattle.usefulness.specs.Listing.{AreAllListed}
-use Rattle.usefulness.specs.States.{frame_views, is_noted, scope_of}
-use Rattle.usefulness.proofs.Looking.{none_listed}
+use Rattle.usefulness.specs.States.{child_views, wild_view, is_noted, scope_of}
+use Rattle.usefulness.proofs.Looking.{single_listed}
 use Rattle.usefulness.proofs.Splits.{wild_fit, looked_wild}
 use Rattle.usefulness.proofs.children.dropped_column.Goals as goal
 
@@ -16,6 +14,7 @@ returns-clause-looked g c =
     let scope = scope_of c.args.reached.now in
     let a = c.args.a.now in
     let old = is_noted c.args.reached.now in
-    looked_wild IsType IsValue context values law scope a c.requires.apart c.requires.fit old (is_noted c.add_wild.new.reached) (frame_views c.add_wild.new.new.items) c.requires.none c.requires.sharp
-    (c.in_ok-add_wild.ensures.listed old [] (wild_fit IsType IsValue context values law scope a c.requires.apart c.requires.fit c.requires.none)
-    (subst (λ fs. AreAllListed IsValue old old [] (frame_views fs)) (sym c.new-new.ensures.items) (none_listed IsValue old)))
+    let now = is_noted c.wild_child.new.reached in
+    let new = child_views c.in_ok-wild.wild in
+    looked_wild IsType IsValue context values law scope a c.requires.apart c.requires.fit old now new c.requires.none c.requires.sharp
+    (single_listed IsValue old now (wild_view a) new (c.in_ok-wild.ensures.listed (wild_fit IsType IsValue context values law scope a c.requires.apart c.requires.fit c.requires.none).some))

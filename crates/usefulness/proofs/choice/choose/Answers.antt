@@ -11,5 +11,5 @@ returns g c =
     let k = c.in_ok-place.place in
     let there = subst (ListsHeads c.shortest-best.result) c.deref.ensures.value c.shortest-best.ensures in
     subst (λ z. IsChosen z.column (plain_askeds rows)) c.index-heads-place.is
-    (chosen_at rows c.shortest-best.result x k h there.0 c.index.ensures (subst (λ hs. k < length hs) c.as_slice-heads.ensures.value c.in_ok-place.ensures)
-    (subst (λ hs. h ≡ get_or hs k h) c.as_slice-heads.ensures.value c.index-heads-place.is))
+    (chosen_at rows c.shortest-best.result x k h there.0 c.index.ensures (subst (λ hs. k < length hs) c.as_slice-heads.ensures c.in_ok-place.ensures)
+    (subst (λ hs. h ≡ get_or hs k h) c.as_slice-heads.ensures c.index-heads-place.is))

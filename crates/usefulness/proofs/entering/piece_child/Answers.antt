@@ -1,4 +1,4 @@
-use Rattle.std.proofs.Common.{◌≡◌, ◌++◌, ◌+◌, ◌∙◌, true, filter, length, ap, sym, subst, arith}
+use Rattle.std.proofs.Common.{◌≡◌, ◌++◌, ◌+◌, ◌∙◌, true, length, ap, sym, subst, arith}
 use Rattle.std.specs.List.{All}
 use Rattle.std.proofs.lemmas.Option.{IfSome_then}
 use Rattle.pat_context.specs.Views.{plain_ctor}
@@ -7,7 +7,6 @@ use Rattle.usefulness.specs.Children.{opened}
 use Rattle.usefulness.specs.Frames.{IsRowIn, AreOpen, numbers}
 use Rattle.usefulness.specs.States.{plain_opens, plain_askeds, child_views, IsListed, apart_rows, apart_leaves, other_numbers, is_noted, scope_of}
 use Rattle.usefulness.proofs.Having.{all_listed, all_numbered}
-use Rattle.usefulness.proofs.Steps.{listed_enough}
 use Rattle.usefulness.proofs.Left.{piece_listed, columns_same, columns_open}
 use Rattle.usefulness.proofs.entering.piece_child.Goals as goal
 
@@ -57,8 +56,8 @@ returns-clause-listed g c =
     let count = c.in_ok-columns.ensures.count in
     let same : n ≡ c.len-count.result = (let read = c.len-count.ensures in omega (arith, count, read, c.in_ok-columns.columns.ok.0)) in
     let longer = c.in_ok-extend_from_slice.ensures.items ∙ ap (λ ys. parts ++ ys) c.deref.ensures.value in
+    let leaves = leaves_listed (apart_leaves a) c.args.leaves.now in
     piece_listed (g.C.PatCx.is_value c.args.cx.now) scope a c.requires.apart old reached listing
-    (g.C.PatCx.context c.args.cx.now) piece c.args.missing c.requires.piece parts c.in_ok-columns.ensures.numbers c.in_ok-columns.ensures.places columns (child_views c.finish.result) longer c.finish.ensures.views
-    (subst (λ m. IsListed scope old reached (columns_from a.next m ++ other_numbers a) (opened c.args.missing a.taken.number a.next m (apart_rows a) (filter (λ l. head_has piece l.head) (apart_leaves a))) listing) (sym same)
-    (listed_enough scope old (columns_from a.next c.len-count.result ++ other_numbers a) (opened c.args.missing a.taken.number a.next c.len-count.result (apart_rows a) (filter (λ l. head_has piece l.head) (apart_leaves a)))
-    (opened c.args.missing a.taken.number a.next c.len-count.result (apart_rows a) (leaves_listed (apart_leaves a) c.args.leaves.now)) reached listing (c.requires.enough c.len-count.result) c.in_ok-listing.ensures))
+    (g.C.PatCx.context c.args.cx.now) piece c.args.missing c.requires.piece parts c.in_ok-columns.ensures.numbers c.in_ok-columns.ensures.places columns (child_views c.finish.result) leaves longer c.finish.ensures.views
+    (c.requires.enough n)
+    (subst (λ m. IsListed scope old reached (columns_from a.next m ++ other_numbers a) (opened c.args.missing a.taken.number a.next m (apart_rows a) leaves) listing) (sym same) c.in_ok-listing.ensures)

@@ -1,5 +1,6 @@
-use Rattle.std.proofs.Common.{◌≡◌, ◌&&◌, ◌∙◌, ◌∷◌, ◌++◌, [], false, not, sym, ap, subst, arith}
+use Rattle.std.proofs.Common.{◌≡◌, ◌&&◌, ◌∙◌, ◌∷◌, ◌++◌, [], length, refl, false, not, sym, ap, subst}
 use Rattle.std.proofs.lemmas.List.{map-append}
+use Rattle.pattern_matrix.specs.HeadLists.{kept_heads}
 use Rattle.usefulness.specs.Frames.{has_heads}
 use Rattle.usefulness.specs.Listing.{as_wanted, IsListing}
 use Rattle.usefulness.specs.States.{plain_asked, plain_askeds}
@@ -29,4 +30,4 @@ returns-clause-listed g c = λ old now columns through x same wants l.
     subst (IsListing old now columns (through ++ x ∷ []) (plain_askeds c.if-wanted.listing.rows.items)) (ap (λ r. c.is_empty.result && not r.guarded) same ∙ closes)
     (kept_row old now columns through (plain_askeds before.rows.items) (plain_askeds c.if-wanted.listing.rows.items) x w before.closed l c.requires.more wants after c.is_empty.result
     (λ e. subst (λ r. has_heads r.heads ≡ false) (sym same)
-    (no_heads c.args.asked.row.heads.items c.args.asked.row.heads.len (omega (arith, c.args.asked.row.heads.ok.0)) (sym c.is_empty.ensures ∙ e))))
+    (no_heads (kept_heads c.args.asked.row.heads) (length (kept_heads c.args.asked.row.heads)) refl (sym c.is_empty.ensures ∙ e))))

@@ -3,7 +3,8 @@ use Rattle.std.proofs.lemmas.Result.{IfOk-weaker}
 use Rattle.pattern_matrix.specs.Searching.{IsFit, IsLookedAt}
 use Rattle.pattern_matrix.proofs.Moving.{fit_moved}
 use Rattle.usefulness.specs.Frames.{numbers}
-use Rattle.usefulness.specs.States.{plain_opens, frame_view, frame_views, is_noted, scope_of}
+use Rattle.usefulness.specs.Stack.{opened_views}
+use Rattle.usefulness.specs.States.{plain_opens, frame_view, is_noted, scope_of}
 use Rattle.usefulness.proofs.Taking.{apart_of, view_of, sharp_of}
 use Rattle.usefulness.proofs.MovedFirst.{looked_moved}
 use Rattle.usefulness.proofs.look.split.Goals as goal
@@ -35,6 +36,6 @@ returns-clause-looked g c =
     let old = is_noted c.args.reached.now in
     let view = view_of (scope_of c.args.reached.now) c.place_of-place.result c.args.frame c.in_ok-a.a c.requires.good e.rows e.moved e.next in
     IfOk-weaker c.children.result _ _
-    (λ v looked. looked_moved (g.C.PatCx.is_type cx) (g.C.PatCx.is_value cx) (g.C.PatCx.context cx) old (is_noted c.children.new.reached) c.place_of-place.result (frame_view c.args.frame) (frame_views v.items) c.requires.fit
-    (subst (λ s. IsLookedAt (g.C.PatCx.is_type cx) (g.C.PatCx.is_value cx) (g.C.PatCx.context cx) old (is_noted c.children.new.reached) s (frame_views v.items)) (sym view) looked))
+    (λ v looked. looked_moved (g.C.PatCx.is_type cx) (g.C.PatCx.is_value cx) (g.C.PatCx.context cx) old (is_noted c.children.new.reached) c.place_of-place.result (frame_view c.args.frame) (opened_views (g.C.PatCx.context cx) v) c.requires.fit
+    (subst (λ s. IsLookedAt (g.C.PatCx.is_type cx) (g.C.PatCx.is_value cx) (g.C.PatCx.context cx) old (is_noted c.children.new.reached) s (opened_views (g.C.PatCx.context cx) v)) (sym view) looked))
     c.children.ensures.looked

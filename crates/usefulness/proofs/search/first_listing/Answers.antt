@@ -1,8 +1,7 @@
-use Rattle.std.proofs.Common.{◌∷◌, [], length, ap, sym, subst, arith}
+use Rattle.std.proofs.Common.{◌∷◌, [], length, refl, sym, subst, arith}
 use Rattle.std.proofs.lemmas.List.{length-map}
 use Rattle.pattern_arena.specs.Trees.{plain_match, plain_arm}
 use Rattle.pattern_matrix.specs.Starting.{starting_rows}
-use Rattle.pattern_matrix.specs.Views.{plain_heads}
 use Rattle.usefulness.specs.Scope.{scope_for}
 use Rattle.usefulness.specs.Starting.{wanted_all}
 use Rattle.usefulness.specs.States.{IsListed, is_noted}
@@ -14,10 +13,9 @@ returns g c =
     let arms = (plain_match c.args.m.now).arms in
     let many = length c.args.m.now.arms.now in
     let old = is_noted c.args.reached.now in
-    let heads = plain_heads c.new.result.items in
-    let chosen = c.new-2.result.items in
+    let chosen = c.new.result.items in
     let same = length-map c.args.m.now.arms.now plain_arm in
-    let row = plain_behind heads many chosen in
-    let behind = behind_is heads many (length arms) chosen (ap plain_heads c.new.ensures.items) (sym same) c.new-2.ensures.items in
+    let row = plain_behind [] many chosen in
+    let behind = behind_is [] many (length arms) chosen refl (sym same) c.new.ensures.items in
     subst (λ through. IsListed (scope_for arms) old c.list_row.new.reached (0 ∷ []) through c.list_row.new.listing) (with_behind arms row behind)
     (c.in_ok-list_row.ensures (scope_for arms) old (0 ∷ []) (wanted_all (starting_rows 0 arms)) c.in_ok-listing.ensures (behind_in (scope_for arms) (length arms) row (omega arith) behind))

@@ -4,13 +4,12 @@ use Rattle.pattern_matrix.specs.Searching.{work, first_submatrix}
 use Rattle.usefulness.specs.Keys.{told_keys}
 use Rattle.usefulness.specs.Scope.{scope_for}
 use Rattle.usefulness.specs.Children.{bare_sub}
-use Rattle.usefulness.specs.States.{frame_views}
-use Rattle.usefulness.proofs.Searching.{IsGoing}
+use Rattle.usefulness.specs.Stack.{IsGoing, todo_views}
 use Rattle.usefulness.proofs.search.search.Given as goal
 
-abbrev pub invariant-loop-frame : goal.invariant-loop-frame
-invariant-loop-frame g l =
+abbrev pub invariant-loop-entry : goal.invariant-loop-entry
+invariant-loop-entry g l =
     IsGoing (g.C.PatCx.is_type l.cx) (g.C.PatCx.is_value l.cx) (g.C.PatCx.context l.cx) (bare_sub (first_submatrix (plain_match l.m))) (scope_for (plain_match l.m).arms) l.reached (told_keys l.told) l.todo.items
 
-abbrev pub decreases-loop-frame : goal.decreases-loop-frame
-decreases-loop-frame g l = work (2 ^ 64) (frame_views l.todo.items)
+abbrev pub decreases-loop-entry : goal.decreases-loop-entry
+decreases-loop-entry g l = work (2 ^ 65) (todo_views (g.C.PatCx.context l.cx) l.todo.items)

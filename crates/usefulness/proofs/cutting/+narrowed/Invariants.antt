@@ -1,5 +1,0 @@
-use Rattle.std.proofs.Common.{◌-◌}
-use Rattle.usefulness.proofs.cutting.+narrowed.Given as goal
-
-abbrev pub decreases-narrowed : goal.decreases-narrowed
-decreases-narrowed g l = l.part.end - l.part.first
