@@ -1,12 +1,13 @@
 -- The rows of a piece are among those whose spans have its number.
-use Rattle.std.proofs.Common.{◌≡◌, ◌<◌, ◌≤◌, ◌+◌, ◌-◌, ℕ, zero, suc, Bool, true, false, ◌&&◌, nat_le, nat_lt, cond, List, [], ◌∷◌, ◌++◌, map, length, take, drop, get_or, append-nil, append_assoc, length-append, Option, Some, None, slice_get, slice_index_or, refl, sym, ap, ◌∙◌, subst, arith}
+use Rattle.std.proofs.Common.{◌≡◌, inl, inr, ◌<◌, ◌≤◌, ◌+◌, ◌-◌, ℕ, zero, suc, Bool, true, false, ◌&&◌, nat_le, nat_lt, cond, List, [], ◌∷◌, ◌++◌, map, length, take, drop, get_or, append-nil, append_assoc, length-append, Option, Some, None, slice_get, slice_index_or, refl, sym, ap, ◌∙◌, subst, arith}
 use denote.Bor.{Bor}
 use Rattle.std.specs.List.{All, cons_option}
 use Rattle.std.specs.Option.{option_to_list}
 use Rattle.std.proofs.lemmas.Bool.Decides.{nat_tests}
 use Rattle.std.proofs.lemmas.Grind.{flat_map-append}
+use Rattle.std.proofs.lemmas.Option.{get_or_from_slice_get, slice_get_within}
 use Rattle.std.proofs.lemmas.List.{length-map, take_more}
-use Rattle.std.proofs.lemmas.List.Elements.{All-cons, All-filter, All-nil}
+use Rattle.std.proofs.lemmas.List.Elements.{All-cons, All-filter, All-head, All-nil, All-weaker}
 use Rattle.match_model.specs.ArenaPatterns.{de_pat}
 use Rattle.match_model.specs.Constructors.{MCtor, WildCtor}
 use Rattle.match_model.specs.Lowering.{ctors_at}
@@ -25,7 +26,10 @@ use Rattle.pattern_arena.specs.declared.pattern.DePat.{DePat}
 use Rattle.keyed_matrix.specs.Steps.{AreLonger}
 use Rattle.keyed_matrix.specs.Views.{plain_head, plain_heads, plain_row, plain_rows}
 use Rattle.keyed_matrix.specs.declared.rows.KeyedRow.{KeyedRow}
-use Rattle.decision_tree.specs.Cuts.{head_there, leaf_of, column_leaf, column_leaves, mirrored, listed_at, AreCut}
+use Rattle.decision_tree.specs.Cutting.{head_there, IsCutPart, AreLed}
+use Rattle.decision_tree.specs.Fronts.{IsFront}
+use Rattle.decision_tree.specs.Cuts.{leaf_of, column_leaf, column_leaves, mirrored, listed_at, AreCut}
+use Rattle.decision_tree.proofs.Enough.{full-part, kept-first, taken-row}
 use Rattle.decision_tree.proofs.Reading.{read-map}
 
 -- ---- a row without the piece
@@ -113,6 +117,22 @@ module _ {T : Type 0} (p : MCtor) (n : ℕ) (place : List MStep) (i : ℕ) where
   missed pieces k j e is [] (s ∷ forward) are = absurd are
   missed pieces k j e is (r ∷ rows) [] are = absurd are
 
+-- a span with the number is that of a row with the piece
+spanned : {T : Type 0} (p : MCtor) (i : ℕ) (pieces : List MCtor) (k j : ℕ) → k + j + 1 ≡ length pieces → ((d : MCtor) → slice_index_or pieces k d ≡ p) →
+    (rows : List (MRow T)) (forward : List (ℕ × ℕ)) → AreLeafSpans pieces (column_leaves i rows) forward →
+    (q : ℕ) (r : MRow T) → slice_get rows q ≡ Some r →
+    span_has j (slice_get (map (mirrored (length pieces)) forward) q) ≡ true → head_has p (head_there i r.heads) ≡ true
+spanned p i pieces k j e is [] [] are q r got has = cc
+spanned p i pieces k j e is (x ∷ rows) (s ∷ forward) are zero r got has =
+    let same : x ≡ r = cc in
+    ap (λ (y : MRow _). head_has p (head_there i y.heads)) (sym same)
+    ∙ ap (λ q. head_has q (head_there i x.heads)) (sym (is p)) ∙ are.0.each k p (omega (arith, e))
+    ∙ sym (mirror-has s.0 s.1 (length pieces) k j are.0.forward are.0.within e) ∙ has
+spanned p i pieces k j e is (x ∷ rows) (s ∷ forward) are (suc q) r got has =
+    spanned p i pieces k j e is rows forward are.1 q r got has
+spanned p i pieces k j e is [] (s ∷ forward) are q r got has = absurd are
+spanned p i pieces k j e is (x ∷ rows) [] are q r got has = absurd are
+
 -- ---- the piece that is done next
 
 at-length : (ks gone : List MCtor) (p d : MCtor) → slice_index_or (ks ++ p ∷ gone) (length ks) d ≡ p
@@ -125,6 +145,12 @@ as-many-spans pieces [] [] are = refl
 as-many-spans pieces (l ∷ leaves) (s ∷ forward) are = ap suc (as-many-spans pieces leaves forward are.1)
 as-many-spans pieces [] (s ∷ forward) are = absurd are
 as-many-spans pieces (l ∷ leaves) [] are = absurd are
+
+longer-at : {T : Type 0} (i : ℕ) (rows : List (MRow T)) (q : ℕ) (r : MRow T) → AreLonger i rows → slice_get rows q ≡ Some r →
+    i < length r.heads
+longer-at i rows q r longer got =
+    subst (λ (x : MRow _). i < length x.heads) (get_or_from_slice_get rows q r r got)
+    (longer q r (slice_get_within rows q r got))
 
 module _ {T : Type 0} (i : ℕ) (rows : List (MRow T)) (ks : List MCtor) (p : MCtor) (spans : List Span) (todo : List Part)
     (cut : AreCut i rows (ks ++ p ∷ []) spans todo) where
@@ -155,28 +181,75 @@ module _ {T : Type 0} (i : ℕ) (rows : List (MRow T)) (ks : List MCtor) (p : MC
       (missed p n place i (ks ++ p ∷ cut.gone) (length ks) (length cut.gone) count (at-length ks cut.gone p) rows
       cut.forward each)
 
+  -- there is a span for each row
+  pub next-spans : length (plain_spans spans) ≡ length rows
+  next-spans =
+      ap length mirror
+      ∙ length-map cut.forward (mirrored (length (ks ++ p ∷ cut.gone)))
+      ∙ sym (as-many-spans (ks ++ p ∷ cut.gone) (column_leaves i rows) cut.forward each)
+      ∙ length-map rows (column_leaf i)
+
   -- they are rows
   pub next-within : All (λ k. k < length rows) (leaves_with (plain_spans spans) (length cut.gone))
   next-within =
-      let same : length (plain_spans spans) ≡ length rows = ap length mirror
-      ∙ length-map cut.forward (mirrored (length (ks ++ p ∷ cut.gone)))
-      ∙ sym (as-many-spans (ks ++ p ∷ cut.gone) (column_leaves i rows) cut.forward each)
-      ∙ length-map rows (column_leaf i) in
-      subst (λ n. All (λ k. k < n) (leaves_with (plain_spans spans) (length cut.gone))) same
+      subst (λ n. All (λ k. k < n) (leaves_with (plain_spans spans) (length cut.gone))) next-spans
       (All-filter (λ k. span_has (length cut.gone) (slice_get (plain_spans spans) k)) (λ k. k < length (plain_spans spans))
       (columns_from 0 (length (plain_spans spans))) (whole_part (plain_spans spans) 1 (omega arith)).within)
 
   -- and it is done
   pub cut-next : (new : List Part) → pieces_left new ≡ columns_from (suc (length cut.gone)) (length ks) →
-      All (IsFull spans) new → AreCut i rows ks spans new
-  cut-next new left full = record {
+      All (IsCutPart i rows spans) new → AreCut i rows ks spans new
+  cut-next new left parts = record {
     gone = p ∷ cut.gone;
     forward = cut.forward;
     each = each;
     mirror = mirror;
     left = left;
-    full = full;
+    parts = parts;
   }
+
+  -- a row whose span has the number has the piece
+  next-has : (q : ℕ) (r : MRow T) → slice_get rows q ≡ Some r →
+      span_has (length cut.gone) (slice_get (plain_spans spans) q) ≡ true → head_has p (head_there i r.heads) ≡ true
+  next-has q r got has =
+      let count : length ks + length cut.gone + 1 ≡ length (ks ++ p ∷ cut.gone) =
+      omega (arith, length-append ks (p ∷ cut.gone)) in
+      spanned p i (ks ++ p ∷ cut.gone) (length ks) (length cut.gone) count (at-length ks cut.gone p) rows cut.forward each q r
+      got (ap (λ ss. span_has (length cut.gone) (slice_get ss q)) (sym mirror) ∙ has)
+
+  -- they are rows, too, where the first stands alone
+  pub led-within : (numbers : List ℕ) → AreLed i rows numbers (leaves_with (plain_spans spans) (length cut.gone)) →
+      All (λ k. k < length rows) numbers
+  led-within numbers (inl e) = subst (All (λ k. k < length rows)) (sym e) next-within
+  led-within numbers (inr l) =
+      let below : ℕ → Type 0 = λ k. k < length rows in
+      subst (All below) (sym l.alone)
+      (All-cons below l.first [] (All-head below l.first l.others (subst (All below) l.all_are next-within)) (All-nil below))
+
+  -- where the first of the rows stands alone, it is taken
+  pub next-front : AreLonger i rows → (numbers : List ℕ) → AreLed i rows numbers (leaves_with (plain_spans spans) (length cut.gone)) →
+      (n : ℕ) (place : List MStep) →
+      IsFront (listed_at (specialise_head p n) place i rows numbers) (rows_at (specialise_head p n) place i rows)
+  next-front longer numbers (inl e) n place =
+      inl (ap (listed_at (specialise_head p n) place i rows) e ∙ next-rows n place)
+  next-front longer numbers (inr l) n place =
+      let made : List (MRow T) → List (MRow T) = rows_at (specialise_head p n) place i in
+      let listed : List ℕ → List (MRow T) = listed_at (specialise_head p n) place i rows in
+      let has = next-has l.first l.takes.row l.takes.got (kept-first (λ k. span_has (length cut.gone) (slice_get (plain_spans spans) k))
+      (columns_from 0 (length (plain_spans spans))) l.first l.others l.all_are) in
+      let y = taken-row p n place i l.takes.row (longer-at i rows l.first l.takes.row longer l.takes.got) l.takes.takes has in
+      let one : made (option_to_list (slice_get rows l.first)) ≡ y.0 ∷ [] =
+      ap (λ o. made (option_to_list o)) l.takes.got ∙ y.1 in
+      inr (record {
+        taken = record {
+          row = y.0;
+          alone = ap listed l.alone ∙ ap (λ xs. xs ++ []) one;
+          wild = y.2;
+          unguarded = y.3;
+        };
+        others = listed l.others;
+        first = sym (next-rows n place) ∙ ap listed l.all_are ∙ ap (λ xs. xs ++ listed l.others) one;
+      })
 
 -- ---- the first time
 
@@ -195,7 +268,7 @@ cut-begun i rows pieces spans todo forward each mirror left full = record {
   each = subst (λ ps. AreLeafSpans ps (column_leaves i rows) forward) (sym (no-more pieces)) each;
   mirror = mirror ∙ ap (λ (ps : List MCtor). map (mirrored (length ps)) forward) (sym (no-more pieces));
   left = left;
-  full = full;
+  parts = All-weaker (IsFull spans) (IsCutPart i rows spans) (full-part i rows spans) todo full;
 }
 
 -- the constructors of the heads of a column

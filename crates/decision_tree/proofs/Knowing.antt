@@ -9,8 +9,9 @@ use Rattle.match_model.specs.ContextLaws.{PartsLaw, ValuesLaw}
 use Rattle.match_model.specs.DecisionTrees.{MTree, SwitchTree, AskTree, all_wild}
 use Rattle.match_model.specs.Keys.{Decision}
 use Rattle.match_model.specs.Lists.{Ordered, Among}
-use Rattle.match_model.specs.Matrices.{MColumn, MRow}
+use Rattle.match_model.specs.Matrices.{MColumn, MRow, part_columns}
 use Rattle.match_model.specs.Places.{MStep}
+use Rattle.match_model.specs.Steps.{replaced_at}
 use Rattle.match_model.specs.Trees.{MBind, MBranch}
 use Rattle.match_model.specs.WellTyped.{uids_in}
 use Rattle.keyed_rows.specs.Parting.{RowParted}
@@ -39,6 +40,7 @@ use Rattle.decision_tree.specs.KnownViews.{plain_known_matrix}
 use Rattle.decision_tree.specs.Lone.{emptied, is_alone, lone_row, lone}
 use Rattle.decision_tree.specs.Matrices.{matrix_columns, matrix_rows, IsGoodMatrix, IsReadyMatrix, IsPieceAt, IsEntered, IsDropped, IsExpanded}
 use Rattle.decision_tree.specs.Waiting.{IsBare, Awaits, IsLeft, IsTurn}
+use Rattle.decision_tree.proofs.Fronts.{front-scope}
 use Rattle.decision_tree.proofs.Going.{leads-more}
 use Rattle.decision_tree.proofs.KnownTrees.{keeps-walk, switch-after, ask-after, known-new, known-hit}
 use Rattle.decision_tree.proofs.Looking.{entered-at}
@@ -110,8 +112,9 @@ module _ {T : Type 0} (IsType : T → Type 0) (cx : Context T) (V : T → Bool �
       let fit : IsFit cx i q.column (matrix_rows e) q.pieces p = pieces-fit IsType cx V values decides i q.column
       (matrix_columns e) (matrix_rows e) q.pieces p ready.ready q.there q.are q.among in
       subst (λ cs. IsInScope cx m cs (matrix_rows next)) (sym r.0)
-      (entered-in-scope cx m decides IsType V law i q.column (matrix_columns e) (matrix_rows e) (matrix_rows next) p
-      q.there column.type fit.belong s r.1)
+      (front-scope cx m (replaced_at i (matrix_columns e) (part_columns cx q.column p)) (matrix_rows next) k.whole k.front
+      (entered-in-scope cx m decides IsType V law i q.column (matrix_columns e) (matrix_rows e) k.whole p
+      q.there column.type fit.belong s r.1))
 
   pub rest-scope : (e next : Matrix T) (r : MRow T) → next.columns ≡ e.columns →
       matrix_rows e ≡ r ∷ matrix_rows next → Scoped e → Scoped next

@@ -31,3 +31,6 @@ mod Apart
 mod Knowing
 mod Asking
 mod Cuts
+mod Fronts
+mod Enough
+mod KnownHeads

@@ -88,12 +88,12 @@ module _ {T : Type 0} (m : Matrix T) (i : ℕ) (c : MColumn T) (there : slice_ge
 module _ {T : Type 0} (cx : Context T) (decides : ℕ → Decision) (i : ℕ) (m e : Matrix T) (c : MColumn T)
     (there : slice_get (matrix_columns m) i ≡ Some c) where
   -- the steps at the column
-  pub entered-at : (p : MCtor) → IsEntered cx decides i m p e →
+  pub entered-at : (p : MCtor) (k : IsEntered cx decides i m p e) →
       (matrix_columns e ≡ replaced_at i (matrix_columns m) (part_columns cx c p))
-      × AreInOrder decides (rows_at (specialise_head p (cx.arity p c.type)) c.place i (matrix_rows m)) (matrix_rows e)
+      × AreInOrder decides (rows_at (specialise_head p (cx.arity p c.type)) c.place i (matrix_rows m)) k.whole
   entered-at p k =
       subst (λ d. (matrix_columns e ≡ replaced_at i (matrix_columns m) (part_columns cx d p))
-      × AreInOrder decides (rows_at (specialise_head p (cx.arity p d.type)) d.place i (matrix_rows m)) (matrix_rows e))
+      × AreInOrder decides (rows_at (specialise_head p (cx.arity p d.type)) d.place i (matrix_rows m)) k.whole)
       (one-at (matrix_columns m) i k.column c k.there there) (k.columns, k.rows)
 
   pub dropped-at : IsDropped decides i m e → (matrix_columns e ≡ replaced_at i (matrix_columns m) [])

@@ -1,7 +1,8 @@
 -- What the derived test finds equal tells the same matrix; what is among known trees.
-use Rattle.std.proofs.Common.{◌≡◌, ◌⊎◌, inl, inr, ℕ, Bool, true, false, if◌then◌else◌, cond, List, [], ◌∷◌, map, Option, Some, None, refl, sym, ap, ◌∙◌, rules, nat_eq}
+use Rattle.std.proofs.Common.{◌≡◌, ◌⊎◌, inl, inr, ℕ, Bool, true, false, if◌then◌else◌, cond, List, [], ◌∷◌, ◌++◌, map, Option, Some, None, refl, sym, ap, ◌∙◌, rules, nat_eq}
 use Rattle.std.proofs.lemmas.Slice.Eq.{bytes_eq-Decides}
 use Rattle.std.specs.Cmp.Lexicographic.{pointwise}
+use Rattle.std.specs.List.{flat_map}
 use Rattle.indexmap.specs.IndexMap.{insert_entry}
 use Rattle.match_model.specs.Lists.{Among}
 use Rattle.pat_context.specs.declared.place.Step.{Step}
@@ -12,13 +13,15 @@ use Rattle.pat_context.specs.Views.{plain_step, is_sure}
 use Rattle.tree_eval.proofs.Pointwise.{both, nat-same, pointwise-map}
 use Rattle.decision_tree.specs.declared.known.KnownColumn.{KnownColumn}
 use Rattle.decision_tree.specs.declared.known.KnownName.{KnownName}
+use Rattle.decision_tree.specs.declared.known.KnownHeads.{KnownHeads}
 use Rattle.decision_tree.specs.declared.known.KnownRow.{KnownRow}
 use Rattle.decision_tree.specs.declared.known.KnownMatrix.{KnownMatrix}
 use Rattle.decision_tree.specs.contracts.known.KnownColumnPartialEq.TheImpl as column_eq
 use Rattle.decision_tree.specs.contracts.known.KnownNamePartialEq.TheImpl as name_eq
+use Rattle.decision_tree.specs.contracts.known.KnownHeadsPartialEq.TheImpl as heads_eq
 use Rattle.decision_tree.specs.contracts.known.KnownRowPartialEq.TheImpl as row_eq
 use Rattle.decision_tree.specs.contracts.known.KnownMatrixPartialEq.TheImpl as matrix_eq
-use Rattle.decision_tree.specs.KnownViews.{plain_known_column, side_place, plain_name, plain_known_row, plain_known_matrix}
+use Rattle.decision_tree.specs.KnownViews.{uids_of, plain_known_heads, plain_known_column, side_place, plain_name, plain_known_row, plain_known_matrix}
 
 same-step : (a b : Step) → step_eq.ghosts.eq a b ≡ true → plain_step a ≡ plain_step b
 same-step a b h = let e : a ≡ b = search (rules, h) in ap plain_step e
@@ -62,14 +65,32 @@ same-head None (Some y) h = cc
 same-head (Some x) None h = cc
 same-head (Some x) (Some y) h = ap Some (nat-same x y h)
 
+same-heads : (a b : KnownHeads) → heads_eq.ghosts.eq a b ≡ true → plain_known_heads a ≡ plain_known_heads b
+same-heads a b h =
+    let k = both _ _ h in
+    let first : a.first ≡ b.first = same-head a.first b.first k.0 in
+    let count : a.count ≡ b.count = nat-same a.count b.count k.1 in
+    λ i. uids_of (first i) (count i)
+
+-- lists that show the same one by one show the same together
+flat-same : {A B : Type 0} (f : A → List B) (xs ys : List A) → map f xs ≡ map f ys → flat_map f xs ≡ flat_map f ys
+flat-same f [] [] e = refl
+flat-same f [] (y ∷ ys) e = cc
+flat-same f (x ∷ xs) [] e = cc
+flat-same f (x ∷ xs) (y ∷ ys) e =
+    let here : f x ≡ f y = cc in
+    let rest : map f xs ≡ map f ys = cc in
+    ap (λ zs. zs ++ flat_map f xs) here ∙ ap (λ zs. f y ++ zs) (flat-same f xs ys rest)
+
 same-row : (a b : KnownRow) → row_eq.ghosts.eq a b ≡ true → plain_known_row a ≡ plain_known_row b
 same-row a b h =
     let k = both _ _ h in
     let l = both _ _ k.1 in
     let n = both _ _ l.1 in
     let o = both _ _ n.1 in
-    let heads : a.heads.items ≡ b.heads.items = pointwise-same (option_eq nat_eq) same-head a.heads.items b.heads.items
-    k.0 in
+    let heads : flat_map plain_known_heads a.heads.items ≡ flat_map plain_known_heads b.heads.items =
+    flat-same plain_known_heads a.heads.items b.heads.items
+    (pointwise-map (λ x y. heads_eq.ghosts.eq x y) plain_known_heads a.heads.items b.heads.items same-heads k.0) in
     let arm : a.arm ≡ b.arm = nat-same a.arm b.arm l.0 in
     let guarded : a.guarded ≡ b.guarded = search (rules, n.0) in
     let chosen : a.chosen.items ≡ b.chosen.items = pointwise-same nat_eq nat-same a.chosen.items b.chosen.items o.0 in

@@ -30,6 +30,7 @@ use Rattle.keyed_matrix.specs.Turns.{IsOneFirst}
 use Rattle.tree_laws.proofs.Engine.{context-engine}
 use Rattle.tree_laws.proofs.InColumn.{all-from, all-among}
 use Rattle.tree_laws.proofs.PiecesFit.{IsColumnCtor, column-ctors, column-heads}
+use Rattle.decision_tree.specs.Fronts.{IsFront}
 use Rattle.decision_tree.specs.Matrices.{matrix_columns, matrix_rows, IsPieceAt, ArePieceRows}
 use Rattle.decision_tree.specs.declared.frames.Matrix.{Matrix}
 use Rattle.decision_tree.proofs.OneFirst.{one-first}
@@ -49,12 +50,12 @@ piece-here {T} cx i m p c at there = (
     one : (x y : MColumn T) → Some x ≡ Some y → x ≡ y
     one x y e = cc
 
--- the rows of the piece
+-- the rows of the piece, or the first of them
 pub piece-rows : {T : Type 0} (cx : Context T) (i : ℕ) (m : Matrix T) (p : MCtor) (c : MColumn T) (rows : List (MRow T)) →
     ArePieceRows cx i m p rows → slice_get (matrix_columns m) i ≡ Some c →
-    rows ≡ rows_at (specialise_head p (cx.arity p c.type)) c.place i (matrix_rows m)
+    IsFront rows (rows_at (specialise_head p (cx.arity p c.type)) c.place i (matrix_rows m))
 piece-rows {T} cx i m p c rows are there =
-    subst (λ d. rows ≡ rows_at (specialise_head p (cx.arity p d.type)) d.place i (matrix_rows m))
+    subst (λ d. IsFront rows (rows_at (specialise_head p (cx.arity p d.type)) d.place i (matrix_rows m)))
     (one are.column c (sym are.there ∙ there)) are.are
   where
     one : (x y : MColumn T) → Some x ≡ Some y → x ≡ y

@@ -44,6 +44,7 @@ use Rattle.decision_tree.specs.Known.{IsInScope}
 use Rattle.decision_tree.specs.Matrices.{matrix_columns, matrix_rows, IsGoodMatrix, IsReadyMatrix, IsPieceAt, IsEntered, IsDropped, IsExpanded}
 use Rattle.decision_tree.specs.Waiting.{IsCutOf, Leads, Awaits, IsLeft, IsOpened, IsTurn}
 use Rattle.decision_tree.proofs.Beginning.{dropped-leads, opened-leads}
+use Rattle.decision_tree.proofs.Fronts.{front-leads}
 use Rattle.decision_tree.proofs.Going.{leads-more, asked, IsLast, last-present, else-done, piece-done}
 use Rattle.decision_tree.proofs.Looking.{within, entered-at, dropped-at, expanded-at, expanded-there}
 use Rattle.decision_tree.proofs.TypedRows.{as-many}
@@ -226,10 +227,12 @@ module _ {T : Type 0} (IsType : T → Type 0) (cx : Context T) (V : T → Bool �
       Waits frames now (matrix_columns next) (matrix_rows next)
   opened-turn frames now i x next p o are k =
       let rest = entered-at cx decides i x next o.column o.there p k in
-      leads-more IsType cx V decides m frames now (matrix_columns next) (matrix_columns x) (matrix_rows next) o.rows
-      (subst (λ cs. Leads IsType cx V decides m cs (matrix_rows next) (matrix_columns x) o.rows) (sym rest.0)
-      (opened-leads IsType cx V decides m i o.column (matrix_columns x) o.rows (matrix_rows x) (matrix_rows next) p
-      o.chosen o.there o.expanded o.some o.kind are rest.1)) o.awaits
+      leads-more IsType cx V decides m frames now (matrix_columns next) (matrix_columns next) (matrix_rows next) k.whole
+      (front-leads IsType cx V decides m (matrix_columns next) (matrix_rows next) k.whole k.front)
+      (leads-more IsType cx V decides m frames now (matrix_columns next) (matrix_columns x) k.whole o.rows
+      (subst (λ cs. Leads IsType cx V decides m cs k.whole (matrix_columns x) o.rows) (sym rest.0)
+      (opened-leads IsType cx V decides m i o.column (matrix_columns x) o.rows (matrix_rows x) k.whole p
+      o.chosen o.there o.expanded o.some o.kind are rest.1)) o.awaits)
 
   -- what was found of the pieces of the column, which was read twice
   pub found-at : (x y : KeyedColumn T) (c : MColumn T) (ks hs cs gaps : List MCtor) (missing : Bool) →

@@ -1,5 +1,5 @@
 -- Which rows have which pieces of a column, and what is still to be looked at of them (our own choice).
-use Rattle.std.specs.Prelude.{◌≡◌, ℕ, zero, suc, ◌-◌, List, [], ◌∷◌, ◌++◌, map, length, None, slice_get}
+use Rattle.std.specs.Prelude.{◌≡◌, ℕ, ◌-◌, List, [], ◌++◌, map, length, slice_get}
 use Rattle.std.specs.List.{All, flat_map}
 use Rattle.std.specs.Option.{option_to_list}
 use Rattle.match_model.specs.Constructors.{MCtor}
@@ -9,15 +9,10 @@ use Rattle.match_model.specs.Rows.{Head}
 use Rattle.match_model.specs.Steps.{Replacement, rows_at}
 use Rattle.constructor_sets.specs.declared.piece.Span.{Span}
 use Rattle.pattern_matrix.specs.Halving.{AreLeafSpans}
-use Rattle.pattern_matrix.specs.Parts.{plain_spans, IsFull, pieces_left}
+use Rattle.pattern_matrix.specs.Parts.{plain_spans, pieces_left}
 use Rattle.pattern_matrix.specs.Sparse.{SparseLeaf, columns_from}
 use Rattle.pattern_matrix.specs.declared.halving.Part.{Part}
-
--- the head in the column, a wildcard where there is none
-abbrev pub head_there : {T : Type 0} → (i : ℕ) → List (Head T) → Head T
-head_there i [] = None
-head_there zero (h ∷ hs) = h
-head_there (suc i) (h ∷ hs) = head_there i hs
+use Rattle.decision_tree.specs.Cutting.{head_there, IsCutPart}
 
 -- the head as a leaf
 abbrev pub leaf_of : {T : Type 0} → Head T → (chosen : List ℕ) → SparseLeaf T
@@ -40,7 +35,7 @@ abbrev pub listed_at : {T : Type 0} → (Head T → List (Replacement T)) → Li
     (numbers : List ℕ) → List (MRow T)
 listed_at f place i rows numbers = flat_map (λ k. rows_at f place i (option_to_list (slice_get rows k))) numbers
 
--- of the pieces of column `i` these are not done: their numbers are left, and with each part come all rows that have one of
+-- of the pieces of column `i` these are not done: their numbers are left, and with each part come rows that are enough for
 -- its pieces, where pieces are counted from the last to the first
 pub record AreCut {T : Type 0} (i : ℕ) (rows : List (MRow T)) (pieces : List MCtor) (spans : List Span)
     (todo : List Part) : Type 0 where
@@ -49,4 +44,4 @@ pub record AreCut {T : Type 0} (i : ℕ) (rows : List (MRow T)) (pieces : List M
   pub each : AreLeafSpans (pieces ++ gone) (column_leaves i rows) forward
   pub mirror : plain_spans spans ≡ map (mirrored (length (pieces ++ gone))) forward
   pub left : pieces_left todo ≡ columns_from (length gone) (length pieces)
-  pub full : All (IsFull spans) todo
+  pub parts : All (IsCutPart i rows spans) todo

@@ -1,10 +1,12 @@
 -- What tells matrices, and which trees are known, as the definitions have them.
-use Rattle.std.specs.Prelude.{ℕ, List, [], ◌∷◌, ◌++◌, map, Option, Some, None}
+use Rattle.std.specs.Prelude.{ℕ, zero, suc, List, [], ◌∷◌, ◌++◌, map, replicate, Option, Some, None}
+use Rattle.std.specs.List.{flat_map}
 use Rattle.match_model.specs.Places.{MStep, MiddleStep}
 use Rattle.match_model.specs.Trees.{MBind}
 use Rattle.pat_context.specs.Views.{plain_place, is_sure}
 use Rattle.decision_tree.specs.declared.known.KnownColumn.{KnownColumn}
 use Rattle.decision_tree.specs.declared.known.KnownName.{KnownName}
+use Rattle.decision_tree.specs.declared.known.KnownHeads.{KnownHeads}
 use Rattle.decision_tree.specs.declared.known.KnownRow.{KnownRow}
 use Rattle.decision_tree.specs.declared.known.KnownMatrix.{KnownMatrix}
 use Rattle.decision_tree.specs.declared.known.KnownTrees.{KnownTrees}
@@ -21,9 +23,22 @@ side_place place (Some s) = place ++ MiddleStep s.0 s.1 ∷ []
 abbrev pub plain_name : KnownName → MBind
 plain_name n = record { name = n.name.now; mode = n.mode; place = side_place (plain_place n.place.now) n.sides }
 
+-- so many uids, each one more than that before it
+abbrev pub uids_from : (first count : ℕ) → List (Option ℕ)
+uids_from first zero = []
+uids_from first (suc n) = Some first ∷ uids_from (suc first) n
+
+-- the uids of so many heads side by side
+abbrev pub uids_of : (first : Option ℕ) → (count : ℕ) → List (Option ℕ)
+uids_of None n = replicate n None
+uids_of (Some first) n = uids_from first n
+
+abbrev pub plain_known_heads : KnownHeads → List (Option ℕ)
+plain_known_heads h = uids_of h.first h.count
+
 abbrev pub plain_known_row : KnownRow → MKnownRow
 plain_known_row r = record {
-  heads = r.heads.items;
+  heads = flat_map plain_known_heads r.heads.items;
   arm = r.arm;
   guarded = r.guarded;
   chosen = r.chosen.items;

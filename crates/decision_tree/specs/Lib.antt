@@ -8,3 +8,5 @@ pub mod KnownTrees
 pub mod KnownViews
 pub mod Asking
 pub mod Cuts
+pub mod Fronts
+pub mod Cutting

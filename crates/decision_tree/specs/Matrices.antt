@@ -13,6 +13,7 @@ use Rattle.match_model.specs.WellTyped.{AreHeadsTyped}
 use Rattle.keyed_rows.specs.Parting.{RowParted}
 use Rattle.keyed_steps.specs.Good.{IsGood, IsReady, IsMadeHead}
 use Rattle.keyed_matrix.specs.Views.{plain_columns, plain_rows}
+use Rattle.decision_tree.specs.Fronts.{IsFront}
 use Rattle.decision_tree.specs.declared.frames.Matrix.{Matrix}
 
 -- the columns
@@ -50,21 +51,23 @@ pub record IsPieceAt {T : Type 0} (cx : Context T) (i : ℕ) (m : Matrix T) (pie
   pub are : ArePieces (cx.set_of column.type) (ctors_at i (matrix_rows m)) pieces
   pub among : Among piece pieces
 
--- these are the rows of the piece at column `i`
+-- these are the rows of the piece at column `i`, or the first of them alone where it is taken
 pub record ArePieceRows {T : Type 0} (cx : Context T) (i : ℕ) (m : Matrix T) (piece : MCtor) (rows : List (MRow T)) :
     Type 0 where
   pub column : MColumn T
   pub there : slice_get (matrix_columns m) i ≡ Some column
-  pub are : rows ≡ rows_at (specialise_head piece (cx.arity piece column.type)) column.place i (matrix_rows m)
+  pub are : IsFront rows (rows_at (specialise_head piece (cx.arity piece column.type)) column.place i (matrix_rows m))
 
--- the rows and columns of the piece
+-- the rows and columns of the piece, or of its rows the first alone where it is taken
 pub record IsEntered {T : Type 0} (cx : Context T) (decides : ℕ → Decision) (i : ℕ) (m : Matrix T) (piece : MCtor)
     (e : Matrix T) : Type 0 where
   pub column : MColumn T
   pub there : slice_get (matrix_columns m) i ≡ Some column
   pub columns : matrix_columns e ≡ replaced_at i (matrix_columns m) (part_columns cx column piece)
+  pub whole : List (MRow T)
   pub rows : AreInOrder decides (rows_at (specialise_head piece (cx.arity piece column.type)) column.place i (matrix_rows m))
-      (matrix_rows e)
+      whole
+  pub front : IsFront (matrix_rows e) whole
 
 -- the rows wild at column `i`, over the other columns
 pub record IsDropped {T : Type 0} (decides : ℕ → Decision) (i : ℕ) (m e : Matrix T) : Type 0 where

@@ -1,5 +1,5 @@
 // A number made of what tells a matrix, by which it is looked for: equal matrices have one, and others seldom the same.
-use crate::known::{KnownColumn, KnownName, KnownRow};
+use crate::known::{KnownColumn, KnownHeads, KnownName, KnownRow};
 use pat_context::Step;
 
 // The digest with one number more: an odd number near 2^64 divided by the golden ratio spreads it upwards, and the turn
@@ -48,13 +48,11 @@ fn with_chosen(digest: u64, chosen: &[u64]) -> u64 {
 }
 
 // The digest with the heads.
-fn with_heads(digest: u64, heads: &[Option<u64>]) -> u64 {
+fn with_heads(digest: u64, heads: &[KnownHeads]) -> u64 {
     let mut digest = digest;
-    for head in heads {
-        digest = match head {
-            None => mixed(digest, 0),
-            Some(uid) => mixed(digest, *uid),
-        };
+    for some in heads {
+        let first = some.first.unwrap_or(0);
+        digest = mixed(mixed(digest, first), some.count);
     }
     digest
 }

@@ -23,7 +23,7 @@ pub(crate) struct Looked<'a, T: Copy> {
     pub(crate) pieces: Vec<Ctor<'a>>,
     // For each row which of the pieces it has, by their numbers from 0, counted from the last piece to the first.
     pub(crate) spans: Vec<Span>,
-    // The pieces that are not done, by these numbers, and the rows among which are all that have one of them.
+    // The pieces that are not done, by these numbers, with rows that are enough for them.
     pub(crate) todo: Vec<Part>,
     // The cases that are done with the indices of their trees, the last case first.
     pub(crate) cases: Vec<(Case, u64)>,

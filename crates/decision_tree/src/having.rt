@@ -1,13 +1,13 @@
 // Which rows have which pieces of a column.
-ghost use Rattle.std.specs.Prelude.{◌≡◌, ◌∷◌, ◌<◌, ℕ, List, length, map, IfOk, OnOk};
+ghost use Rattle.std.specs.Prelude.{◌≡◌, ◌∷◌, ◌<◌, ℕ, List, length, map, IfOk};
 ghost use Rattle.std.specs.List.{All};
 ghost use Rattle.match_model.specs.Lowering.{ctors_at};
 ghost use Rattle.match_model.specs.Steps.{specialise_head};
 ghost use Rattle.pat_context.specs.Views.{plain_ctor, plain_place};
 ghost use Rattle.constructor_sets.specs.Columns.{plain_ctors};
 ghost use Rattle.constructor_sets.specs.Spans.{plain_span, AreSpans};
-ghost use Rattle.pattern_matrix.specs.Halving.{AreLeafSpans, leaves_with};
-ghost use Rattle.pattern_matrix.specs.Parts.{plain_spans, IsFull, pieces_left};
+ghost use Rattle.pattern_matrix.specs.Halving.{AreLeafSpans};
+ghost use Rattle.pattern_matrix.specs.Parts.{plain_spans};
 ghost use Rattle.pattern_matrix.specs.Views.{plain_leaf, plain_leaves};
 ghost use Rattle.keyed_matrix.specs.Steps.{AreLonger};
 ghost use Rattle.keyed_matrix.specs.Views.{plain_row, plain_rows};
@@ -17,7 +17,7 @@ use constructor_sets::Span;
 use keyed_matrix::{KeyedRow, piece_rows};
 use no_memory::NoMemory;
 use pat_context::{Ctor, Step};
-use pattern_matrix::{Leaf, Part, leaf_spans, next_piece};
+use pattern_matrix::{Leaf, leaf_spans};
 use smallvec::SmallVec;
 use std::alloc::Global;
 use std::slice::from_ref;
@@ -90,25 +90,6 @@ fn mirrored_all(alloc: Global, spans: &[Span], count: usize) -> Result<Vec<Span>
         all.push(mirrored(span, count))?;
     }
     Ok(all)
-}
-
-// The numbers of the rows that have the next of the pieces that are left.
-pub(crate) fn next_rows(
-    alloc: Global,
-    todo: &mut Vec<Part>,
-    spans: &[Span],
-) -> Result<Vec<usize>, NoMemory>
-    requires { All (IsFull spans.now) todo.old.items }
-    ensures rows { IfOk result (λ v. (n : ℕ) (left : List ℕ) → pieces_left todo.old.items ≡ n ∷ left
-        → v.items ≡ leaves_with (plain_spans spans.now) n) }
-    ensures left { OnOk result ((n : ℕ) (left : List ℕ) → pieces_left todo.old.items ≡ n ∷ left
-        → pieces_left todo.new.items ≡ left) }
-    ensures full { OnOk result (All (IsFull spans.now) todo.new.items) }
-{
-    match next_piece(alloc, todo, spans)? {
-        Some(next) => Ok(next.leaves),
-        None => Ok(Vec::new(alloc)),
-    }
 }
 
 // The rows of a piece of so many parts, of the rows with these numbers.

@@ -32,10 +32,19 @@ pub(crate) struct KnownName<'a> {
     pub(crate) sides: Option<(u64, u64)>,
 }
 
+// Heads that stand side by side: wildcards that no pattern wrote, or patterns of which each has the next uid.
+#[derive(PartialEq, Eq, Clone, Copy)]
+pub(crate) struct KnownHeads {
+    // The uid of the first, where a pattern wrote it.
+    pub(crate) first: Option<u64>,
+    // How many there are.
+    pub(crate) count: u64,
+}
+
 // What tells a row: its patterns by their uids, and all else.
 #[derive(PartialEq, Eq, Drop)]
 pub(crate) struct KnownRow<'a> {
-    pub(crate) heads: Vec<Option<u64>>,
+    pub(crate) heads: Vec<KnownHeads>,
     pub(crate) arm: u32,
     pub(crate) guarded: bool,
     pub(crate) chosen: Vec<u64>,
@@ -92,9 +101,9 @@ pub(crate) fn find_known<'a>(known: &KnownTrees<'a>, matrix: &KnownMatrix<'a>) -
     }
 }
 
-// About how many words the row takes: two for a head, one for an alternative, and eight for a name.
+// About how many words the row takes: three for heads side by side, one for an alternative, and eight for a name.
 fn row_words<'a>(row: &KnownRow<'a>) -> usize {
-    let heads = row.heads.len().saturating_mul(2);
+    let heads = row.heads.len().saturating_mul(3);
     let names = row.caught.len().saturating_mul(8);
     heads
         .saturating_add(row.chosen.len())

@@ -1,7 +1,8 @@
 // Rows that have only wildcards and names left.
-ghost use Rattle.std.specs.Prelude.{◌≡◌, ◌≤◌, length};
+ghost use Rattle.std.specs.Prelude.{◌≡◌, ◌≤◌, Some, length};
 ghost use Rattle.match_model.specs.DecisionTrees.{all_wild};
 ghost use Rattle.match_model.specs.Rows.{is_wild};
+ghost use Rattle.pattern_arena.specs.Trees.{tree};
 ghost use Rattle.keyed_matrix.specs.Views.{plain_head, plain_row, plain_rows};
 ghost use Rattle.decision_tree.specs.Asking.{asks_guard, AreAsked};
 
@@ -15,10 +16,17 @@ pub(crate) fn is_wild<'a, T: Copy>(head: &Option<&'a DePat<'a, T>>) -> bool
 {
     match head {
         None => true,
-        Some(p) => match p.ctor {
-            Ctor::Wild => true,
-            _ => false,
-        },
+        Some(p) => is_wild_pat(p),
+    }
+}
+
+// Tells whether the pattern is a wildcard or a name.
+pub(crate) fn is_wild_pat<'a, T: Copy>(pat: &DePat<'a, T>) -> bool
+    ensures { result ≡ is_wild (Some (tree pat.now)) }
+{
+    match pat.ctor {
+        Ctor::Wild => true,
+        _ => false,
     }
 }
 

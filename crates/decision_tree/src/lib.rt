@@ -9,6 +9,7 @@
 
 mod binds;
 mod branches;
+mod cutting;
 mod digests;
 mod frames;
 mod having;

@@ -23,8 +23,9 @@ ghost use Rattle.decision_tree.specs.declared.frames.Turn.TheVariants.{Finished}
 
 use crate::binds::{place_by, row_binds};
 use crate::branches::place_of;
+use crate::cutting::next_cut;
 use crate::frames::{Frame, Looked, Matrix, Turn};
-use crate::having::{next_rows, row_spans};
+use crate::having::row_spans;
 use crate::known::{KnownTrees, find_known, none_known, note_known};
 use crate::leaves::{count_asked, is_leaf};
 use crate::lone::lone;
@@ -190,7 +191,7 @@ fn next_case<'a, C: PatCx>(
             let case = case_of(alloc, &piece)?;
             let i = looked.column;
             let mut todo = replace(&mut looked.todo, Vec::new(alloc));
-            let numbers = next_rows(alloc, &mut todo, &looked.spans)?;
+            let numbers = next_cut(alloc, &looked.matrix.rows, i, &mut todo, &looked.spans)?;
             looked.todo = todo;
             let next = entered_among(
                 alloc,

@@ -8,6 +8,7 @@ ghost use Rattle.pat_context.specs.Views.{plain_ctor};
 ghost use Rattle.keyed_matrix.specs.Deciding.{table_decides};
 ghost use Rattle.keyed_matrix.specs.Views.{plain_rows};
 ghost use Rattle.decision_tree.specs.Cuts.{listed_at};
+ghost use Rattle.decision_tree.specs.Fronts.{IsFront};
 ghost use Rattle.decision_tree.specs.Matrices.{matrix_rows, IsGoodMatrix, IsReadyMatrix, IsPieceAt, ArePieceRows};
 ghost use Rattle.decision_tree.specs.Matrices.{IsExpanded, IsDropped, IsEntered};
 
@@ -90,7 +91,8 @@ pub(crate) fn entered<'a, C: PatCx>(
     over_parts(alloc, arena, cx, decisions, m, i, piece, rows)
 }
 
-// The same, where the rows that have the piece are among those with these numbers.
+// The same, where the rows that have the piece are among those with these numbers, or the first of them alone is, and it is
+// taken.
 pub(crate) fn entered_among<'a, C: PatCx>(
     alloc: Global,
     arena: &'a Bump<Global>,
@@ -106,8 +108,8 @@ pub(crate) fn entered_among<'a, C: PatCx>(
     requires piece { IsPieceAt (C.context cx.now) i m.now (plain_ctor piece.now) }
     requires numbers { All (λ k. k < length m.now.rows.items) numbers.now }
     requires whole { (n : ℕ) (place : List MStep) →
-        listed_at (specialise_head (plain_ctor piece.now) n) place i (matrix_rows m.now) numbers.now
-        ≡ rows_at (specialise_head (plain_ctor piece.now) n) place i (matrix_rows m.now) }
+        IsFront (listed_at (specialise_head (plain_ctor piece.now) n) place i (matrix_rows m.now) numbers.now)
+        (rows_at (specialise_head (plain_ctor piece.now) n) place i (matrix_rows m.now)) }
     ensures entered { IfOk result (λ e. IsEntered (C.context cx.now) (table_decides decisions.now) i
         m.now (plain_ctor piece.now) e) }
     ensures good { IfOk result (λ e. IsGoodMatrix (C.is_type cx.now) (C.context cx.now)

@@ -1,13 +1,15 @@
 // What tells a matrix from the others of a match.
-ghost use Rattle.std.specs.Prelude.{◌≡◌, map, IfOk};
+ghost use Rattle.std.specs.Prelude.{◌≡◌, ◌+◌, ◌++◌, ◌∷◌, [], true, map, IfOk, IfSome, OnOk};
+ghost use Rattle.std.specs.List.{flat_map};
 ghost use Rattle.match_model.specs.Matrices.{bind_at};
 ghost use Rattle.keyed_matrix.specs.Views.{plain_caught, plain_columns, plain_head, plain_heads, plain_row};
 ghost use Rattle.keyed_matrix.specs.Views.{plain_rows};
 ghost use Rattle.decision_tree.specs.Known.{head_uid, known_column, known_row, known_matrix};
+ghost use Rattle.decision_tree.specs.KnownViews.{uids_of, plain_known_heads};
 ghost use Rattle.decision_tree.specs.KnownViews.{plain_known_column, plain_name, plain_known_row, plain_known_matrix};
 
 use crate::digests::digest_of;
-use crate::known::{KnownColumn, KnownMatrix, KnownName, KnownRow};
+use crate::known::{KnownColumn, KnownHeads, KnownMatrix, KnownName, KnownRow};
 use keyed_matrix::{Caught, KeyedColumn, KeyedRow};
 use no_memory::NoMemory;
 use pattern_arena::{DePat, Part};
@@ -23,18 +25,88 @@ fn head_uid<'a, T: Copy>(head: &Option<&'a DePat<'a, T>>) -> Option<u64>
     }
 }
 
-// The uids of the heads' patterns.
-fn head_uids<'a, T: Copy>(
+// The heads with one more, where they go on with the uid.
+fn longer(heads: &KnownHeads, uid: Option<u64>) -> Option<KnownHeads>
+    ensures { IfSome result (λ h. plain_known_heads h ≡ plain_known_heads heads.now ++ uid ∷ []) }
+{
+    if heads.count == u64::MAX {
+        return None;
+    }
+    if !goes_on(heads, uid) {
+        return None;
+    }
+    Some(KnownHeads {
+        first: heads.first,
+        count: heads.count + 1,
+    })
+}
+
+// Tells whether the heads go on with the uid.
+fn goes_on(heads: &KnownHeads, uid: Option<u64>) -> bool
+    ensures { result ≡ true → uids_of heads.now.first (heads.now.count + 1) ≡ plain_known_heads heads.now ++ uid ∷ [] }
+{
+    match heads.first {
+        None => match uid {
+            None => true,
+            Some(_uid) => false,
+        },
+        Some(first) => match uid {
+            None => false,
+            Some(next) => is_next(first, heads.count, next),
+        },
+    }
+}
+
+// Tells whether the number is the one behind so many from the first on.
+fn is_next(first: u64, count: u64, next: u64) -> bool
+    ensures { result ≡ true → first + count ≡ next }
+{
+    if next < first {
+        return false;
+    }
+    next - first == count
+}
+
+// Adds the uid to the heads: to the last ones, where they go on with it.
+fn add_uid(all: &mut Vec<KnownHeads>, uid: Option<u64>) -> Result<(), NoMemory>
+    ensures { OnOk result (flat_map plain_known_heads all.new.items
+        ≡ flat_map plain_known_heads all.old.items ++ uid ∷ []) }
+{
+    let one = KnownHeads {
+        first: uid,
+        count: 1,
+    };
+    match all.pop() {
+        None => {
+            all.push(one)?;
+            Ok(())
+        }
+        Some(last) => match longer(&last, uid) {
+            Some(heads) => {
+                all.push(heads)?;
+                Ok(())
+            }
+            None => {
+                all.push(last)?;
+                all.push(one)?;
+                Ok(())
+            }
+        },
+    }
+}
+
+// The heads by the uids of their patterns.
+fn known_heads<'a, T: Copy>(
     alloc: Global,
     heads: &[Option<&'a DePat<'a, T>>],
-) -> Result<Vec<Option<u64>>, NoMemory>
-    ensures { IfOk result (λ v. v.items ≡ map head_uid (plain_heads heads.now)) }
+) -> Result<Vec<KnownHeads>, NoMemory>
+    ensures { IfOk result (λ v. flat_map plain_known_heads v.items ≡ map head_uid (plain_heads heads.now)) }
 {
-    let mut uids = Vec::with_capacity(alloc, heads.len())?;
+    let mut all = Vec::new(alloc);
     for head in heads {
-        uids.push(head_uid(head))?;
+        add_uid(&mut all, head_uid(head))?;
     }
-    Ok(uids)
+    Ok(all)
 }
 
 // What tells the name.
@@ -68,7 +140,7 @@ fn known_names<'a>(alloc: Global, caught: &[Caught<'a>]) -> Result<Vec<KnownName
 fn known_row<'a, T: Copy>(alloc: Global, row: &KeyedRow<'a, T>) -> Result<KnownRow<'a>, NoMemory>
     ensures { IfOk result (λ k. plain_known_row k ≡ known_row (plain_row row.now)) }
 {
-    let heads = head_uids(alloc, &row.heads)?;
+    let heads = known_heads(alloc, &row.heads)?;
     let chosen = copied(alloc, row.chosen.as_slice())?;
     let caught = known_names(alloc, &row.caught)?;
     Ok(KnownRow {

@@ -1,19 +1,20 @@
-use Rattle.std.proofs.Common.{◌≡◌, ◌<◌, ◌∙◌, ◌∷◌, ◌++◌, suc, List, [], reverse, subst, refl, sym, ap, map, length, arith}
+use Rattle.std.proofs.Common.{◌≡◌, ◌<◌, ◌∙◌, ◌∷◌, ◌++◌, suc, [], reverse, subst, refl, sym, ap, map, length, arith}
 use Rattle.std.specs.Global.{Vec}
 use Rattle.std.specs.List.{All}
 use Rattle.std.proofs.lemmas.List.{length-map}
 use Rattle.indexmap.proofs.ReorderLemmas.{map-reverse}
-use Rattle.match_model.specs.Steps.{specialise_head}
+use Rattle.match_model.specs.Steps.{specialise_head, rows_at}
 use Rattle.pat_context.specs.Places.{steps_of}
 use Rattle.pat_context.specs.Views.{plain_ctor, plain_place}
 use Rattle.constructor_sets.specs.Columns.{plain_ctors}
-use Rattle.constructor_sets.specs.declared.piece.Span.{Span}
+use Rattle.constructor_sets.specs.Spans.{plain_span}
 use Rattle.pattern_matrix.specs.Halving.{leaves_with}
-use Rattle.pattern_matrix.specs.Parts.{plain_spans, IsFull, pieces_left}
+use Rattle.pattern_matrix.specs.Parts.{plain_spans, pieces_left}
 use Rattle.pattern_matrix.specs.declared.halving.Part.{Part}
 use Rattle.pattern_matrix.specs.Sparse.{columns_from}
 use Rattle.keyed_matrix.specs.Deciding.{table_decides}
-use Rattle.keyed_matrix.specs.Views.{plain_row}
+use Rattle.keyed_matrix.specs.Steps.{AreLonger}
+use Rattle.keyed_matrix.specs.Views.{plain_row, plain_rows}
 use Rattle.tree_eval.specs.Nodes.{plain_branch}
 use Rattle.tree_eval.specs.Tables.{AreBelow, FinishesSwitch}
 use Rattle.tree_eval.specs.Trees.{table_trees}
@@ -21,11 +22,14 @@ use Rattle.decision_tree.specs.declared.frames.Frame.TheVariants.{Switch}
 use Rattle.decision_tree.specs.declared.frames.Looked.{Looked}
 use Rattle.decision_tree.specs.Matrices.{matrix_columns, matrix_rows}
 use Rattle.decision_tree.specs.Cuts.{listed_at, AreCut}
+use Rattle.decision_tree.specs.Cutting.{IsCutPart, AreLed}
+use Rattle.decision_tree.specs.Fronts.{IsFront}
 use Rattle.decision_tree.specs.Waiting.{Awaits, IsCutOf}
-use Rattle.decision_tree.proofs.Cuts.{next-number, next-rows, next-within, cut-next}
+use Rattle.decision_tree.proofs.Cuts.{next-number, next-spans, next-front, led-within, cut-next}
 use Rattle.decision_tree.proofs.Knowing.{entered-scope, switch-keeps}
-use Rattle.decision_tree.proofs.Going.{switch-done, piece-begun}
-use Rattle.decision_tree.proofs.Looking.{read, entered-at}
+use Rattle.decision_tree.proofs.Fronts.{front-leads}
+use Rattle.decision_tree.proofs.Going.{leads-more, switch-done, piece-begun}
+use Rattle.decision_tree.proofs.Looking.{read, longer, entered-at}
 use Rattle.decision_tree.proofs.Turning.{last-first, map-snoc, left-last, left-none, left-within, left-below, piece-there}
 use Rattle.decision_tree.proofs.lowering.next_case.Goals as goal
 
@@ -45,12 +49,37 @@ entered_among-requires-clause-piece g c =
     piece-there IsType context V decides g.root frames now l.matrix l.column (plain_ctors new) (plain_ctor piece) cases
     (left-last IsType context V decides g.root frames now l.matrix l.column l.pieces.items new piece cases c.in-Some.ensures.items c.requires.1.1.0)
 
-pub next_rows-requires : goal.next_rows-requires
-next_rows-requires g c =
+pub next_cut-requires-clause-longer : goal.next_cut-requires-clause-longer
+next_cut-requires-clause-longer g c =
+    let cx = c.args.cx.now in
+    let l = c.args.looked in
+    let k = c.requires.1.1.0.5 in
+    subst (λ rs. AreLonger l.column (plain_rows rs)) (sym c.deref.ensures.value)
+    (longer (g.C.PatCx.is_type cx) (g.C.PatCx.context cx) (g.C.PatCx.is_value cx) (g.met.C.PatCx.values cx)
+    (table_decides c.args.decisions.now) l.column l.matrix k.column k.ready k.there)
+
+pub next_cut-requires-clause-spans : goal.next_cut-requires-clause-spans
+next_cut-requires-clause-spans g c =
+    let l = c.args.looked in
+    let new = c.pop.new.self.items in
+    let p = plain_ctor c.in-Some.piece in
+    let cut : AreCut l.column (matrix_rows l.matrix) (plain_ctors new ++ p ∷ []) l.spans.items l.todo.items =
+    subst (λ ks. AreCut l.column (matrix_rows l.matrix) ks l.spans.items l.todo.items)
+    (map-snoc plain_ctor new l.pieces.items c.in-Some.piece c.in-Some.ensures.items) c.requires.1.1.1 in
+    let many : length l.spans.items ≡ length l.matrix.rows.items =
+    sym (length-map l.spans.items plain_span)
+    ∙ next-spans l.column (matrix_rows l.matrix) (plain_ctors new) p l.spans.items l.todo.items cut
+    ∙ length-map l.matrix.rows.items plain_row in
+    ap length c.deref-in-Some.ensures.value ∙ many ∙ ap length (sym c.deref.ensures.value)
+
+pub next_cut-requires-clause-parts : goal.next_cut-requires-clause-parts
+next_cut-requires-clause-parts g c =
     let l = c.args.looked in
     let was : c.replace-todo.result.items ≡ l.todo.items = ap (λ (v : Vec Part). v.items) c.replace-todo.ensures.value in
-    subst (λ ss. All (IsFull ss) c.replace-todo.result.items) (sym c.deref.ensures.value)
-    (subst (All (IsFull l.spans.items)) (sym was) c.requires.1.1.1.full)
+    subst (λ ss. All (IsCutPart l.column (plain_rows c.deref.result.now) ss) c.replace-todo.result.items)
+    (sym c.deref-in-Some.ensures.value)
+    (subst (λ rs. All (IsCutPart l.column (plain_rows rs) l.spans.items) c.replace-todo.result.items) (sym c.deref.ensures.value)
+    (subst (All (IsCutPart l.column (matrix_rows l.matrix) l.spans.items)) (sym was) c.requires.1.1.1.parts))
 
 pub entered_among-requires-clause-numbers : goal.entered_among-requires-clause-numbers
 entered_among-requires-clause-numbers g c =
@@ -66,19 +95,21 @@ entered_among-requires-clause-numbers g c =
     let todo = l.todo.items in
     let ks = plain_ctors new in
     let p = plain_ctor piece in
+    let numbers = c.in_ok-numbers-in-Some.numbers.items in
     let was : c.replace-todo.result.items ≡ todo = ap (λ (v : Vec Part). v.items) c.replace-todo.ensures.value in
-    let same : c.deref-in-Some.result.now ≡ leaves_with (plain_spans spans) (length cut.gone) =
-    c.deref-in-Some.ensures.value
-    ∙ c.in_ok-numbers-in-Some.ensures.rows (length cut.gone) (columns_from (suc (length cut.gone)) (length ks))
-    (ap pieces_left was ∙ next-number i rows ks p spans todo cut)
-    ∙ ap (λ (ss : List Span). leaves_with (plain_spans ss) (length cut.gone)) c.deref.ensures.value in
+    let led : AreLed i rows numbers (leaves_with (plain_spans spans) (length cut.gone)) =
+    subst (λ ss. AreLed i rows numbers (leaves_with (plain_spans ss) (length cut.gone))) c.deref-in-Some.ensures.value
+    (subst (λ rs. AreLed i (plain_rows rs) numbers (leaves_with (plain_spans c.deref-in-Some.result.now) (length cut.gone)))
+    c.deref.ensures.value
+    (c.in_ok-numbers-in-Some.ensures.rows (length cut.gone) (columns_from (suc (length cut.gone)) (length ks))
+    (ap pieces_left was ∙ next-number i rows ks p spans todo cut))) in
     let long : length rows ≡ length l.matrix.rows.items = length-map l.matrix.rows.items plain_row in
-    subst (All (λ k. k < length l.matrix.rows.items)) (sym same)
-    (subst (λ n. All (λ k. k < n) (leaves_with (plain_spans spans) (length cut.gone))) long
-    (next-within i rows ks p spans todo cut))
+    subst (All (λ k. k < length l.matrix.rows.items)) (sym c.deref-in-Some-2.ensures.value)
+    (subst (λ n. All (λ k. k < n) numbers) long (led-within i rows ks p spans todo cut numbers led))
 
 pub entered_among-requires-clause-whole : goal.entered_among-requires-clause-whole
 entered_among-requires-clause-whole g c = λ n place.
+    let cx = c.args.cx.now in
     let l = c.args.looked in
     let new = c.pop.new.self.items in
     let piece = c.in-Some.piece in
@@ -91,13 +122,19 @@ entered_among-requires-clause-whole g c = λ n place.
     let todo = l.todo.items in
     let ks = plain_ctors new in
     let p = plain_ctor piece in
+    let k = c.requires.1.1.0.5 in
+    let numbers = c.in_ok-numbers-in-Some.numbers.items in
     let was : c.replace-todo.result.items ≡ todo = ap (λ (v : Vec Part). v.items) c.replace-todo.ensures.value in
-    let same : c.deref-in-Some.result.now ≡ leaves_with (plain_spans spans) (length cut.gone) =
-    c.deref-in-Some.ensures.value
-    ∙ c.in_ok-numbers-in-Some.ensures.rows (length cut.gone) (columns_from (suc (length cut.gone)) (length ks))
-    (ap pieces_left was ∙ next-number i rows ks p spans todo cut)
-    ∙ ap (λ (ss : List Span). leaves_with (plain_spans ss) (length cut.gone)) c.deref.ensures.value in
-    ap (listed_at (specialise_head p n) place i rows) same ∙ next-rows i rows ks p spans todo cut n place
+    let led : AreLed i rows numbers (leaves_with (plain_spans spans) (length cut.gone)) =
+    subst (λ ss. AreLed i rows numbers (leaves_with (plain_spans ss) (length cut.gone))) c.deref-in-Some.ensures.value
+    (subst (λ rs. AreLed i (plain_rows rs) numbers (leaves_with (plain_spans c.deref-in-Some.result.now) (length cut.gone)))
+    c.deref.ensures.value
+    (c.in_ok-numbers-in-Some.ensures.rows (length cut.gone) (columns_from (suc (length cut.gone)) (length ks))
+    (ap pieces_left was ∙ next-number i rows ks p spans todo cut))) in
+    let long : AreLonger i rows = longer (g.C.PatCx.is_type cx) (g.C.PatCx.context cx) (g.C.PatCx.is_value cx)
+    (g.met.C.PatCx.values cx) (table_decides c.args.decisions.now) i l.matrix k.column k.ready k.there in
+    subst (λ xs. IsFront (listed_at (specialise_head p n) place i rows xs) (rows_at (specialise_head p n) place i rows))
+    (sym c.deref-in-Some-2.ensures.value) (next-front i rows ks p spans todo cut long numbers led n place)
 
 pub returns-in-Some-clause-turn : goal.returns-in-Some-clause-turn
 returns-in-Some-clause-turn g c =
@@ -114,25 +151,32 @@ returns-in-Some-clause-turn g c =
     let next = c.in_ok-next-in-Some.next in
     let case = c.in_ok-case-in-Some.case in
     let cases = map plain_branch old.cases.items in
-    let l : Looked g.row.C-Ty.Denot = record { matrix = old.matrix; column = old.column; pieces = c.pop.new.self; spans = old.spans; todo = c.next_rows.new.todo; cases = old.cases } in
+    let l : Looked g.row.C-Ty.Denot = record { matrix = old.matrix; column = old.column; pieces = c.pop.new.self; spans = old.spans; todo = c.next_cut.new.todo; cases = old.cases } in
     let cut : AreCut old.column (matrix_rows old.matrix) (plain_ctors c.pop.new.self.items ++ p ∷ []) old.spans.items old.todo.items =
     subst (λ ks. AreCut old.column (matrix_rows old.matrix) ks old.spans.items old.todo.items)
     (map-snoc plain_ctor c.pop.new.self.items old.pieces.items piece c.in-Some.ensures.items) c.requires.1.1.1 in
     let was : c.replace-todo.result.items ≡ old.todo.items = ap (λ (v : Vec Part). v.items) c.replace-todo.ensures.value in
     let left : IsCutOf l = cut-next old.column (matrix_rows old.matrix) (plain_ctors c.pop.new.self.items) p old.spans.items
-    old.todo.items cut c.next_rows.new.todo.items
+    old.todo.items cut c.next_cut.new.todo.items
     (c.in_ok-numbers-in-Some.ensures.left (length cut.gone)
     (columns_from (suc (length cut.gone)) (length (plain_ctors c.pop.new.self.items)))
     (ap pieces_left was
     ∙ next-number old.column (matrix_rows old.matrix) (plain_ctors c.pop.new.self.items) p old.spans.items old.todo.items cut))
-    (subst (λ ss. All (IsFull ss) c.next_rows.new.todo.items) c.deref.ensures.value c.in_ok-numbers-in-Some.ensures.full) in (
+    (subst (λ ss. All (IsCutPart old.column (matrix_rows old.matrix) ss) c.next_cut.new.todo.items) c.deref-in-Some.ensures.value
+    (subst (λ rs. All (IsCutPart old.column (plain_rows rs) c.deref-in-Some.result.now) c.next_cut.new.todo.items) c.deref.ensures.value
+    c.in_ok-numbers-in-Some.ensures.parts)) in (
       c.in_ok-next-in-Some.ensures.good,
       subst (λ fs. Awaits IsType context V decides g.root fs now (matrix_columns next) (matrix_rows next))
           (sym (last-first c.args.frames.now.items c.push.new.self.items (Switch l case) c.in_ok-push-in-Some.ensures.items))
-          (piece-begun IsType context V decides g.root frames now l case (plain_ctors c.pop.new.self.items) p (matrix_columns next) (matrix_rows next)
+          (leads-more IsType context V decides g.root (Switch l case ∷ frames) now (matrix_columns next) (matrix_columns next)
+          (matrix_rows next) c.in_ok-next-in-Some.ensures.entered.whole
+          (front-leads IsType context V decides g.root (matrix_columns next) (matrix_rows next)
+          c.in_ok-next-in-Some.ensures.entered.whole c.in_ok-next-in-Some.ensures.entered.front)
+          (piece-begun IsType context V decides g.root frames now l case (plain_ctors c.pop.new.self.items) p (matrix_columns next)
+          c.in_ok-next-in-Some.ensures.entered.whole
           (left-last IsType context V decides g.root frames now old.matrix old.column old.pieces.items c.pop.new.self.items piece cases
           c.in-Some.ensures.items c.requires.1.1.0) refl c.in_ok-case-in-Some.ensures
-          (λ d there. entered-at context decides old.column old.matrix next d there p c.in_ok-next-in-Some.ensures.entered) left),
+          (λ d there. entered-at context decides old.column old.matrix next d there p c.in_ok-next-in-Some.ensures.entered) left)),
       entered-scope IsType context V decides g.root (g.met.C.PatCx.parts cx) (g.met.C.PatCx.values cx) old.column old.matrix
           next p c.requires.1.1.0.5.scope c.requires.1.1.0.5.ready
           (piece-there IsType context V decides g.root frames now old.matrix old.column (plain_ctors c.pop.new.self.items) p cases

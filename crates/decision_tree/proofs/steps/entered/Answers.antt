@@ -1,4 +1,4 @@
-use Rattle.std.proofs.Common.{◌∙◌, sym, ap, subst, arith}
+use Rattle.std.proofs.Common.{◌∙◌, inl, sym, ap, subst, arith}
 use Rattle.std.proofs.lemmas.List.{length-map}
 use Rattle.match_model.specs.Steps.{specialise_head, rows_at}
 use Rattle.pat_context.specs.Views.{plain_ctor}
@@ -25,11 +25,11 @@ over_parts-requires-clause-rows g c =
     record {
       column = plain_column c.index-column.result.now;
       there = there;
-      are = c.in_ok-rows.ensures
+      are = inl (c.in_ok-rows.ensures
           ∙ ap (λ rs. rows_at (specialise_head (plain_ctor c.args.piece.now) c.count_parts-count.result)
           (plain_column c.index-column.result.now).place c.args.i (plain_rows rs)) c.deref.ensures.value
           ∙ ap (λ n. rows_at (specialise_head (plain_ctor c.args.piece.now) n) (plain_column c.index-column.result.now).place c.args.i
-          (matrix_rows c.args.m.now)) c.count_parts-count.ensures.value;
+          (matrix_rows c.args.m.now)) c.count_parts-count.ensures.value);
     }
 
 pub count_parts-count-requires-clause-belongs : goal.count_parts-count-requires-clause-belongs

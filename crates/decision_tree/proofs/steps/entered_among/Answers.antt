@@ -7,6 +7,7 @@ use Rattle.keyed_matrix.specs.Deciding.{table_decides}
 use Rattle.keyed_matrix.specs.Steps.{AreLonger}
 use Rattle.keyed_matrix.specs.Views.{plain_column, plain_rows}
 use Rattle.decision_tree.specs.Cuts.{listed_at}
+use Rattle.decision_tree.specs.Fronts.{IsFront}
 use Rattle.decision_tree.specs.Matrices.{matrix_columns, matrix_rows}
 use Rattle.decision_tree.proofs.Reading.{read-map}
 use Rattle.decision_tree.proofs.Stepping.{longer-good, piece-here, piece-belongs, piece-held}
@@ -31,12 +32,14 @@ over_parts-requires-clause-rows g c =
     record {
       column = plain_column c.index-column.result.now;
       there = there;
-      are = c.in_ok-rows.ensures
+      are = subst (λ n. IsFront (plain_rows c.in_ok-rows.rows.items) (rows_at (specialise_head (plain_ctor c.args.piece.now) n)
+          (plain_column c.index-column.result.now).place c.args.i (matrix_rows c.args.m.now))) c.count_parts-count.ensures.value
+          (subst (λ xs. IsFront xs (rows_at (specialise_head (plain_ctor c.args.piece.now) c.count_parts-count.result)
+          (plain_column c.index-column.result.now).place c.args.i (matrix_rows c.args.m.now)))
+          (sym (c.in_ok-rows.ensures
           ∙ ap (λ rs. listed_at (specialise_head (plain_ctor c.args.piece.now) c.count_parts-count.result)
-          (plain_column c.index-column.result.now).place c.args.i (plain_rows rs) c.args.numbers.now) c.deref.ensures.value
-          ∙ c.requires.whole c.count_parts-count.result (plain_column c.index-column.result.now).place
-          ∙ ap (λ n. rows_at (specialise_head (plain_ctor c.args.piece.now) n) (plain_column c.index-column.result.now).place c.args.i
-          (matrix_rows c.args.m.now)) c.count_parts-count.ensures.value;
+          (plain_column c.index-column.result.now).place c.args.i (plain_rows rs) c.args.numbers.now) c.deref.ensures.value))
+          (c.requires.whole c.count_parts-count.result (plain_column c.index-column.result.now).place));
     }
 
 pub count_parts-count-requires-clause-belongs : goal.count_parts-count-requires-clause-belongs

@@ -1,12 +1,13 @@
-use Rattle.std.proofs.Common.{◌≡◌, ◌∙◌, sym, ap, subst}
+use Rattle.std.proofs.Common.{◌∙◌, sym, ap, subst}
 use Rattle.match_model.specs.Matrices.{part_columns}
-use Rattle.match_model.specs.RowOrder.{AreInOrder}
 use Rattle.match_model.specs.Steps.{specialise_head, rows_at, replaced_at}
 use Rattle.pat_context.specs.Views.{plain_ctor}
+use Rattle.keyed_rows.specs.Parting.{RowParted}
 use Rattle.keyed_steps.specs.Good.{IsGood}
 use Rattle.keyed_matrix.specs.Deciding.{table_decides}
 use Rattle.keyed_matrix.specs.Views.{plain_column, plain_columns, plain_rows}
 use Rattle.decision_tree.specs.Matrices.{matrix_columns, matrix_rows}
+use Rattle.decision_tree.proofs.Fronts.{front-good, front-ordered}
 use Rattle.decision_tree.proofs.Reading.{read-map}
 use Rattle.decision_tree.proofs.Stepping.{piece-here, piece-rows, piece-type, piece-belongs, piece-held, entered-good, entered-parted}
 use Rattle.decision_tree.proofs.StillInOrder.{entered-in-order}
@@ -16,10 +17,6 @@ pub returns-clause-entered : goal.returns-clause-entered
 returns-clause-entered g c =
     let there = read-map plain_column c.args.m.now.columns.items c.args.i c.index-column.result.now c.requires.within
     c.index-column.ensures in
-    let rows : plain_rows c.args.rows.items ≡ rows_at (specialise_head (plain_ctor c.args.piece.now) ((g.C.PatCx.context c.args.cx.now).arity (plain_ctor c.args.piece.now) c.index-column.result.now.ty))
-    (plain_column c.index-column.result.now).place c.args.i (matrix_rows c.args.m.now) =
-    piece-rows (g.C.PatCx.context c.args.cx.now) c.args.i c.args.m.now (plain_ctor c.args.piece.now)
-    (plain_column c.index-column.result.now) (plain_rows c.args.rows.items) c.requires.rows there in
     let columns = c.in_ok-columns.ensures
     ∙ ap (λ cs. replaced_at c.args.i (plain_columns cs) (part_columns (g.C.PatCx.context c.args.cx.now)
     (plain_column c.index-column.result.now) (plain_ctor c.args.piece.now))) c.deref.ensures.value in
@@ -27,46 +24,47 @@ returns-clause-entered g c =
       column = plain_column c.index-column.result.now;
       there = there;
       columns = columns;
-      rows = subst (AreInOrder (table_decides c.args.decisions.now) (rows_at (specialise_head (plain_ctor c.args.piece.now)
+      whole = rows_at (specialise_head (plain_ctor c.args.piece.now)
           ((g.C.PatCx.context c.args.cx.now).arity (plain_ctor c.args.piece.now) c.index-column.result.now.ty))
-          (plain_column c.index-column.result.now).place c.args.i (matrix_rows c.args.m.now))) (sym rows)
-          (entered-in-order (table_decides c.args.decisions.now) (plain_ctor c.args.piece.now)
+          (plain_column c.index-column.result.now).place c.args.i (matrix_rows c.args.m.now);
+      rows = entered-in-order (table_decides c.args.decisions.now) (plain_ctor c.args.piece.now)
           ((g.C.PatCx.context c.args.cx.now).arity (plain_ctor c.args.piece.now) c.index-column.result.now.ty)
-          (plain_column c.index-column.result.now).place c.args.i (matrix_rows c.args.m.now) c.requires.ready.parted);
+          (plain_column c.index-column.result.now).place c.args.i (matrix_rows c.args.m.now) c.requires.ready.parted;
+      front = piece-rows (g.C.PatCx.context c.args.cx.now) c.args.i c.args.m.now (plain_ctor c.args.piece.now)
+          (plain_column c.index-column.result.now) (plain_rows c.args.rows.items) c.requires.rows there;
     }
 
 pub returns-clause-good : goal.returns-clause-good
 returns-clause-good g c =
+    let context = g.C.PatCx.context c.args.cx.now in
+    let decides = table_decides c.args.decisions.now in
+    let p = plain_ctor c.args.piece.now in
+    let column = plain_column c.index-column.result.now in
     let there = read-map plain_column c.args.m.now.columns.items c.args.i c.index-column.result.now c.requires.within
     c.index-column.ensures in
-    let here = piece-here (g.C.PatCx.context c.args.cx.now) c.args.i c.args.m.now (plain_ctor c.args.piece.now)
-    (plain_column c.index-column.result.now) c.requires.piece there in
-    let rows : plain_rows c.args.rows.items ≡ rows_at (specialise_head (plain_ctor c.args.piece.now) ((g.C.PatCx.context c.args.cx.now).arity (plain_ctor c.args.piece.now) c.index-column.result.now.ty))
-    (plain_column c.index-column.result.now).place c.args.i (matrix_rows c.args.m.now) =
-    piece-rows (g.C.PatCx.context c.args.cx.now) c.args.i c.args.m.now (plain_ctor c.args.piece.now)
-    (plain_column c.index-column.result.now) (plain_rows c.args.rows.items) c.requires.rows there in
+    let here = piece-here context c.args.i c.args.m.now p column c.requires.piece there in
+    let rows = plain_rows c.args.rows.items in
+    let whole = rows_at (specialise_head p (context.arity p column.type)) column.place c.args.i (matrix_rows c.args.m.now) in
+    let front = piece-rows context c.args.i c.args.m.now p column rows c.requires.rows there in
     let columns = c.in_ok-columns.ensures
-    ∙ ap (λ cs. replaced_at c.args.i (plain_columns cs) (part_columns (g.C.PatCx.context c.args.cx.now)
-    (plain_column c.index-column.result.now) (plain_ctor c.args.piece.now))) c.deref.ensures.value in
-    let order = subst (AreInOrder (table_decides c.args.decisions.now) (rows_at (specialise_head (plain_ctor c.args.piece.now)
-    ((g.C.PatCx.context c.args.cx.now).arity (plain_ctor c.args.piece.now) c.index-column.result.now.ty))
-    (plain_column c.index-column.result.now).place c.args.i (matrix_rows c.args.m.now))) (sym rows)
-    (entered-in-order (table_decides c.args.decisions.now) (plain_ctor c.args.piece.now)
-    ((g.C.PatCx.context c.args.cx.now).arity (plain_ctor c.args.piece.now) c.index-column.result.now.ty)
-    (plain_column c.index-column.result.now).place c.args.i (matrix_rows c.args.m.now) c.requires.ready.parted) in
+    ∙ ap (λ cs. replaced_at c.args.i (plain_columns cs) (part_columns context column p)) c.deref.ensures.value in
+    let order = entered-in-order decides p (context.arity p column.type) column.place c.args.i (matrix_rows c.args.m.now)
+    c.requires.ready.parted in
     record {
       good =
-          subst (λ cs. IsGood (g.C.PatCx.is_type c.args.cx.now) (g.C.PatCx.context c.args.cx.now) (table_decides c.args.decisions.now) cs
-          (plain_rows c.args.rows.items)) (sym columns)
-          (entered-good (g.C.PatCx.is_type c.args.cx.now) (g.C.PatCx.context c.args.cx.now)
-          (table_decides c.args.decisions.now) (g.C.PatCx.is_value c.args.cx.now) (g.met.C.PatCx.parts c.args.cx.now)
-          (g.met.C.PatCx.values c.args.cx.now) c.args.i (plain_column c.index-column.result.now) (matrix_columns c.args.m.now) (matrix_rows c.args.m.now) there
-          c.requires.ready.parted c.requires.ready.ready here.0 (plain_ctor c.args.piece.now) here.1 here.2 (plain_rows c.args.rows.items) order);
+          subst (λ cs. IsGood (g.C.PatCx.is_type c.args.cx.now) context decides cs rows) (sym columns)
+          (front-good context (g.C.PatCx.is_type c.args.cx.now) decides
+          (replaced_at c.args.i (matrix_columns c.args.m.now) (part_columns context column p)) rows whole front
+          (entered-good (g.C.PatCx.is_type c.args.cx.now) context decides (g.C.PatCx.is_value c.args.cx.now)
+          (g.met.C.PatCx.parts c.args.cx.now) (g.met.C.PatCx.values c.args.cx.now) c.args.i column
+          (matrix_columns c.args.m.now) (matrix_rows c.args.m.now) there c.requires.ready.parted c.requires.ready.ready
+          here.0 p here.1 here.2 whole order));
       parted =
-          entered-parted (g.C.PatCx.is_type c.args.cx.now) (g.C.PatCx.context c.args.cx.now)
-          (table_decides c.args.decisions.now) (g.C.PatCx.is_value c.args.cx.now) (g.met.C.PatCx.parts c.args.cx.now)
-          (g.met.C.PatCx.values c.args.cx.now) c.args.i (plain_column c.index-column.result.now) (matrix_columns c.args.m.now) (matrix_rows c.args.m.now) there
-          c.requires.ready.parted c.requires.ready.ready here.0 (plain_ctor c.args.piece.now) here.1 here.2 (plain_rows c.args.rows.items) order;
+          front-ordered (RowParted decides) rows whole front
+          (entered-parted (g.C.PatCx.is_type c.args.cx.now) context decides (g.C.PatCx.is_value c.args.cx.now)
+          (g.met.C.PatCx.parts c.args.cx.now) (g.met.C.PatCx.values c.args.cx.now) c.args.i column
+          (matrix_columns c.args.m.now) (matrix_rows c.args.m.now) there c.requires.ready.parted c.requires.ready.ready
+          here.0 p here.1 here.2 whole order);
     }
 
 pub piece_columns-requires-clause-ty : goal.piece_columns-requires-clause-ty

@@ -1,0 +1,72 @@
+-- Rows of a column of which some pieces have the first alone, since it is taken there (our own choice).
+use Rattle.std.specs.Prelude.{◌≡◌, ◌⊎◌, ◌≤◌, ◌<◌, ◌+◌, ℕ, zero, suc, Bool, true, not, ◌&&◌, List, [], ◌∷◌, map, take, drop, length, Some, None, slice_get}
+use Rattle.std.specs.List.{All, list_all}
+use Rattle.match_model.specs.ArenaPatterns.{de_pat, de_pats_list}
+use Rattle.match_model.specs.Matrices.{MRow}
+use Rattle.match_model.specs.Rows.{Head, is_wild}
+use Rattle.constructor_sets.specs.declared.piece.Span.{Span}
+use Rattle.pattern_matrix.specs.Halving.{having, leaves_with}
+use Rattle.pattern_matrix.specs.Parts.{plain_spans}
+use Rattle.pattern_matrix.specs.declared.halving.Part.{Part}
+
+-- the head in the column, a wildcard where there is none
+abbrev pub head_there : {T : Type 0} → (i : ℕ) → List (Head T) → Head T
+head_there i [] = None
+head_there zero (h ∷ hs) = h
+head_there (suc i) (h ∷ hs) = head_there i hs
+
+-- the patterns below the head are wildcards and names
+abbrev pub is_flat : {T : Type 0} → Head T → Bool
+is_flat None = true
+is_flat (Some (de_pat c t uid at subs binds)) = list_all is_wild (map Some (de_pats_list subs))
+
+-- whatever piece of the column is entered that the row has, the row is taken: it has no guard, and only wildcards and names
+-- in the other columns and below its head in this one
+abbrev pub takes_pieces : {T : Type 0} → (i : ℕ) → MRow T → Bool
+takes_pieces i r =
+    not r.guarded && (is_flat (head_there i r.heads) && (list_all is_wild (take i r.heads) && list_all is_wild (drop (i + 1) r.heads)))
+
+-- the row with the number is such a row
+pub record TakesPieces {T : Type 0} (i : ℕ) (rows : List (MRow T)) (number : ℕ) : Type 0 where
+  pub row : MRow T
+  pub got : slice_get rows number ≡ Some row
+  pub takes : takes_pieces i row ≡ true
+
+-- both lists begin with the number of such a row
+pub record BeginAlike {T : Type 0} (i : ℕ) (rows : List (MRow T)) (some all : List ℕ) : Type 0 where
+  pub first : ℕ
+  pub takes : TakesPieces i rows first
+  pub behind : List ℕ
+  pub others : List ℕ
+  pub some_are : some ≡ first ∷ behind
+  pub all_are : all ≡ first ∷ others
+
+-- these numbers are all of those, or begin as they do, with the number of a row that takes its pieces
+abbrev pub AreEnough : {T : Type 0} → (i : ℕ) → List (MRow T) → (some all : List ℕ) → Type 0
+AreEnough i rows some all = (some ≡ all) ⊎ BeginAlike i rows some all
+
+-- a range of pieces, and numbers of rows that are enough for each of them
+pub record IsCutPart {T : Type 0} (i : ℕ) (rows : List (MRow T)) (spans : List Span) (p : Part) : Type 0 where
+  pub some : p.first < p.end
+  pub within : All (λ k. k < length spans) p.leaves.items
+  pub enough : (j : ℕ) → p.first ≤ j → j < p.end →
+      AreEnough i rows (having (plain_spans spans) j p.leaves.items) (leaves_with (plain_spans spans) j)
+
+-- what is kept of the numbers of a part is enough for each of its pieces
+pub record IsCutTo {T : Type 0} (i : ℕ) (rows : List (MRow T)) (spans : List Span) (first end : ℕ) (numbers kept : List ℕ) :
+    Type 0 where
+  pub within : All (λ k. k < length spans) kept
+  pub enough : (j : ℕ) → first ≤ j → j < end →
+      AreEnough i rows (having (plain_spans spans) j kept) (having (plain_spans spans) j numbers)
+
+-- of these numbers the first stands alone, that of a row that takes its pieces
+pub record IsFirstAlone {T : Type 0} (i : ℕ) (rows : List (MRow T)) (some all : List ℕ) : Type 0 where
+  pub first : ℕ
+  pub takes : TakesPieces i rows first
+  pub others : List ℕ
+  pub alone : some ≡ first ∷ []
+  pub all_are : all ≡ first ∷ others
+
+-- these numbers are all of those, or the first of them alone, that of a row that takes its pieces
+abbrev pub AreLed : {T : Type 0} → (i : ℕ) → List (MRow T) → (some all : List ℕ) → Type 0
+AreLed i rows some all = (some ≡ all) ⊎ IsFirstAlone i rows some all
