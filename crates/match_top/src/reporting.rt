@@ -166,7 +166,7 @@ fn add_refused(
 }
 
 // Adds a function that breaks no rule, with what is found of it, and its tree where the command asks for it. Its match goes
-// with its arena before the next function.
+// with its arena before anything is written of it.
 fn add_judged<'f>(
     alloc: Global,
     command: Command,
@@ -188,7 +188,9 @@ fn add_judged<'f>(
         tree: tree_of(alloc, command, source, &arena, &m)?,
     };
     let overlaps = overlaps_on(alloc, source, &m)?;
-    add_found(alloc, source, so_far, f, m.ty, &found, overlaps)
+    let ty = m.ty;
+    drop(arena);
+    add_found(alloc, source, so_far, f, ty, &found, overlaps)
 }
 
 // Adds a function with what is found of it and its overlapping ranges, over a scrutinee of this type.
