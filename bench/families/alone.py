@@ -9,8 +9,9 @@ ENGINE is the program that run.py takes. PROGRAM reads a match in the form of te
 processor time of judging a match k + 1 times less that of judging it once, by k. So neither program reads, elaborates or prints while
 the clock runs, and times from 50 microseconds on are judged.
 
-It is built as `rt try` builds, which proves nothing, but by a copy of the toolchain's folder whose compiler is called with -O2 and
-without AddressSanitizer, since the times of what `rt try` makes say little. The columns and goals are those of run.py.
+It is built as `rt try` builds, which proves nothing, but by a copy of the toolchain's folder whose compiler first takes out of the module what
+`rt try` put in (the tests that a proof makes needless, and the filling of places that are not written yet), and then compiles at -O3, as `rt run`
+compiles what is proved. The columns and goals are those of run.py.
 """
 import os
 import pathlib
@@ -34,8 +35,15 @@ CRATES = (
 READER = ("words", "types", "patterns")
 SHORTEST = 0.00005
 CLANG = """#!/usr/bin/env python3
-import os, sys
-words = ["-O2" if word == "-O0" else word for word in sys.argv[1:] if word != "-fsanitize=address"]
+import os, subprocess, sys
+sys.path.insert(0, "{bench}")
+from untested import untested
+words = ["-O3" if word == "-O0" else word for word in sys.argv[1:] if word != "-fsanitize=address"]
+if "module.bc" in words:
+    subprocess.run(["{tools}/clang", "-S", "-emit-llvm", "-O0", "-x", "ir", "module.bc", "-o", "tested.ll"], check=True)
+    with open("tested.ll") as tested, open("module.ll", "w") as module:
+        module.writelines(untested(tested))
+    words[words.index("module.bc")] = "module.ll"
 os.execv("{tools}/clang", ["clang"] + words)
 """
 LINKER = """#!/usr/bin/env python3
@@ -70,7 +78,7 @@ def optimising(folder, target):
     link_all(tools, folder / "toolchain" / "bin", ("clang", "ld.lld"))
     for name, text in (("clang", CLANG), ("ld.lld", LINKER)):
         path = folder / "toolchain" / "bin" / name
-        path.write_text(text.format(tools=tools, target=target))
+        path.write_text(text.format(tools=tools, target=target, bench=HERE.parent))
         path.chmod(0o755)
     return folder / "bin" / "rt"
 

@@ -1,15 +1,17 @@
 #!/usr/bin/env python3
 """Times `present` on columns of n, 2n and 4n heads of each kind, beside the same in plain Rust.
 
-    bench/pieces/run.py [RUNS] [--only WORD] [--least N]
+    bench/pieces/run.py [RUNS] [--only WORD] [--least N] [--plain RUNS] [--program PROGRAM]
 
 Writes a copy of the crates and the program of program/ (its files without their last `.txt`) into a temporary folder, proves and
 builds it with `rt run`, and plain.rs with `rustc -O`. Then both run in turn, RUNS times in all (5 if no number is given). For each
 column it prints the least processor time of `present`, half of how much longer twice as many heads take, and the time beside
 that of plain Rust; that the two tell the same of each column is checked. `--only WORD` takes the kinds whose name has the word, and
-`--least N` another n than 1,000,000.
+`--least N` another n than 1,000,000. `--plain RUNS` lets plain Rust run less often. PROGRAM is the proved program, where an earlier run
+with the same words has built it.
 """
 import argparse
+import os
 import pathlib
 import re
 import shutil
@@ -29,6 +31,8 @@ KINDS = (
 GROWTH = 1.2
 RATIO = 1.5
 LEAST = 1_000_000
+# Memory that is given back stays with the process, so that the time of a column has none of the system's for new pages.
+MEMORY = {"GLIBC_TUNABLES": "glibc.malloc.mmap_max=0:glibc.malloc.trim_threshold=%d" % 2**40}
 # The line of both programs that goes over the kinds, and the calls of the proved one that tell how many heads.
 LOOP = re.compile(r"for kind in 0\.\.\w+ \{")
 CALLS = re.compile(r"(kind, )(250_000|500_000|1_000_000)(\)\?;)")
@@ -62,10 +66,25 @@ def build(folder, kinds=range(len(KINDS)), heads=LEAST):
     return program
 
 
+def proved_program(folder):
+    """The program, proved and built if it is not yet."""
+    program = folder / "out" / "pieces_bench"
+    if not program.exists():
+        done = subprocess.run(["rt", "run"], cwd=folder, capture_output=True, text=True)
+        if done.returncode:
+            raise SystemExit(done.stdout + done.stderr)
+    return program
+
+
 def told(words):
-    """What was told of each column, and its time, by kind and count."""
+    """What was told of each column, and its time, by kind and count: what was told last, where a line comes again."""
     lines = [line.split() for line in words.splitlines()]
     return {(int(line[0]), int(line[1])): (line[2:-1], int(line[-1])) for line in lines}
+
+
+def printed(command):
+    """What a program prints."""
+    return subprocess.run(command, capture_output=True, text=True, check=True, env=os.environ | MEMORY).stdout
 
 
 def least(runs):
@@ -84,6 +103,8 @@ def main():
     words.add_argument("runs", nargs="?", type=int, default=5)
     words.add_argument("--only", default="", metavar="WORD")
     words.add_argument("--least", type=int, default=LEAST, metavar="N")
+    words.add_argument("--plain", type=int, metavar="RUNS")
+    words.add_argument("--program", type=pathlib.Path, metavar="PROGRAM")
     words = words.parse_args()
     count = words.runs
     kinds = [number for number, name in enumerate(KINDS) if words.only in name]
@@ -94,12 +115,10 @@ def main():
         folder = pathlib.Path(name)
         program = build(folder, kinds, words.least)
         subprocess.run(["rustc", "-O", "--edition", "2024", "-o", str(folder / "plain"), str(folder / "plain.rs")], check=True)
-        done = subprocess.run(["rt", "run"], cwd=program, capture_output=True, text=True)
-        if done.returncode:
-            raise SystemExit(done.stdout + done.stderr)
-        for _ in range(count):
-            plain.append(told(subprocess.run([str(folder / "plain"), str(words.least)], capture_output=True, text=True, check=True).stdout))
-            proved.append(told(subprocess.run([str(program / "out" / "pieces_bench")], capture_output=True, text=True, check=True).stdout))
+        for run in range(count):
+            if run < (words.plain or count):
+                plain.append(told(printed([str(folder / "plain"), str(words.least)])))
+            proved.append(told(printed([str(words.program or proved_program(program))])))
     proved, plain = least(proved), least(plain)
     print("| heads | count | pieces | ms | half of the growth | plain Rust, ms | half of the growth | ratio |")
     print("|---|---|---|---|---|---|---|---|")
