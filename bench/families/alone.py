@@ -39,7 +39,7 @@ import os, subprocess, sys
 sys.path.insert(0, "{bench}")
 from untested import untested
 words = ["-O3" if word == "-O0" else word for word in sys.argv[1:] if word != "-fsanitize=address"]
-if "module.bc" in words:
+if "module.bc" in words and "-fsanitize=address" in sys.argv:
     subprocess.run(["{tools}/clang", "-S", "-emit-llvm", "-O0", "-x", "ir", "module.bc", "-o", "tested.ll"], check=True)
     with open("tested.ll") as tested, open("module.ll", "w") as module:
         module.writelines(untested(tested))
