@@ -17,20 +17,19 @@ use constructor_sets::Span;
 use keyed_matrix::{KeyedRow, piece_rows};
 use no_memory::NoMemory;
 use pat_context::{Ctor, Step};
-use pattern_matrix::{Leaf, leaf_spans};
-use smallvec::SmallVec;
+use pattern_matrix::{Chosen, Leaf, leaf_spans};
 use std::alloc::Global;
 use std::slice::from_ref;
 
 // The head of the row in the column, as a leaf.
-fn column_leaf<'a, T: Copy>(alloc: Global, row: &KeyedRow<'a, T>, i: usize) -> Leaf<'a, T>
+fn column_leaf<'a, T: Copy>(row: &KeyedRow<'a, T>, i: usize) -> Leaf<'a, T>
     requires { i < length row.now.heads.items }
     ensures { plain_leaf result ≡ column_leaf i (plain_row row.now) }
 {
     Leaf {
         row: 0,
         head: row.heads[i],
-        chosen: SmallVec::new(alloc),
+        chosen: Chosen::Nothing,
     }
 }
 
@@ -45,7 +44,7 @@ fn column_leaves<'a, T: Copy>(
 {
     let mut leaves = Vec::with_capacity(alloc, rows.len())?;
     for row in rows {
-        leaves.push(column_leaf(alloc, row, i))?;
+        leaves.push(column_leaf(row, i))?;
     }
     Ok(leaves)
 }

@@ -37,6 +37,7 @@ pub mod Apart
 pub mod Listing
 pub mod Opened
 pub mod Getting
+mod HeadParts
 pub mod PartColumns
 pub mod Starting
 pub mod Within

@@ -9,6 +9,7 @@ pub mod Sparse
 pub mod Views
 pub mod Spreading
 pub mod Opening
+pub mod ChosenLists
 pub mod Columns
 pub mod Starting
 pub mod Halving

@@ -8,6 +8,7 @@ use Rattle.pattern_arena.specs.Trees.{tree}
 use Rattle.pattern_matrix.specs.declared.rows.Head.{Head}
 use Rattle.pattern_matrix.specs.declared.rows.Row.{Row}
 use Rattle.pattern_matrix.specs.declared.rows.Leaf.{Leaf}
+use Rattle.pattern_matrix.specs.ChosenLists.{kept_chosen}
 use Rattle.pattern_matrix.specs.HeadLists.{kept_heads}
 use Rattle.pattern_matrix.specs.Sparse.{SparseRow, SparseLeaf}
 
@@ -21,7 +22,7 @@ plain_heads heads = map plain_head heads
 
 -- the row
 abbrev pub plain_row : {T : Type 0} → Row T → SparseRow T
-plain_row r = record { heads = plain_heads (kept_heads r.heads); arm = r.arm; guarded = r.guarded; chosen = r.chosen.items }
+plain_row r = record { heads = plain_heads (kept_heads r.heads); arm = r.arm; guarded = r.guarded; chosen = kept_chosen r.chosen }
 
 -- the rows
 abbrev pub plain_rows : {T : Type 0} → List (Row T) → List (SparseRow T)
@@ -34,7 +35,7 @@ plain_pattern (Some p) = Some (tree p.now)
 
 -- the leaf
 abbrev pub plain_leaf : {T : Type 0} → Leaf T → SparseLeaf T
-plain_leaf l = record { row = l.row; head = plain_pattern l.head; chosen = l.chosen.items }
+plain_leaf l = record { row = l.row; head = plain_pattern l.head; chosen = kept_chosen l.chosen }
 
 -- the leaves
 abbrev pub plain_leaves : {T : Type 0} → List (Leaf T) → List (SparseLeaf T)

@@ -1,34 +1,44 @@
 // The rows of a match.
-ghost use Rattle.std.specs.Prelude.{◌≡◌, ◌≤◌, ◌<◌, ◌^◌, ◌++◌, ◌∷◌, [], length, map, IfOk, OnOk};
+ghost use Rattle.std.specs.Prelude.{◌≡◌, ◌≤◌, ◌<◌, ◌^◌, ◌++◌, ◌∷◌, [], length, map, cond, Some, IfOk, OnOk};
 ghost use Rattle.match_model.specs.Matrices.{first_matrix};
-ghost use Rattle.pattern_arena.specs.Trees.{plain_arm, plain_match};
+ghost use Rattle.match_model.specs.Rows.{is_wild};
+ghost use Rattle.pattern_arena.specs.Trees.{plain_arm, plain_match, tree};
 ghost use Rattle.pattern_matrix.specs.Sparse.{row_views, bare_row, AreBelow, AreOver};
-ghost use Rattle.pattern_matrix.specs.Views.{plain_rows};
+ghost use Rattle.pattern_matrix.specs.HeadLists.{kept_heads};
+ghost use Rattle.pattern_matrix.specs.Views.{plain_heads, plain_rows};
 ghost use Rattle.pattern_matrix.specs.Starting.{starting_row, starting_rows};
 
-use crate::opening::add_head;
-use crate::{Heads, Row};
+use crate::leaves::is_wild;
+use crate::{Chosen, Head, Heads, Row};
 use no_memory::NoMemory;
-use pattern_arena::{CheckedArm, CheckedMatch};
-use smallvec::SmallVec;
+use pattern_arena::{CheckedArm, CheckedMatch, DePat};
 use std::alloc::Global;
+
+// The pattern as the head of the first column, which has the number 0; none for a wildcard.
+#[tactic(auto, using(crate::proofs::Bare::bares))]
+fn starting_heads<'a, T: Copy>(pat: &'a DePat<'a, T>) -> Heads<'a, T>
+    ensures { plain_heads (kept_heads result) ≡ cond (is_wild (Some (tree pat.entry.now))) [] ((0, tree pat.entry.now) ∷ []) }
+{
+    if is_wild(&pat.ctor) {
+        Heads::Bare
+    } else {
+        Heads::One(Head { column: 0, pat })
+    }
+}
 
 // Adds the row of the arm with the number.
 fn add_first<'a, T: Copy>(
-    alloc: Global,
     rows: &mut Vec<Row<'a, T>>,
     number: u32,
     arm: &'a CheckedArm<'a, T>,
 ) -> Result<(), NoMemory>
     ensures { OnOk result (plain_rows rows.new.items ≡ plain_rows rows.old.items ++ starting_row number (plain_arm arm.entry.now) ∷ []) }
 {
-    let mut heads = Heads::Bare;
-    add_head(alloc, &mut heads, 0, &arm.pat)?;
     rows.push(Row {
-        heads,
+        heads: starting_heads(&arm.pat),
         arm: number,
         guarded: arm.guarded,
-        chosen: SmallVec::new(alloc),
+        chosen: Chosen::Nothing,
     })?;
     Ok(())
 }
@@ -61,7 +71,7 @@ fn rows_of_arms<'a, T: Copy>(
 {
     let mut rows = Vec::with_capacity(alloc, arms.len())?;
     for (i, arm) in arms.iter().enumerate() {
-        add_first(alloc, &mut rows, i as u32, arm)?;
+        add_first(&mut rows, i as u32, arm)?;
     }
     Ok(rows)
 }

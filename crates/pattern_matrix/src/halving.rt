@@ -11,7 +11,7 @@ use no_memory::NoMemory;
 use std::alloc::Global;
 
 /// A range of pieces of a column, by their numbers from `first` to before `end`, and the numbers of leaves among which
-/// are all that have one of these pieces, ascending.
+/// are all that have one of these pieces, or as many of them as a search needs, ascending.
 #[derive(Drop)]
 pub struct Part {
     pub first: usize,
@@ -19,7 +19,7 @@ pub struct Part {
     pub leaves: Vec<usize>,
 }
 
-/// A piece of a column by its number, and the numbers of all leaves that have it, ascending.
+/// A piece of a column by its number, and the numbers of all leaves that have it, or of as many as a search needs, ascending.
 #[derive(Drop)]
 pub struct PieceLeaves {
     pub piece: usize,

@@ -1,61 +1,119 @@
-// The heads of a row: one alone stands in the row itself.
-ghost use Rattle.std.specs.Prelude.{◌≡◌, ◌++◌, ◌∷◌, ◌==◌, [], length, IfOk, OnOk};
-ghost use Rattle.pattern_matrix.specs.HeadLists.{kept_heads};
+// The heads of a row: one alone stands in the row itself, several in a list that rows share.
+ghost use Rattle.std.specs.Prelude.{◌≡◌, ◌≤◌, ◌+◌, ◌==◌, length, take, drop, IfOk};
+ghost use Rattle.pattern_matrix.specs.HeadLists.{kept_heads, part_heads};
 
 use crate::Head;
 use no_memory::NoMemory;
 use std::alloc::Global;
+use std::rc::RcSlice;
 use std::slice;
 
-/// The heads of a row: one alone stands in the row itself, several in memory of their own.
+/// The heads of a row, in order: one alone stands in the row itself, several are part of a list that other rows may have
+/// parts of too. So a row that keeps its heads, or all but the first or the last, takes no memory for them.
 #[derive(Drop)]
 pub enum Heads<'a, T: Copy> {
     /// No head.
     Bare,
     /// One head.
     One(Head<'a, T>),
-    /// As many heads as the list has.
-    More(Vec<Head<'a, T>>),
+    /// As many heads as the part has.
+    Several(HeadPart<'a, T>),
 }
 
-// Both heads.
-fn both<'a, T: Copy>(
-    alloc: Global,
-    first: Head<'a, T>,
-    second: Head<'a, T>,
-) -> Result<Vec<Head<'a, T>>, NoMemory>
-    ensures { IfOk result (λ v. v.items ≡ first.entry ∷ second.entry ∷ []) }
-{
-    let mut all = Vec::with_capacity(alloc, 4)?;
-    all.push(first)?;
-    all.push(second)?;
-    Ok(all)
+/// Part of a list of heads. It has fewer than 2^32 heads, and fewer stand before it.
+#[derive(Drop)]
+pub struct HeadPart<'a, T: Copy> {
+    list: RcSlice<Head<'a, T>, Global>,
+    // How many heads of the list stand before the part.
+    first: u32,
+    // How many heads the part has.
+    count: u32,
 }
 
-// Adds these heads one by one.
-fn push_all<'a, T: Copy>(
-    alloc: Global,
-    heads: &mut Heads<'a, T>,
-    more: &[Head<'a, T>],
-) -> Result<(), NoMemory>
-    ensures { OnOk result (kept_heads heads.new ≡ kept_heads heads.old ++ more.now) }
+// The number in half the room. A list with as many heads as it cannot hold takes 64 gigabytes.
+fn short(number: usize) -> Result<u32, NoMemory>
+    ensures { IfOk result (λ n. n ≡ number) }
 {
-    for head in more {
-        heads.push(alloc, *head)?;
+    if number <= 4294967295 {
+        Ok(number as u32)
+    } else {
+        Err(NoMemory)
     }
-    Ok(())
+}
+
+// So many items, from this one on; fewer where there are not so many.
+fn part_of<X>(items: &[X], first: usize, count: usize) -> &[X]
+    ensures { result.now ≡ take count (drop first items.now) }
+{
+    if first <= items.len() {
+        let rest = &items[first..];
+        if count <= rest.len() {
+            &rest[..count]
+        } else {
+            rest
+        }
+    } else {
+        &[]
+    }
+}
+
+impl<'a, T: Copy> HeadPart<'a, T> {
+    // The heads, in order.
+    pub(crate) fn as_slice(&self) -> &[Head<'a, T>]
+        ensures { result.now ≡ part_heads self.now }
+    {
+        part_of(
+            self.list.as_slice(),
+            self.first as usize,
+            self.count as usize,
+        )
+    }
+
+    // So many heads of the part, from this one on. They are shared.
+    #[tactic(auto, using(crate::proofs::HeadParts::parts))]
+    fn narrowed(&self, first: usize, count: usize) -> Result<HeadPart<'a, T>, NoMemory>
+        requires within { first + count ≤ length (part_heads self.now) }
+        ensures { IfOk result (λ p. part_heads p ≡ take count (drop first (part_heads self.now))) }
+    {
+        let first = short(self.first as usize + first)?;
+        let count = short(count)?;
+        let list = self.list.clone()?;
+        Ok(HeadPart { list, first, count })
+    }
+
+    // The same, where one alone stands in the row.
+    pub(crate) fn some(&self, first: usize, count: usize) -> Result<Heads<'a, T>, NoMemory>
+        requires within { first + count ≤ length (part_heads self.now) }
+        ensures { IfOk result (λ h. kept_heads h ≡ take count (drop first (part_heads self.now))) }
+    {
+        if count == 1 {
+            let heads = self.as_slice();
+            Ok(Heads::One(heads[first]))
+        } else {
+            let part = self.narrowed(first, count)?;
+            Ok(Heads::Several(part))
+        }
+    }
 }
 
 impl<'a, T: Copy> Heads<'a, T> {
-    /// No heads, with room for so many. The only error is want of memory.
-    pub fn with_room(alloc: Global, room: usize) -> Result<Self, NoMemory>
-        ensures { IfOk result (λ h. kept_heads h ≡ []) }
+    // The heads of the list.
+    pub(crate) fn of(all: Vec<Head<'a, T>>) -> Result<Self, NoMemory>
+        ensures { IfOk result (λ h. kept_heads h ≡ all.entry.items) }
     {
-        if room > 1 {
-            Ok(Heads::More(Vec::with_capacity(alloc, room)?))
-        } else {
-            Ok(Heads::Bare)
+        if all.is_empty() {
+            return Ok(Heads::Bare);
         }
+        if all.len() == 1 {
+            return Ok(Heads::One(all[0]));
+        }
+        let count = short(all.len())?;
+        let list = RcSlice::from_vec(all)?;
+        Ok(Heads::Several(HeadPart {
+            list,
+            first: 0,
+            count,
+        }))
     }
 
     /// The heads, in order.
@@ -65,7 +123,7 @@ impl<'a, T: Copy> Heads<'a, T> {
         match self {
             Heads::Bare => &[],
             Heads::One(one) => slice::from_ref(one),
-            Heads::More(all) => all.as_slice(),
+            Heads::Several(part) => part.as_slice(),
         }
     }
 
@@ -81,39 +139,5 @@ impl<'a, T: Copy> Heads<'a, T> {
         ensures { result ≡ (length (kept_heads self.now) == 0) }
     {
         self.as_slice().is_empty()
-    }
-
-    /// Adds these heads behind the others. The only error is want of memory; some of them may then be added.
-    pub(crate) fn extend(&mut self, alloc: Global, more: &[Head<'a, T>]) -> Result<(), NoMemory>
-        ensures { OnOk result (kept_heads self.new ≡ kept_heads self.old ++ more.now) }
-    {
-        match self {
-            Heads::More(all) => {
-                all.extend_from_slice(more)?;
-                Ok(())
-            }
-            _ => push_all(alloc, self, more),
-        }
-    }
-
-    /// Adds a head behind the others. The only error is want of memory; the heads may then be as they were.
-    pub fn push(&mut self, alloc: Global, head: Head<'a, T>) -> Result<(), NoMemory>
-        ensures { OnOk result (kept_heads self.new ≡ kept_heads self.old ++ head.entry ∷ []) }
-    {
-        match self {
-            Heads::Bare => {
-                *self = Heads::One(head);
-                Ok(())
-            }
-            Heads::One(one) => {
-                let all = both(alloc, *one, head)?;
-                *self = Heads::More(all);
-                Ok(())
-            }
-            Heads::More(all) => {
-                all.push(head)?;
-                Ok(())
-            }
-        }
     }
 }

@@ -8,13 +8,13 @@ ghost use Rattle.pat_context.specs.Views.{plain_ctor};
 ghost use Rattle.pattern_arena.specs.Trees.{tree, placed_ctor};
 ghost use Rattle.pattern_matrix.specs.Sparse.{row_views, bare_row, bare_head, leaf_views, head_at};
 ghost use Rattle.pattern_matrix.specs.Views.{plain_heads, plain_rows, plain_leaves, plain_pattern};
+ghost use Rattle.pattern_matrix.specs.ChosenLists.{kept_chosen};
 ghost use Rattle.pattern_matrix.specs.Spreading.{spread, apart, all_apart};
 
-use crate::{Head, Leaf, Row};
+use crate::{Chosen, Head, Leaf, Row};
 use no_memory::NoMemory;
 use pat_context::Ctor;
 use pattern_arena::DePat;
-use smallvec::SmallVec;
 use std::alloc::Global;
 
 // Tells whether the constructor is an or-pattern.
@@ -57,31 +57,15 @@ fn pattern_at<'a, T: Copy>(heads: &[Head<'a, T>], column: usize) -> Option<&'a D
     None
 }
 
-// The chosen alternatives. There are mostly none.
-pub(crate) fn copied(alloc: Global, chosen: &[u64]) -> Result<SmallVec<u64, 2>, NoMemory>
-    ensures { IfOk result (λ c. c.items ≡ chosen.now) }
-{
-    if chosen.is_empty() {
-        Ok(SmallVec::new(alloc))
-    } else {
-        Ok(SmallVec::from_slice(alloc, chosen)?)
-    }
-}
-
 // The chosen alternatives, and one more where there are several.
-fn choosing(
-    alloc: Global,
-    chosen: &[u64],
-    uid: u64,
-    several: bool,
-) -> Result<SmallVec<u64, 2>, NoMemory>
-    ensures { IfOk result (λ c. c.items ≡ chosen.now ++ cond several (uid ∷ []) []) }
+fn choosing(alloc: Global, chosen: &Chosen, uid: u64, several: bool) -> Result<Chosen, NoMemory>
+    ensures { IfOk result (λ c. kept_chosen c ≡ kept_chosen chosen.now ++ cond several (uid ∷ []) []) }
 {
-    let mut all = copied(alloc, chosen)?;
     if several {
-        all.push(uid)?;
+        chosen.and(alloc, uid)
+    } else {
+        chosen.copied()
     }
-    Ok(all)
 }
 
 // Adds a leaf for each choice of the pattern, which stands in the row.
@@ -91,34 +75,33 @@ fn add_choices<'a, T: Copy>(
     leaves: &mut Vec<Leaf<'a, T>>,
     row: usize,
     p: &'a DePat<'a, T>,
-    chosen: &[u64],
+    chosen: &Chosen,
 ) -> Result<(), NoMemory>
-    ensures { OnOk result (plain_leaves leaves.new.items ≡ plain_leaves leaves.old.items ++ spread row chosen.now (tree p.entry.now)) }
+    ensures { OnOk result (plain_leaves leaves.new.items ≡ plain_leaves leaves.old.items ++ spread row (kept_chosen chosen.now) (tree p.entry.now)) }
 {
     if is_or(&p.ctor) {
         let several = p.subs.len() > 1;
         for q in p.subs {
             let more = choosing(alloc, chosen, q.uid, several)?;
-            add_choices(alloc, leaves, row, q, more.as_slice())?;
+            add_choices(alloc, leaves, row, q, &more)?;
         }
         Ok(())
     } else {
-        add_leaf(alloc, leaves, row, p, chosen)
+        add_leaf(leaves, row, p, chosen)
     }
 }
 
 // Adds a leaf of the pattern.
 fn add_leaf<'a, T: Copy>(
-    alloc: Global,
     leaves: &mut Vec<Leaf<'a, T>>,
     row: usize,
     p: &'a DePat<'a, T>,
-    chosen: &[u64],
+    chosen: &Chosen,
 ) -> Result<(), NoMemory>
     ensures { OnOk result (plain_leaves leaves.new.items ≡ plain_leaves leaves.old.items
-        ++ (record { row = row; head = bare_head (Some (tree p.entry.now)); chosen = chosen.now }) ∷ []) }
+        ++ (record { row = row; head = bare_head (Some (tree p.entry.now)); chosen = kept_chosen chosen.now }) ∷ []) }
 {
-    let chosen = copied(alloc, chosen)?;
+    let chosen = chosen.copied()?;
     leaves.push(Leaf {
         row,
         head: unless_wild(p),
@@ -144,11 +127,11 @@ pub fn add_leaves<'a, T: Copy>(
             leaves.push(Leaf {
                 row,
                 head: None,
-                chosen: SmallVec::new(alloc),
+                chosen: Chosen::Nothing,
             })?;
             Ok(())
         }
-        Some(p) => add_choices(alloc, leaves, row, p, &[]),
+        Some(p) => add_choices(alloc, leaves, row, p, &Chosen::Nothing),
     }
 }
 

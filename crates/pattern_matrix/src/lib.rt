@@ -5,6 +5,7 @@
 //! cover, and `reach_laws` how a search may go that marks what is reached, and what its marks tell.
 #![tactic(auto)]
 
+mod chosen;
 mod columns;
 pub mod cover_laws;
 mod first;
@@ -19,11 +20,13 @@ mod rows;
 mod spans;
 #[cfg(test)]
 mod tests;
+mod without;
 
+pub use chosen::Chosen;
 pub use columns::open_columns;
 pub use first::first_rows;
 pub use halving::{Part, PieceLeaves, all_parts, meeting, next_piece};
-pub use heads::Heads;
+pub use heads::{HeadPart, Heads};
 pub use leaves::{add_leaves, leaves_at};
 pub use marked::Marked;
 pub use opening::{dropped_row, is_wild_leaf, opened_row, piece_rows, wild_rows};

@@ -11,44 +11,42 @@ ghost use Rattle.pattern_matrix.specs.HeadLists.{kept_heads};
 ghost use Rattle.pattern_matrix.specs.Views.{plain_heads, plain_row, plain_rows, plain_leaf, plain_leaves, plain_pattern};
 ghost use Rattle.pattern_matrix.specs.Opening.{opened_row, opened_leaf, opened_rows, pattern_parts, dropped_row, dropped_leaf, dropped_rows};
 
-use crate::leaves::{copied, is_wild};
+use crate::leaves::is_wild;
+use crate::without::{add_others, heads_without};
 use crate::{Head, Heads, Leaf, Row};
 use no_memory::NoMemory;
 use pat_context::Ctor;
 use pattern_arena::DePat;
 use slice_split::Shape;
-use smallvec::SmallVec;
 use std::alloc::Global;
 
 // Adds the pattern at the column, unless it is a wildcard.
 #[tactic(auto, using(crate::proofs::Bare::bares))]
 pub(crate) fn add_head<'a, T: Copy>(
-    alloc: Global,
-    heads: &mut Heads<'a, T>,
+    heads: &mut Vec<Head<'a, T>>,
     column: usize,
     pat: &'a DePat<'a, T>,
 ) -> Result<(), NoMemory>
-    ensures { OnOk result (plain_heads (kept_heads heads.new) ≡ plain_heads (kept_heads heads.old)
+    ensures { OnOk result (plain_heads heads.new.items ≡ plain_heads heads.old.items
         ++ cond (is_wild (Some (tree pat.entry.now))) [] ((column, tree pat.entry.now) ∷ [])) }
 {
     if !is_wild(&pat.ctor) {
-        heads.push(alloc, Head { column, pat })?;
+        heads.push(Head { column, pat })?;
     }
     Ok(())
 }
 
 // Adds the patterns that are no wildcards, at the columns from this number on.
 fn add_subs<'a, T: Copy>(
-    alloc: Global,
-    heads: &mut Heads<'a, T>,
+    heads: &mut Vec<Head<'a, T>>,
     first: usize,
     subs: &'a [DePat<'a, T>],
 ) -> Result<(), NoMemory>
     requires { first + length subs.now < 2 ^ 64 }
-    ensures { OnOk result (plain_heads (kept_heads heads.new) ≡ plain_heads (kept_heads heads.old) ++ listed first (map (λ p. Some (tree p)) subs.entry.now)) }
+    ensures { OnOk result (plain_heads heads.new.items ≡ plain_heads heads.old.items ++ listed first (map (λ p. Some (tree p)) subs.entry.now)) }
 {
     for (i, p) in subs.iter().enumerate() {
-        add_head(alloc, heads, first + i, p)?;
+        add_head(heads, first + i, p)?;
     }
     Ok(())
 }
@@ -56,8 +54,7 @@ fn add_subs<'a, T: Copy>(
 // Adds the items at both ends of a row of so many items.
 #[tactic(auto, using(crate::proofs::Listing::listings))]
 fn add_items<'a, T: Copy>(
-    alloc: Global,
-    heads: &mut Heads<'a, T>,
+    heads: &mut Vec<Head<'a, T>>,
     first: usize,
     subs: &'a [DePat<'a, T>],
     front: u64,
@@ -65,120 +62,80 @@ fn add_items<'a, T: Copy>(
     count: usize,
 ) -> Result<(), NoMemory>
     requires { first + (length subs.now + (count - (front + back))) < 2 ^ 64 }
-    ensures { OnOk result (plain_heads (kept_heads heads.new) ≡ plain_heads (kept_heads heads.old)
+    ensures { OnOk result (plain_heads heads.new.items ≡ plain_heads heads.old.items
         ++ listed first (pattern_parts count (RowCtor (LongerShape front back)) subs.entry.now)) }
 {
     let cut = subs.len().min(front as usize);
     let (start, end) = subs.split_at(cut);
-    add_subs(alloc, heads, first, start)?;
+    add_subs(heads, first, start)?;
     let gap = count
         .saturating_sub(front as usize)
         .saturating_sub(back as usize);
-    add_subs(alloc, heads, first + cut + gap, end)?;
+    add_subs(heads, first + cut + gap, end)?;
     Ok(())
 }
 
 // Adds the parts that the pattern writes, of so many, at the columns from this number on.
 #[tactic(auto, using(crate::proofs::Listing::listings))]
 fn add_parts<'a, T: Copy>(
-    alloc: Global,
-    heads: &mut Heads<'a, T>,
+    heads: &mut Vec<Head<'a, T>>,
     first: usize,
     p: &'a DePat<'a, T>,
     count: usize,
 ) -> Result<(), NoMemory>
     requires fits { first + count < 2 ^ 64 }
     requires parts { length (pattern_parts count (placed_ctor p.now) (placed_subs p.now)) ≡ count }
-    ensures { OnOk result (plain_heads (kept_heads heads.new) ≡ plain_heads (kept_heads heads.old)
+    ensures { OnOk result (plain_heads heads.new.items ≡ plain_heads heads.old.items
         ++ listed first (pattern_parts count (placed_ctor p.entry.now) (placed_subs p.entry.now))) }
 {
     match p.ctor {
         Ctor::Wild => Ok(()),
         Ctor::Row(Shape::Longer { front, back }) => add_items(
-            alloc, heads, first, p.subs, front, back, count,
+            heads, first, p.subs, front, back, count,
         ),
-        _ => add_subs(alloc, heads, first, p.subs),
+        _ => add_subs(heads, first, p.subs),
     }
-}
-
-// How many heads stand before the first one at the column.
-fn count_before<'a, T: Copy>(heads: &[Head<'a, T>], column: usize) -> usize
-    ensures within { result ≤ length heads.now }
-    ensures others { without column (plain_heads heads.now) ≡ plain_heads (take result heads.now) ++ without column (plain_heads (drop (result + 1) heads.now)) }
-{
-    for (i, head) in heads.iter().enumerate() {
-        if head.column == column {
-            return i;
-        }
-    }
-    heads.len()
-}
-
-// The heads behind so many and one more.
-fn behind<'a, 'b, T: Copy>(heads: &'b [Head<'a, T>], count: usize) -> &'b [Head<'a, T>]
-    ensures { result.now ≡ drop (count + 1) heads.now }
-{
-    if count < heads.len() {
-        &heads[count + 1..]
-    } else {
-        &[]
-    }
-}
-
-// Adds the heads but those at the column.
-fn add_others<'a, T: Copy>(
-    alloc: Global,
-    heads: &mut Heads<'a, T>,
-    others: &[Head<'a, T>],
-    column: usize,
-) -> Result<(), NoMemory>
-    ensures { OnOk result (plain_heads (kept_heads heads.new) ≡ plain_heads (kept_heads heads.old) ++ without column (plain_heads others.now)) }
-{
-    let mut rest = others;
-    while !rest.is_empty() {
-        let count = count_before(rest, column);
-        heads.extend(alloc, &rest[..count])?;
-        rest = behind(rest, count);
-    }
-    Ok(())
-}
-
-// The alternatives that were chosen for a row, and those for a leaf.
-fn both_chosen(alloc: Global, chosen: &[u64], more: &[u64]) -> Result<SmallVec<u64, 2>, NoMemory>
-    ensures { IfOk result (λ c. c.items ≡ chosen.now ++ more.now) }
-{
-    let mut all = copied(alloc, chosen)?;
-    for uid in more {
-        all.push(*uid)?;
-    }
-    Ok(all)
 }
 
 // Adds the parts that the leaf's head writes.
 #[tactic(auto, using(crate::proofs::Listing::leaf_heads))]
 fn add_leaf_parts<'a, T: Copy>(
-    alloc: Global,
-    heads: &mut Heads<'a, T>,
+    heads: &mut Vec<Head<'a, T>>,
     first: usize,
     head: Option<&'a DePat<'a, T>>,
     count: usize,
 ) -> Result<(), NoMemory>
     requires fits { first + count < 2 ^ 64 }
     requires parts { length (leaf_parts count (plain_pattern head)) ≡ count }
-    ensures { OnOk result (plain_heads (kept_heads heads.new) ≡ plain_heads (kept_heads heads.old) ++ listed first (leaf_parts count (plain_pattern head.entry))) }
+    ensures { OnOk result (plain_heads heads.new.items ≡ plain_heads heads.old.items ++ listed first (leaf_parts count (plain_pattern head.entry))) }
 {
     match head {
         None => Ok(()),
-        Some(p) => add_parts(alloc, heads, first, p, count),
+        Some(p) => add_parts(heads, first, p, count),
     }
 }
 
-// Room for these heads, the leaf's one among them, once it is taken apart.
-fn room_for<'a, T: Copy>(heads: &[Head<'a, T>], head: Option<&'a DePat<'a, T>>) -> usize {
-    match head {
-        None => heads.len(),
-        Some(p) => p.subs.len().saturating_add(heads.len().saturating_sub(1)),
+// The heads with those of so many parts of the leaf's head, at the columns from the first number on, in place of that at
+// the column.
+fn opened_heads<'a, T: Copy>(
+    alloc: Global,
+    heads: &Heads<'a, T>,
+    head: Option<&'a DePat<'a, T>>,
+    column: usize,
+    first: usize,
+    count: usize,
+) -> Result<Heads<'a, T>, NoMemory>
+    requires fits { first + count < 2 ^ 64 }
+    requires parts { length (leaf_parts count (plain_pattern head)) ≡ count }
+    ensures { IfOk result (λ h. plain_heads (kept_heads h) ≡ listed first (leaf_parts count (plain_pattern head.entry)) ++ without column (plain_heads (kept_heads heads.now))) }
+{
+    let mut all = Vec::new(alloc);
+    add_leaf_parts(&mut all, first, head, count)?;
+    if all.is_empty() {
+        return heads_without(alloc, heads, column);
     }
+    add_others(&mut all, heads.as_slice(), column)?;
+    Heads::of(all)
 }
 
 /// The row of the leaf, which is of this row, with the heads of so many parts, at the columns from the first number on, in
@@ -195,10 +152,8 @@ pub fn opened_row<'a, T: Copy>(
     requires parts { length (leaf_parts count (plain_leaf leaf.now).head) ≡ count }
     ensures { IfOk result (λ r. plain_row r ≡ opened_row column first count (plain_leaf leaf.now) (plain_row row.now)) }
 {
-    let mut heads = Heads::with_room(alloc, room_for(row.heads.as_slice(), leaf.head))?;
-    add_leaf_parts(alloc, &mut heads, first, leaf.head, count)?;
-    add_others(alloc, &mut heads, row.heads.as_slice(), column)?;
-    let chosen = both_chosen(alloc, row.chosen.as_slice(), leaf.chosen.as_slice())?;
+    let heads = opened_heads(alloc, &row.heads, leaf.head, column, first, count)?;
+    let chosen = row.chosen.and_all(alloc, &leaf.chosen)?;
     Ok(Row {
         heads,
         arm: row.arm,
@@ -304,9 +259,8 @@ pub fn dropped_row<'a, T: Copy>(
 ) -> Result<Row<'a, T>, NoMemory>
     ensures { IfOk result (λ r. plain_row r ≡ dropped_row column (plain_leaf leaf.now) (plain_row row.now)) }
 {
-    let mut heads = Heads::with_room(alloc, row.heads.len())?;
-    add_others(alloc, &mut heads, row.heads.as_slice(), column)?;
-    let chosen = both_chosen(alloc, row.chosen.as_slice(), leaf.chosen.as_slice())?;
+    let heads = heads_without(alloc, &row.heads, column)?;
+    let chosen = row.chosen.and_all(alloc, &leaf.chosen)?;
     Ok(Row {
         heads,
         arm: row.arm,

@@ -1,8 +1,7 @@
 // Rows, and what stands in them at one column.
-use crate::Heads;
+use crate::{Chosen, Heads};
 use pat_context::Validity;
 use pattern_arena::DePat;
-use smallvec::SmallVec;
 
 /// A head of a row: a pattern of the arena, and the number of the column where it stands, from 0.
 #[derive(Clone, Copy)]
@@ -21,7 +20,7 @@ pub struct Row<'a, T: Copy> {
     /// Whether the arm has a guard.
     pub guarded: bool,
     /// The uids of the alternatives that were chosen on the way to the row.
-    pub chosen: SmallVec<u64, 2>,
+    pub chosen: Chosen,
 }
 
 /// What stands in a row at one column once or-patterns are taken apart.
@@ -32,7 +31,7 @@ pub struct Leaf<'a, T: Copy> {
     /// The pattern, which is no or-pattern; none where a wildcard stands.
     pub head: Option<&'a DePat<'a, T>>,
     /// The uids of the alternatives that were chosen on the way to it, besides those of the row.
-    pub chosen: SmallVec<u64, 2>,
+    pub chosen: Chosen,
 }
 
 /// An open column: the type of the values there, and whether the place is sure to hold a valid one. Columns are known

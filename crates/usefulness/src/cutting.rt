@@ -7,6 +7,7 @@ ghost use Rattle.constructor_sets.specs.Spans.{plain_span};
 ghost use Rattle.pattern_arena.specs.Trees.{placed_subs};
 ghost use Rattle.pattern_matrix.specs.Sparse.{leaves_listed, without};
 ghost use Rattle.usefulness.specs.Done.{are_marked, choices_within};
+ghost use Rattle.pattern_matrix.specs.ChosenLists.{kept_chosen};
 ghost use Rattle.pattern_matrix.specs.Halving.{span_has, span_meets, having, leaves_with};
 ghost use Rattle.pattern_matrix.specs.Parts.{plain_spans, pieces_in};
 ghost use Rattle.pattern_matrix.specs.Views.{plain_heads, plain_row, plain_leaf, plain_pattern};
@@ -121,7 +122,7 @@ fn is_whole<'a, T: Copy>(leaf: &Leaf<'a, T>, span: &Span, part: &Part, row: usiz
 
 // Tells whether the leaf is one of several alternatives of its row.
 fn is_alternative<'a, T: Copy>(leaf: &Leaf<'a, T>) -> bool
-    ensures { result ≡ nat_lt 0 (length leaf.now.chosen.items) }
+    ensures { result ≡ nat_lt 0 (length (kept_chosen leaf.now.chosen)) }
 {
     leaf.chosen.len() > 0
 }

@@ -31,43 +31,30 @@ use no_memory::NoMemory;
 use pat_context::{Ctor, PatCx, has_value};
 use pattern_arena::laws::matches_are_made;
 use pattern_arena::{CheckedArm, CheckedMatch, DePat};
-use pattern_matrix::{Column, Head, Heads, Row};
-use smallvec::SmallVec;
+use pattern_matrix::{Chosen, Column, Head, Heads, Row};
 use std::alloc::Global;
 
 // The pattern as the head of the first column, which has the number 0; none for a wildcard.
-fn starting_heads<'a, T: Copy>(
-    alloc: Global,
-    pat: &'a DePat<'a, T>,
-) -> Result<Heads<'a, T>, NoMemory>
-    ensures { IfOk result (λ v. plain_heads (kept_heads v) ≡ cond (is_wild (Some (tree pat.entry.now))) [] ((0, tree pat.entry.now) ∷ [])) }
+fn starting_heads<'a, T: Copy>(pat: &'a DePat<'a, T>) -> Heads<'a, T>
+    ensures { plain_heads (kept_heads result) ≡ cond (is_wild (Some (tree pat.entry.now))) [] ((0, tree pat.entry.now) ∷ []) }
 {
     match pat.ctor {
-        Ctor::Wild => Ok(Heads::Bare),
-        _ => {
-            let mut heads = Heads::Bare;
-            heads.push(alloc, Head { column: 0, pat })?;
-            Ok(heads)
-        }
+        Ctor::Wild => Heads::Bare,
+        _ => Heads::One(Head { column: 0, pat }),
     }
 }
 
 // The row of the arm with the number, which is wanted.
-fn arm_row<'a, T: Copy>(
-    alloc: Global,
-    number: u32,
-    arm: &'a CheckedArm<'a, T>,
-) -> Result<Asked<'a, T>, NoMemory>
-    ensures { IfOk result (λ x. plain_asked x ≡ (record { row = starting_row number (plain_arm arm.entry.now); wanted = true })) }
+fn arm_row<'a, T: Copy>(number: u32, arm: &'a CheckedArm<'a, T>) -> Asked<'a, T>
+    ensures { plain_asked result ≡ (record { row = starting_row number (plain_arm arm.entry.now); wanted = true }) }
 {
-    let heads = starting_heads(alloc, &arm.pat)?;
     let row = Row {
-        heads,
+        heads: starting_heads(&arm.pat),
         arm: number,
         guarded: arm.guarded,
-        chosen: SmallVec::new(alloc),
+        chosen: Chosen::Nothing,
     };
-    Ok(Asked { row, wanted: true })
+    Asked { row, wanted: true }
 }
 
 // The rows of the arms, listed one by one.
@@ -83,7 +70,7 @@ fn arm_listing<'a, T: Copy>(
 {
     let mut listing = room_listed(alloc, arms.len() + 1)?;
     for (i, arm) in arms.iter().enumerate() {
-        let asked = arm_row(alloc, i as u32, arm)?;
+        let asked = arm_row(i as u32, arm);
         list_row(reached, &mut listing, asked)?;
     }
     Ok(listing)
@@ -104,7 +91,7 @@ fn first_listing<'a, T: Copy>(
         heads: Heads::Bare,
         arm: m.arms.len() as u32,
         guarded: false,
-        chosen: SmallVec::new(alloc),
+        chosen: Chosen::Nothing,
     };
     list_row(
         reached,

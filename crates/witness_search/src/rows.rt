@@ -9,8 +9,7 @@ ghost use Rattle.witness_search.specs.Starts.{lists_none, starting_heads, starti
 use no_memory::NoMemory;
 use pat_context::Ctor;
 use pattern_arena::{CheckedArm, DePat};
-use pattern_matrix::{Head, Heads, Row};
-use smallvec::SmallVec;
+use pattern_matrix::{Chosen, Head, Heads, Row};
 use std::alloc::Global;
 
 // Tells whether the row lists no head.
@@ -34,37 +33,28 @@ pub(crate) fn has_bare<'a, T: Copy>(rows: &[Row<'a, T>]) -> bool
 }
 
 // The pattern as the head of the first column, which has the number 0; none for a wildcard.
-fn starting_heads<'a, T: Copy>(
-    alloc: Global,
-    pat: &'a DePat<'a, T>,
-) -> Result<Heads<'a, T>, NoMemory>
-    ensures { IfOk result (λ v. plain_heads (kept_heads v) ≡ starting_heads (tree pat.entry.now)) }
+fn starting_heads<'a, T: Copy>(pat: &'a DePat<'a, T>) -> Heads<'a, T>
+    ensures { plain_heads (kept_heads result) ≡ starting_heads (tree pat.entry.now) }
 {
     match pat.ctor {
-        Ctor::Wild => Ok(Heads::Bare),
-        _ => {
-            let mut heads = Heads::Bare;
-            heads.push(alloc, Head { column: 0, pat })?;
-            Ok(heads)
-        }
+        Ctor::Wild => Heads::Bare,
+        _ => Heads::One(Head { column: 0, pat }),
     }
 }
 
 // Adds the row of the arm, unless it has a guard. No arm's number is asked for.
 fn add_arm<'a, T: Copy>(
-    alloc: Global,
     rows: &mut Vec<Row<'a, T>>,
     arm: &'a CheckedArm<'a, T>,
 ) -> Result<(), NoMemory>
     ensures { OnOk result (plain_rows rows.new.items ≡ plain_rows rows.old.items ++ starting_row (plain_arm arm.entry.now)) }
 {
     if !arm.guarded {
-        let heads = starting_heads(alloc, &arm.pat)?;
         rows.push(Row {
-            heads,
+            heads: starting_heads(&arm.pat),
             arm: 0,
             guarded: false,
-            chosen: SmallVec::new(alloc),
+            chosen: Chosen::Nothing,
         })?;
     }
     Ok(())
@@ -79,7 +69,7 @@ pub(crate) fn unguarded_rows<'a, T: Copy>(
 {
     let mut rows = Vec::with_capacity(alloc, arms.len())?;
     for arm in arms {
-        add_arm(alloc, &mut rows, arm)?;
+        add_arm(&mut rows, arm)?;
     }
     Ok(rows)
 }

@@ -1,6 +1,7 @@
+use Rattle.std.proofs.Common.{[], refl}
 use Rattle.decision_tree.proofs.Cuts.{leaf-read}
 use Rattle.decision_tree.proofs.having.column_leaf.Goals as goal
 
 pub returns : goal.returns
 returns g c =
-    leaf-read c.args.i c.args.row.now c.index.result.now c.new.result.items c.requires c.index.ensures c.new.ensures.items
+    leaf-read c.args.i c.args.row.now c.index.result.now [] c.requires c.index.ensures refl

@@ -2,7 +2,6 @@ use Rattle.std.proofs.Common.{◌≡◌, ◌+◌, ◌-◌, ◌++◌, map, take, 
 use Rattle.pattern_arena.specs.declared.pattern.DePat.{DePat}
 use Rattle.pattern_arena.specs.Trees.{tree}
 use Rattle.pattern_matrix.specs.Sparse.{listed}
-use Rattle.pattern_matrix.specs.HeadLists.{kept_heads}
 use Rattle.pattern_matrix.specs.Views.{plain_heads}
 use Rattle.pattern_matrix.proofs.Listing.{items-listed}
 use Rattle.pattern_matrix.proofs.opening.add_items.Goals as goal
@@ -17,7 +16,7 @@ returns g c =
     let is_cut : cut ≡ min (length subs) c.args.front = omega arith in
     let is_next : first + (cut + (count - (c.args.front + c.args.back))) ≡ next = omega arith in
     let whole = items-listed {T = g.row.T.Denot} first next c.args.front c.args.back count cut subs is_cut is_next in
-    let old = plain_heads (kept_heads c.args.heads.now) in
+    let old = plain_heads c.args.heads.now.items in
     let pats = λ (ps : List (DePat g.row.T.Denot)). map (λ (p : DePat g.row.T.Denot). Some (tree p)) ps in
     let start = c.split_at.result.0.now in
     let end = c.split_at.result.1.now in

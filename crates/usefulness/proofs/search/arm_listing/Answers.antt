@@ -19,8 +19,8 @@ list_row-requires-clause-arm g c =
     let loop = c.loop-i in
     let a = c.index-arms-i.result in
     let row = arm_in plain_arm c.args.arms.now loop.i a c.loop-i-test.true c.index-arms-i.is in
-    subst (λ s. c.in_ok-asked.asked.row.arm < s.arms) (sym loop.invariant.known)
-    (subst (λ x. x.row.arm < (scope_for (map plain_arm c.args.arms.now)).arms) (sym c.in_ok-asked.ensures) row.arm)
+    subst (λ s. c.arm_row-asked.result.row.arm < s.arms) (sym loop.invariant.known)
+    (subst (λ x. x.row.arm < (scope_for (map plain_arm c.args.arms.now)).arms) (sym c.arm_row-asked.ensures) row.arm)
 
 pub list_row-requires-clause-kept : goal.list_row-requires-clause-kept
 list_row-requires-clause-kept g c = c.loop-i.invariant.kept
@@ -34,6 +34,6 @@ loop-i-preserved g c =
     let old = is_noted c.args.reached.now in
     let row = arm_in plain_arm arms loop.i a c.loop-i-test.true c.index-arms-i.is in
     subst (λ through. IsListed scope old c.list_row.new.reached (0 ∷ []) through c.list_row.new.listing)
-    (arm_more plain_arm arms loop.i a (plain_asked c.in_ok-asked.asked) c.loop-i-test.true c.index-arms-i.is c.in_ok-asked.ensures)
+    (arm_more plain_arm arms loop.i a (plain_asked c.arm_row-asked.result) c.loop-i-test.true c.index-arms-i.is c.arm_row-asked.ensures)
     (c.in_ok-list_row.ensures scope old (0 ∷ []) (wanted_all (starting_rows 0 (map plain_arm (take loop.i arms)))) loop.invariant
-    (subst (IsRowIn scope (0 ∷ [])) (sym c.in_ok-asked.ensures) row))
+    (subst (IsRowIn scope (0 ∷ [])) (sym c.arm_row-asked.ensures) row))

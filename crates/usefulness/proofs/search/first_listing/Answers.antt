@@ -13,9 +13,8 @@ returns g c =
     let arms = (plain_match c.args.m.now).arms in
     let many = length c.args.m.now.arms.now in
     let old = is_noted c.args.reached.now in
-    let chosen = c.new.result.items in
     let same = length-map c.args.m.now.arms.now plain_arm in
-    let row = plain_behind [] many chosen in
-    let behind = behind_is [] many (length arms) chosen refl (sym same) c.new.ensures.items in
+    let row = plain_behind [] many [] in
+    let behind = behind_is [] many (length arms) [] refl (sym same) refl in
     subst (λ through. IsListed (scope_for arms) old c.list_row.new.reached (0 ∷ []) through c.list_row.new.listing) (with_behind arms row behind)
     (c.in_ok-list_row.ensures (scope_for arms) old (0 ∷ []) (wanted_all (starting_rows 0 arms)) c.in_ok-listing.ensures (behind_in (scope_for arms) (length arms) row (omega arith) behind))

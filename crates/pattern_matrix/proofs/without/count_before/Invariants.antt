@@ -1,7 +1,7 @@
 use Rattle.std.proofs.Common.{◌≡◌, ◌++◌, take, drop}
 use Rattle.pattern_matrix.specs.Sparse.{without}
 use Rattle.pattern_matrix.specs.Views.{plain_heads}
-use Rattle.pattern_matrix.proofs.opening.count_before.Given as goal
+use Rattle.pattern_matrix.proofs.without.count_before.Given as goal
 
 abbrev pub invariant-loop-i : goal.invariant-loop-i
 invariant-loop-i g l =
