@@ -1,10 +1,11 @@
 -- Alternatives that are marked, pattern by pattern.
-use Rattle.std.proofs.Common.{◌≡◌, ◌<◌, ◌≤◌, ◌+◌, ℕ, suc, Bool, true, false, not, ◌&&◌, ◌||◌, List, [], ◌∷◌, ◌++◌, map, cond, length, drop, get_or, refl, ap, sym, subst, ◌∙◌, append_assoc, drop-cons, arith, nat_lt}
+use Rattle.std.proofs.Common.{◌≡◌, ◌<◌, ◌≤◌, ◌+◌, ℕ, suc, Bool, true, false, not, ◌&&◌, ◌||◌, List, [], ◌∷◌, ◌++◌, map, cond, length, drop, get_or, refl, ap, sym, subst, ◌∙◌, append_assoc, drop-cons, arith}
 use Rattle.std.proofs.Math.ListN.{drop_of_length-le}
 use Rattle.std.specs.List.{list_all, flat_map}
-use Rattle.match_model.specs.Constructors.{OrCtor}
+use Rattle.match_model.specs.Constructors.{MCtor, OrCtor}
 use Rattle.match_model.specs.ArenaPatterns.{MDePat, de_pats_of, uid_of}
 use Rattle.match_model.specs.Numbering.{is_choice}
+use Rattle.match_model.specs.Rows.{is_or_ctor}
 use Rattle.pattern_arena.specs.declared.pattern.DePat.{DePat, out-DePat}
 use Rattle.pattern_arena.specs.Trees.{tree, placed_ctor, placed_subs}
 use Rattle.pattern_arena.proofs.TreeFacts.{tree_out}
@@ -85,17 +86,26 @@ module _ {T : Type 0} (f : ℕ → Bool) (choice : Bool) where
         go true false u = cc
         go false b u = refl
 
--- the patterns below an or-pattern are a choice where they are two or more
-pub several_or : {T : Type 0} (p : DePat T) → placed_ctor p ≡ OrCtor → nat_lt 1 (length (placed_subs p)) ≡ is_choice (placed_ctor p) (de_pats_of (map tree (placed_subs p)))
-several_or {T} p e = subst (λ c. nat_lt 1 (length (placed_subs p)) ≡ is_choice c (de_pats_of (map tree (placed_subs p)))) (sym e) (go (placed_subs p))
+-- two or more patterns below another are a choice where that is an or-pattern, and fewer are none
+pub several_told : {T : Type 0} (p : DePat T) → 1 < length (placed_subs p) → is_or_ctor (placed_ctor p) ≡ is_choice (placed_ctor p) (de_pats_of (map tree (placed_subs p)))
+several_told {T} p = go (placed_ctor p) (placed_subs p)
   where
-    several : (x y : DePat T) (ps : List (DePat T)) → nat_lt 1 (length (x ∷ y ∷ ps)) ≡ true
-    several x y ps = grind arith
+    go : (c : MCtor) (ps : List (DePat T)) → 1 < length ps → is_or_ctor c ≡ is_choice c (de_pats_of (map tree ps))
+    go OrCtor [] l = absurd (omega arith)
+    go OrCtor (x ∷ []) l = absurd (omega arith)
+    go OrCtor (x ∷ y ∷ ps) l = refl
+    go _ ps l = refl
 
-    go : (ps : List (DePat T)) → nat_lt 1 (length ps) ≡ is_choice OrCtor (de_pats_of (map tree ps))
-    go [] = refl
-    go (x ∷ []) = refl
-    go (x ∷ y ∷ ps) = several x y ps
+pub few_told : {T : Type 0} (p : DePat T) → length (placed_subs p) ≤ 1 → false ≡ is_choice (placed_ctor p) (de_pats_of (map tree (placed_subs p)))
+few_told {T} p = go (placed_ctor p) (placed_subs p)
+  where
+    go : (c : MCtor) (ps : List (DePat T)) → length ps ≤ 1 → false ≡ is_choice c (de_pats_of (map tree ps))
+    go OrCtor [] l = refl
+    go OrCtor (x ∷ []) l = refl
+    go OrCtor (x ∷ y ∷ ps) l = absurd (omega arith)
+    go _ ps l = refl
+
+pub ruleset choices = (several_told, few_told)
 
 -- all of no alternatives are marked
 pub none_left : {T : Type 0} (f : ℕ → Bool) (choice : Bool) (subs : List (DePat T)) (i : ℕ) → length subs ≤ i → list_all f (choices_listed choice (map tree (drop i subs))) ≡ true

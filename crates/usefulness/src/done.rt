@@ -3,6 +3,8 @@ ghost use Rattle.std.specs.Prelude.{◌≡◌, ◌&&◌, not, map};
 ghost use Rattle.std.specs.List.{list_all};
 ghost use Rattle.match_model.specs.ArenaPatterns.{de_pats_of};
 ghost use Rattle.match_model.specs.Numbering.{is_choice};
+ghost use Rattle.match_model.specs.Rows.{is_or_ctor};
+ghost use Rattle.pat_context.specs.Views.{plain_ctor};
 ghost use Rattle.pattern_arena.specs.Trees.{tree, placed_ctor, placed_subs};
 ghost use Rattle.pattern_matrix.specs.Views.{plain_row, plain_heads};
 ghost use Rattle.pattern_matrix.specs.Counting.{through_alternative};
@@ -28,13 +30,26 @@ pub(crate) fn are_marked(marks: &Marks, arm: u32, ids: &[u64]) -> bool
     true
 }
 
-// Tells whether the pattern is an or-pattern of two or more alternatives.
+// Tells whether the constructor is an or-pattern.
+fn is_or(ctor: &Ctor) -> bool
+    ensures { result ≡ is_or_ctor (plain_ctor ctor.now) }
+{
+    match ctor {
+        Ctor::Or => true,
+        _ => false,
+    }
+}
+
+// Tells whether the pattern is an or-pattern of two or more alternatives. Most patterns have none below them, so that is asked
+// first.
+#[tactic(auto, using(crate::proofs::Settled::choices))]
 fn is_choice<'a, T: Copy>(p: &'a DePat<'a, T>) -> bool
     ensures { result ≡ is_choice (placed_ctor p.now) (de_pats_of (map tree (placed_subs p.now))) }
 {
-    match p.ctor {
-        Ctor::Or => p.subs.len() > 1,
-        _ => false,
+    if p.subs.len() > 1 {
+        is_or(&p.ctor)
+    } else {
+        false
     }
 }
 

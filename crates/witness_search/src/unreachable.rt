@@ -26,11 +26,12 @@ fn is_or(ctor: &Ctor) -> bool
     }
 }
 
-// Tells whether the patterns below are alternatives of which one is chosen: those of an or-pattern with several.
+// Tells whether the patterns below are alternatives of which one is chosen: those of an or-pattern with several. Most patterns
+// have none below them, so that is asked first.
 fn is_choice<'a, T: Copy>(p: &'a DePat<'a, T>) -> bool
     ensures { result ≡ (is_or_ctor (placed_ctor p.entry.now) && nat_lt 1 (length (placed_subs p.entry.now))) }
 {
-    is_or(&p.ctor) && p.subs.len() > 1
+    p.subs.len() > 1 && is_or(&p.ctor)
 }
 
 // Tells whether the pattern is an alternative to which no value comes.
