@@ -23,7 +23,7 @@ use slice_split::Shape;
 use std::alloc::Global;
 
 // So many leaves are a list whose memory matters.
-const MANY: usize = 65_536;
+pub(crate) const MANY: usize = 65_536;
 
 // In such a list so many of the constructors that were kept last are looked at for the same one.
 const NEAR: usize = 16;

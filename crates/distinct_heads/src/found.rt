@@ -10,11 +10,11 @@ ghost use Rattle.pattern_matrix.specs.Halving.{leaf_ctors};
 ghost use Rattle.pattern_matrix.specs.Parts.{plain_spans};
 ghost use Rattle.pattern_matrix.specs.Views.{plain_leaves};
 
-use crate::distinct::distinct_ctors;
+use crate::distinct::{MANY, distinct_ctors};
 use constructor_sets::{Piece, PresentPieces, Span, present, split_column};
 use no_memory::NoMemory;
 use pat_context::PatCx;
-use pattern_matrix::{Column, Leaf, is_wild_leaf};
+use pattern_matrix::{Column, Leaf, is_wild_leaf, leaf_ctors};
 use std::alloc::Global;
 
 /// Tells whether all leaves are wildcards, so that none has a constructor.
@@ -56,6 +56,41 @@ fn spans_at(alloc: Global, spans: &[Span], numbers: &[usize]) -> Result<Vec<Span
 /// The column's type is one of the context's, and each constructor of a leaf is one of the type's set that a pattern can
 /// have. The only error is want of memory.
 pub fn leaf_pieces<'a, C: PatCx>(
+    alloc: Global,
+    cx: &C,
+    column: &Column<C::Ty>,
+    leaves: &[Leaf<'a, C::Ty>],
+) -> Result<PresentPieces<'a>, NoMemory>
+    requires ty { C.is_type cx.now column.now.ty }
+    requires heads { All (λ h. IsTrue (is_sharp_head ((C.context cx.now).set_of column.now.ty) h)) (leaf_ctors (plain_leaves leaves.now)) }
+    ensures { IfOk result (λ p. ArePresent (C.is_value cx.now) (C.context cx.now) (plain_column column.now) (leaf_ctors (plain_leaves leaves.now))
+        (plain_ctors p.ctors.items) p.missing (plain_ctors p.gaps.items) (map plain_span p.spans.items)) }
+{
+    if leaves.len() < MANY {
+        pieces_of_few(alloc, cx, column, leaves)
+    } else {
+        pieces_of_many(alloc, cx, column, leaves)
+    }
+}
+
+// The same, by a list of all constructors.
+fn pieces_of_few<'a, C: PatCx>(
+    alloc: Global,
+    cx: &C,
+    column: &Column<C::Ty>,
+    leaves: &[Leaf<'a, C::Ty>],
+) -> Result<PresentPieces<'a>, NoMemory>
+    requires ty { C.is_type cx.now column.now.ty }
+    requires heads { All (λ h. IsTrue (is_sharp_head ((C.context cx.now).set_of column.now.ty) h)) (leaf_ctors (plain_leaves leaves.now)) }
+    ensures { IfOk result (λ p. ArePresent (C.is_value cx.now) (C.context cx.now) (plain_column column.now) (leaf_ctors (plain_leaves leaves.now))
+        (plain_ctors p.ctors.items) p.missing (plain_ctors p.gaps.items) (map plain_span p.spans.items)) }
+{
+    let heads = leaf_ctors(alloc, leaves)?;
+    present(alloc, cx, column.ty, column.validity, &heads)
+}
+
+// The same, by a list from which a constructor that stands near the same one is left out.
+fn pieces_of_many<'a, C: PatCx>(
     alloc: Global,
     cx: &C,
     column: &Column<C::Ty>,

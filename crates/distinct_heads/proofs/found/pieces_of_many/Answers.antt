@@ -13,7 +13,7 @@ use Rattle.pattern_matrix.specs.Views.{plain_leaves}
 use Rattle.distinct_heads.proofs.Members.{all_same}
 use Rattle.distinct_heads.proofs.SameHeads.{found_same}
 use Rattle.distinct_heads.proofs.Keeping.{within_spans, spans_of_all}
-use Rattle.distinct_heads.proofs.found.leaf_pieces.Goals as goal
+use Rattle.distinct_heads.proofs.found.pieces_of_many.Goals as goal
 
 pub present-requires-clause-heads : goal.present-requires-clause-heads
 present-requires-clause-heads g c =
