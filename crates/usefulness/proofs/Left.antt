@@ -139,3 +139,25 @@ nothing_listed IsValue scope a apart m cx piece missing enter enough =
     let os = parts_open cx (apart_place a) piece in
     let count = cx.arity piece a.taken.column.ty in
     none_enough IsValue scope a apart m cx piece missing enter (numbered_from a.next os) (numbers_from a.next os ∙ ap (columns_from a.next) (length-below (part_open cx (apart_place a) piece) count)) (places_from a.next os) (enough count)
+
+-- a piece of whose leaves no row stays was listed, though none of its columns was opened
+pub piece_over : {T : Type 0} (IsValue : T → Bool → MValue → Type 0) (scope : Scope T) (a : Apart T) → IsApart scope a → (old : Question → Bool) (m : Reached T) (l : Listing T) (cx : Context T) (piece : MCtor) (missing : Bool) →
+    IsEnterable IsValue cx a piece → (some : List (SparseLeaf T)) → l.end ≡ 0 →
+    StandFor old (length (columns_from a.next (cx.arity piece a.taken.column.ty) ++ other_numbers a))
+    (asked_views (columns_from a.next (cx.arity piece a.taken.column.ty) ++ other_numbers a) (opened missing a.taken.number a.next (cx.arity piece a.taken.column.ty) (apart_rows a) (filter (λ h. head_has piece h.head) (apart_leaves a))))
+    (asked_views (columns_from a.next (cx.arity piece a.taken.column.ty) ++ other_numbers a) (opened missing a.taken.number a.next (cx.arity piece a.taken.column.ty) (apart_rows a) some)) →
+    IsListed scope old m (columns_from a.next (cx.arity piece a.taken.column.ty) ++ other_numbers a) (opened missing a.taken.number a.next (cx.arity piece a.taken.column.ty) (apart_rows a) some) l →
+    IsListedAs IsValue old (is_noted m) (piece_view cx a missing piece) []
+piece_over IsValue scope a apart old m l cx piece missing enter some none d i =
+    let os = parts_open cx (apart_place a) piece in
+    let count = cx.arity piece a.taken.column.ty in
+    let opens = numbered_from a.next os in
+    let numbered = numbers_from a.next os ∙ ap (columns_from a.next) (length-below (part_open cx (apart_place a) piece) count) in
+    let placed = places_from a.next os in
+    let kept = plain_askeds l.rows.items in
+    let through = opened missing a.taken.number a.next count (apart_rows a) some in
+    let shown_all = shown IsValue scope a apart old cx piece missing enter opens numbered placed in
+    stood IsValue scope a apart old cx piece missing enter opens numbered placed (is_noted m) some [] d
+    (subst (λ n. IsListedAs IsValue old (is_noted m) (sub_view shown_all through) (subs_of shown_all (take n kept))) none
+    (listing_ends IsValue old (is_noted m) shown_all through kept (some_shown IsValue scope a apart old cx piece missing enter opens numbered placed) l.closed l.end
+    (subst (λ ns. IsListing old (is_noted m) ns through kept l.closed) (sym (shown_numbers IsValue scope a apart old cx piece missing enter opens numbered placed)) i.listed) i.kept.end))

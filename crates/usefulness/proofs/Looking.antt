@@ -159,6 +159,21 @@ module _ {T : Type 0} (IsValue : T → Bool → MValue → Type 0) where
     listed = swapped then (s ∷ []) left others new (listed_both then (s ∷ []) left others new (listed_later now then (s ∷ []) others b.grow a.listed) b.listed);
   }
 
+  -- some are listed before others, and stand behind them
+  pub both_listed : (old now then : Question → Bool) (left new more others : List (Submatrix T)) → AreAllListed IsValue old now left new → AreAllListed IsValue now then more others →
+      AreAllListed IsValue old then (more ++ left) (others ++ new)
+  both_listed old now then left new more others a b = record {
+    grow = λ q m. b.grow q (a.grow q m);
+    right = λ q m. elim (b.right q m) [
+      | inl k ↦ elim (a.right q k) [
+        | inl o ↦ inl o
+        | inr (n, i, c) ↦ inr (n, in_right more left n i, c)
+      ]
+      | inr (n, i, c) ↦ inr (n, in_left more left n i, c)
+    ];
+    listed = listed_both then more left others new b.listed (listed_later now then left new b.grow a.listed);
+  }
+
   -- one more is
   pub one_listed : (old now then : Question → Bool) (left new others : List (Submatrix T)) (s : Submatrix T) → AreAllListed IsValue old now left new → IsListedAs IsValue now then s others →
       AreAllListed IsValue old then (left ++ s ∷ []) (new ++ others)

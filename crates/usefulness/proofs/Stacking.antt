@@ -1,5 +1,5 @@
 -- Entries of the stack of a search, and what they stand for.
-use Rattle.std.proofs.Common.{◌≡◌, ◌≤◌, ◌<◌, ℕ, zero, suc, ◌+◌, ◌-◌, ◌^◌, Bool, true, false, List, [], ◌∷◌, ◌++◌, map, cond, filter, length, get_or, Option, Some, None, slice_get, refl, ap, sym, subst, ◌∙◌, arith, append-nil, append_assoc}
+use Rattle.std.proofs.Common.{◌≡◌, ◌≤◌, ◌<◌, ℕ, zero, suc, ◌+◌, ◌-◌, ◌*◌, ◌^◌, Bool, true, false, List, [], ◌∷◌, ◌++◌, map, cond, filter, length, get_or, Option, Some, None, slice_get, refl, ap, sym, subst, ◌∙◌, arith, append-nil, append_assoc}
 use Rattle.std.proofs.lemmas.List.{map-append, length-map, length-append}
 use Rattle.std.proofs.lemmas.List.Elements.{All-nil, All-cons, All-head, All-tail, All-append}
 use Rattle.std.proofs.lemmas.Grind.{flat_map-append}
@@ -19,7 +19,7 @@ use Rattle.pattern_matrix.specs.Halving.{AreLeafSpans, leaves_with}
 use Rattle.pattern_matrix.specs.Parts.{plain_spans, pieces_in}
 use Rattle.pattern_matrix.specs.Sparse.{columns_from, head_has, leaves_listed}
 use Rattle.pattern_matrix.specs.Counting.{Question}
-use Rattle.pattern_matrix.specs.Searching.{Submatrix, weight_of, work}
+use Rattle.pattern_matrix.specs.Searching.{Submatrix, weight_of, power, work}
 use Rattle.pattern_matrix.proofs.HandingOn.{here, in_cons}
 use Rattle.pattern_matrix.proofs.ListedRows.{part_weighs}
 use Rattle.pattern_matrix.proofs.SearchSteps.{work_falls, work_less}
@@ -32,9 +32,9 @@ use Rattle.usefulness.specs.declared.frames.Todo.TheVariants.{Rows, Pieces}
 use Rattle.usefulness.specs.Scope.{Scope}
 use Rattle.usefulness.specs.Cutting.{AreEnough, IsCutPart, parts_left, HasNothing, IsCutOff}
 use Rattle.usefulness.specs.Listing.{IsListedAs, AreAllListed}
-use Rattle.usefulness.specs.Stack.{ctors_at, pending_views, todo_view, todo_views, IsPending, IsFresh, IsTodo, some_parts, more_of, opened_todo, opened_views, IsOpened, AreMadeOf, IsNext, IsTaken}
+use Rattle.usefulness.specs.Stack.{ctors_at, pending_views, todo_view, todo_views, IsPending, IsFresh, IsTodo, some_parts, more_of, opened_todo, opened_views, IsOpened, AreMadeOf, IsEntered, IsPut, IsTaken}
 use Rattle.usefulness.specs.States.{frame_view, child_views, IsGood, IsApart, IsEnterable, apart_leaves, piece_view}
-use Rattle.usefulness.proofs.Looking.{stand_later, none_listed, first_listed, single_listed}
+use Rattle.usefulness.proofs.Looking.{stand_later, none_listed, first_listed, single_listed, both_listed}
 use Rattle.usefulness.proofs.Cuts.{cut_later}
 use Rattle.usefulness.proofs.Left.{nothing_listed}
 use Rattle.usefulness.proofs.Pieces.{read_at, piece_leaves}
@@ -139,6 +139,26 @@ gone_less b others (m ∷ new) s rest l made w =
     let less = work_falls b [] others s l (λ n i. let k = made.1 m n (here m new) i in omega (arith, k, weigh)) in
     omega (arith, less)
 
+times_more : (a b c : ℕ) → b ≤ c → a * b ≤ a * c
+times_more zero b c h = omega arith
+times_more (suc a) b c h = let k : a * b ≤ a * c = times_more a b c h in omega (arith, k, h)
+
+power_some : (b n : ℕ) → 0 < b → 1 ≤ power b n
+power_some b zero h = omega arith
+power_some b (suc n) h = let k = power_some b n h in let m = times_more b 1 (power b n) k in omega (arith, m, h)
+
+power_more : (b n m : ℕ) → 0 < b → n ≤ m → power b n ≤ power b m
+power_more b zero m h l = power_some b m h
+power_more b (suc n) zero h l = absurd (omega (arith, l))
+power_more b (suc n) (suc m) h l = times_more b (power b n) (power b m) (power_more b n m h (omega (arith, l)))
+
+-- rows that stand for a submatrix are no more to do than that and others
+child_kept : {T : Type 0} (b : ℕ) (o : Option (Frame T)) (s : Submatrix T) (rest : List (Submatrix T)) → 0 < b → ((m : Submatrix T) → Contains (child_views o) m → weight_of m ≤ weight_of s) → work b (child_views o) ≤ work b (s ∷ rest)
+child_kept b None s rest l w = omega arith
+child_kept b (Some f) s rest l w =
+    let more = power_more b (weight_of (frame_view f)) (weight_of s) l (w (frame_view f) (here (frame_view f) [])) in
+    omega (arith, more)
+
 pub listed_weighs : {T : Type 0} (IsValue : T → Bool → MValue → Type 0) (old now : Question → Bool) (s : Submatrix T) (new : List (Submatrix T)) → IsListedAs IsValue old now s new → (m : Submatrix T) → Contains new m → weight_of m ≤ weight_of s
 listed_weighs IsValue old now s new l m i =
     let (n, j, e, d) = l.listed.of_left m i in
@@ -200,43 +220,40 @@ module _ {T : Type 0} (IsType : T → Type 0) (IsValue : T → Bool → MValue �
         (nothing_later old now ks grow (All-tail (HasNothing old missing a spans) k ks none))
 
     -- the piece that was found was listed, and is gone with those that were passed over
-    pub some_next : (old now : Question → Bool) (before after : List ℕ) (found : PieceLeaves) (c : Ctor) (new : List (Submatrix T)) → IsCutOff old missing a spans before after (Some found) → All (λ k. k < length ctors) before →
-        c ≡ get_or ctors found.piece c → IsListedAs IsValue old now (piece_view cx a missing (plain_ctor c)) new → IsNext IsValue old now (views before) (views after) new
-    some_next old now before after found c new off within e l =
+    pub some_entered : (old now : Question → Bool) (before after : List ℕ) (found : PieceLeaves) (c : Ctor) (o : Option (Frame T)) → IsCutOff old missing a spans before after (Some found) → All (λ k. k < length ctors) before →
+        c ≡ get_or ctors found.piece c → IsListedAs IsValue old now (piece_view cx a missing (plain_ctor c)) (child_views o) → IsEntered IsValue old now (views before) (views after) (child_views o)
+    some_entered old now before after found c o off within e l =
         let piece = found.piece in
         let gone_within = back_all (λ k. k < length ctors) after (piece ∷ off.passed) (subst (All (λ k. k < length ctors)) off.split within) in
         let below = All-head (λ k. k < length ctors) piece off.passed gone_within in
         let view = piece_view cx a missing (plain_ctor c) in
+        let weighs = listed_weighs IsValue old now view (child_views o) l in
         record {
-          stay = views after;
           gone = view ∷ views off.passed;
-          back = [];
           before_is = ap views off.split ∙ views_append after (piece ∷ off.passed) ∙ ap (λ ys. views after ++ ys) (one_view piece off.passed c below e);
-          after_is = sym (append-nil (views after));
-          listed = first_listed IsValue old now now view (views off.passed) new [] l
+          listed = first_listed IsValue old now now view (views off.passed) (child_views o) [] l
               (nothing_new now off.passed (nothing_later old now off.passed l.grow off.nothing) (All-tail (λ k. k < length ctors) piece off.passed gone_within));
-          less = λ b others long made. gone_less b others new view (views off.passed) long made (listed_weighs IsValue old now view new l);
+          kept = λ b some. child_kept b o view (views off.passed) some weighs;
+          less = λ b others long made. gone_less b others (child_views o) view (views off.passed) long made weighs;
         }
 
     -- none was found
-    pub none_next : (m : Question → Bool) (before after : List ℕ) → IsCutOff m missing a spans before after None → All (λ k. k < length ctors) before → 0 < length before → after ≡ [] → IsNext IsValue m m (views before) (views after) []
-    none_next m before after off within some none =
+    pub none_entered : (m : Question → Bool) (before after : List ℕ) → IsCutOff m missing a spans before after None → All (λ k. k < length ctors) before → 0 < length before → after ≡ [] → IsEntered IsValue m m (views before) (views after) []
+    none_entered m before after off within some none =
         let passed : before ≡ off.passed = off.split ∙ ap (λ ys. ys ++ off.passed) none in
         go off.passed (subst (All (HasNothing m missing a spans)) refl off.nothing) (subst (All (λ k. k < length ctors)) passed within) (subst (λ ks. 0 < length ks) passed some) passed
       where
-        go : (ks : List ℕ) → All (HasNothing m missing a spans) ks → All (λ k. k < length ctors) ks → 0 < length ks → before ≡ ks → IsNext IsValue m m (views before) (views after) []
+        go : (ks : List ℕ) → All (HasNothing m missing a spans) ks → All (λ k. k < length ctors) ks → 0 < length ks → before ≡ ks → IsEntered IsValue m m (views before) (views after) []
         go [] nothing within some e = absurd (omega (arith, some))
         go (k ∷ ks) nothing within some e =
             let below = All-head (λ k. k < length ctors) k ks within in
             let (c, d) = some_at ctors k below in
             let view = piece_view cx a missing (plain_ctor c) in
             record {
-              stay = [];
               gone = views (k ∷ ks);
-              back = [];
-              before_is = ap views e;
-              after_is = ap views none;
+              before_is = ap views e ∙ sym (ap (λ ys. views ys ++ views (k ∷ ks)) none);
               listed = nothing_new m (k ∷ ks) nothing within;
+              kept = λ b some. omega arith;
               less = λ b others long made.
                   subst (λ ys. work b others < work b ys) (sym (one_view k ks c below d)) (gone_less b others [] view (views ks) long made (λ m (j, h, e). absurd (omega (arith, h))));
             }
@@ -278,16 +295,6 @@ module _ {T : Type 0} (IsType : T → Type 0) (IsValue : T → Bool → MValue �
     };
   }
 
-  -- a column of which a piece was entered
-  pub pieces_taken : (old now : Question → Bool) (p q : Pending T) (before after : List (Todo T)) (new : List (Submatrix T)) → IsNext IsValue old now (pending_views cx p) (pending_views cx q) new → IsPending IsType IsValue cx scope now q →
-      after ≡ before ++ more_of q → IsTaken IsType IsValue cx scope old now (Pieces p) before after new
-  pieces_taken old now p q before after new n h e = record {
-    back = more_of q;
-    are = e;
-    good = more_good now q h;
-    next = subst (λ ss. IsNext IsValue old now (pending_views cx p) ss new) (sym (more_views q)) n;
-  }
-
   -- rows alone
   pub rows_views : (w : Option (Frame T)) → todo_views cx (map Rows (option_to_list w)) ≡ child_views w
   rows_views None = refl
@@ -296,6 +303,60 @@ module _ {T : Type 0} (IsType : T → Type 0) (IsValue : T → Bool → MValue �
   pub rows_good : (m : Question → Bool) (w : Option (Frame T)) → IfSome w (λ f. IsGood scope f) → All (IsTodo IsType IsValue cx scope m) (map Rows (option_to_list w))
   rows_good m None h = All-nil (IsTodo IsType IsValue cx scope m)
   rows_good m (Some f) h = All-cons (IsTodo IsType IsValue cx scope m) (Rows f) [] h (All-nil (IsTodo IsType IsValue cx scope m))
+
+  -- what is left of a column was put back as it was
+  pub column_put : (m : Question → Bool) (p : Pending T) (before after : List (Todo T)) → IsPending IsType IsValue cx scope m p → after ≡ before ++ more_of p → IsPut IsType IsValue cx scope m m (pending_views cx p) before after
+  column_put m p before after h e = record {
+    back = more_of p;
+    are = e;
+    good = more_good m p h;
+    stay = pending_views cx p;
+    gone = [];
+    new = [];
+    left_is = sym (append-nil (pending_views cx p));
+    back_is = more_views p ∙ sym (append-nil (pending_views cx p));
+    listed = none_listed IsValue m;
+    kept = λ b some. omega arith;
+  }
+
+  -- and so were rows of one of its pieces, which was entered
+  pub rows_put : (old now : Question → Bool) (p q : Pending T) (o : Option (Frame T)) (before between after : List (Todo T)) → IsEntered IsValue old now (pending_views cx p) (pending_views cx q) (child_views o) →
+      IsPending IsType IsValue cx scope now q → IfSome o (λ f. IsGood scope f) → between ≡ before ++ more_of q → after ≡ between ++ map Rows (option_to_list o) → IsPut IsType IsValue cx scope old now (pending_views cx p) before after
+  rows_put old now p q o before between after n h good d e = record {
+    back = more_of q ++ map Rows (option_to_list o);
+    are = e ∙ ap (λ ys. ys ++ map Rows (option_to_list o)) d ∙ append_assoc before (more_of q) (map Rows (option_to_list o));
+    good = All-append (IsTodo IsType IsValue cx scope now) (more_of q) (map Rows (option_to_list o)) (more_good now q h) (rows_good now o good);
+    stay = pending_views cx q;
+    gone = n.gone;
+    new = child_views o;
+    left_is = n.before_is;
+    back_is = flat_map-append (todo_view cx) (more_of q) (map Rows (option_to_list o)) ∙ ap (λ ys. ys ++ todo_views cx (map Rows (option_to_list o))) (more_views q) ∙ ap (λ ys. pending_views cx q ++ ys) (rows_views o);
+    listed = n.listed;
+    kept = n.kept;
+  }
+
+  -- a column of which a piece was entered, and what else is left of it was put back
+  pub pieces_taken : (old mid now : Question → Bool) (p q : Pending T) (before after : List (Todo T)) (new : List (Submatrix T)) → IsEntered IsValue old mid (pending_views cx p) (pending_views cx q) new →
+      IsPut IsType IsValue cx scope mid now (pending_views cx q) before after → IsTaken IsType IsValue cx scope old now (Pieces p) before after new
+  pieces_taken old mid now p q before after new n h = record {
+    back = h.back;
+    are = h.are;
+    good = h.good;
+    next = record {
+      stay = h.stay;
+      gone = h.gone ++ n.gone;
+      back = h.new;
+      before_is = n.before_is ∙ ap (λ ys. ys ++ n.gone) h.left_is ∙ append_assoc h.stay h.gone n.gone;
+      after_is = h.back_is;
+      listed = both_listed IsValue old mid now n.gone new h.gone h.new n.listed h.listed;
+      less = λ b others long made.
+          let less = n.less b others long made in
+          let kept = h.kept b (omega (arith, long)) in
+          let more = work_both b h.new others in
+          let all = work_both b h.gone n.gone in
+          omega (arith, less, kept, more, all);
+    };
+  }
 
   -- what is left of rows, as entries
   pub opened_are : (o : Opened T) → todo_views cx (opened_todo o) ≡ opened_views cx o

@@ -106,6 +106,27 @@ pub record IsNext {T : Type 0} (IsValue : T → Bool → MValue → Type 0) (old
   pub listed : AreAllListed IsValue old now gone (back ++ new)
   pub less : (b : ℕ) (others : List (Submatrix T)) → length others < b → AreMadeOf others new → work b (back ++ others) < work b gone
 
+-- what is gone at the end stands in new ones; these are no more to do, and what comes of them is less
+pub record IsEntered {T : Type 0} (IsValue : T → Bool → MValue → Type 0) (old now : Question → Bool) (before after new : List (Submatrix T)) : Type 0 where
+  pub gone : List (Submatrix T)
+  pub before_is : before ≡ after ++ gone
+  pub listed : AreAllListed IsValue old now gone new
+  pub kept : (b : ℕ) → 0 < b → work b new ≤ work b gone
+  pub less : (b : ℕ) (others : List (Submatrix T)) → length others < b → AreMadeOf others new → work b others < work b gone
+
+-- what was left of a column was put back: some of it as it was, and for the rest rows that stand for it and are no more to do
+pub record IsPut {T : Type 0} (IsType : T → Type 0) (IsValue : T → Bool → MValue → Type 0) (cx : Context T) (scope : Scope T) (old now : Question → Bool) (left : List (Submatrix T)) (before after : List (Todo T)) : Type 0 where
+  pub back : List (Todo T)
+  pub are : after ≡ before ++ back
+  pub good : All (IsTodo IsType IsValue cx scope now) back
+  pub stay : List (Submatrix T)
+  pub gone : List (Submatrix T)
+  pub new : List (Submatrix T)
+  pub left_is : left ≡ stay ++ gone
+  pub back_is : todo_views cx back ≡ stay ++ new
+  pub listed : AreAllListed IsValue old now gone new
+  pub kept : (b : ℕ) → 0 < b → work b new ≤ work b gone
+
 -- the entry was taken from the end of the stack, some of it may be back, and what is new stands for the rest
 pub record IsTaken {T : Type 0} (IsType : T → Type 0) (IsValue : T → Bool → MValue → Type 0) (cx : Context T) (scope : Scope T) (old now : Question → Bool) (entry : Todo T) (before after : List (Todo T)) (new : List (Submatrix T)) : Type 0 where
   pub back : List (Todo T)

@@ -67,7 +67,7 @@ fn kept_columns<T: Copy>(
 ) -> Result<Vec<OpenColumn<T>>, NoMemory>
     ensures { IfOk result (λ v. plain_opens v.items ≡ used_of (λ c. slice_index_or used.now c false) (plain_opens columns.now)) }
 {
-    let mut kept = Vec::new(alloc);
+    let mut kept = Vec::with_capacity(alloc, columns.len())?;
     for column in columns {
         add_used(&mut kept, used, column)?;
     }

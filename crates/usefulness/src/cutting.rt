@@ -107,7 +107,7 @@ fn meets(span: &Span, first: usize, end: usize) -> bool
 }
 
 // Tells whether the span has all pieces from the first to before the end.
-fn covers(span: &Span, first: usize, end: usize) -> bool
+pub(crate) fn covers(span: &Span, first: usize, end: usize) -> bool
     ensures { result ≡ (nat_le span.now.first first && nat_le end span.now.end) }
 {
     span.first <= first && end <= span.end
@@ -205,7 +205,7 @@ fn cut<'a, T: Copy>(
     requires within { All (λ k. k < length spans.now) part.now.leaves.items }
     ensures { IfOk result (λ v. IsCutSoFar (is_noted reached.now) missing a.now spans.now part.now.first part.now.end part.now.leaves.items v.items) }
 {
-    let mut kept = Vec::new(alloc);
+    let mut kept = Vec::with_capacity(alloc, part.leaves.len())?;
     for k in &part.leaves {
         let last = cut_one(reached, a, spans, part, *k, missing, &mut kept)?;
         if last {

@@ -17,23 +17,24 @@ ghost use Rattle.usefulness.specs.Listing.{IsListedAs};
 ghost use Rattle.usefulness.specs.States.{plain_opens, plain_asked, child_views, IsGood, IsKept, IsListed, IsApart, IsEnterable, other_numbers, apart_rows, apart_leaves, apart_place, piece_view, is_noted, scope_of};
 
 use crate::frames::{Apart, Asked, Frame, Listing, OpenColumn, Reached};
-use crate::listing::{finish, list_row, none_listed};
+use crate::listing::{finish, list_row, room_listed};
 use no_memory::NoMemory;
-use pat_context::{Ctor, PatCx};
+use pat_context::{Ctor, PatCx, count_parts};
 use pattern_matrix::{Column, Leaf, is_wild_leaf, open_columns, opened_row};
 use std::alloc::Global;
 
-// The columns with numbers from the first on.
+// The columns with numbers from the first on, and room for more behind them.
 fn number_columns<T: Copy>(
     alloc: Global,
     columns: &[Column<T>],
     first: usize,
+    room: usize,
 ) -> Result<Vec<OpenColumn<T>>, NoMemory>
     requires { first + length columns.now < 2 ^ 64 }
     ensures numbers { IfOk result (λ v. numbers (plain_opens v.items) ≡ columns_from first (length columns.now)) }
     ensures places { IfOk result (λ v. places (plain_opens v.items) ≡ plain_columns columns.now) }
 {
-    let mut numbered = Vec::with_capacity(alloc, columns.len())?;
+    let mut numbered = Vec::with_capacity(alloc, columns.len().saturating_add(room))?;
     for (i, column) in columns.iter().enumerate() {
         numbered.push(OpenColumn {
             number: first + i,
@@ -62,7 +63,7 @@ fn part_columns<'a, C: PatCx>(
     open_columns(cx, &mut columns, &a.taken.column, piece)?;
     match a.next.checked_add(columns.len()) {
         None => Err(NoMemory),
-        Some(_end) => number_columns(alloc, &columns, a.next),
+        Some(_end) => number_columns(alloc, &columns, a.next, a.others.len()),
     }
 }
 
@@ -135,7 +136,7 @@ fn opened_listing<'a, T: Copy>(
     ensures { IfOk result (λ l. IsListed (scope_of reached.old) (is_noted reached.old) reached.new (columns_from a.now.next count ++ other_numbers a.now)
         (opened missing a.now.taken.number a.now.next count (apart_rows a.now) (leaves_listed (apart_leaves a.now) leaves.now)) l) }
 {
-    let mut listing = none_listed(alloc);
+    let mut listing = room_listed(alloc, leaves.len())?;
     for k in leaves {
         list_opened(
             alloc,
@@ -150,7 +151,19 @@ fn opened_listing<'a, T: Copy>(
     Ok(listing)
 }
 
+// The number behind so many columns from the next one on.
+fn number_behind(next: usize, count: usize) -> Result<usize, NoMemory>
+    ensures number { IfOk result (λ n. n ≡ next + count) }
+    ensures fits { OnOk result (next + count < 2 ^ 64) }
+{
+    match next.checked_add(count) {
+        None => Err(NoMemory),
+        Some(number) => Ok(number),
+    }
+}
+
 // What is left where the value at the column is of the piece: the rows of leaves that are enough, which have these numbers.
+// Columns are opened only where some row is left.
 pub(crate) fn piece_child<'a, C: PatCx>(
     alloc: Global,
     cx: &C,
@@ -171,9 +184,13 @@ pub(crate) fn piece_child<'a, C: PatCx>(
     ensures listed { IfOk result (λ o. IsListedAs (C.is_value cx.now) (is_noted reached.old) (is_noted reached.new)
         (piece_view (C.context cx.now) a.now missing (plain_ctor piece.now)) (child_views o)) }
 {
-    let mut columns = part_columns(alloc, cx, a, piece)?;
-    let count = columns.len();
+    let count = count_parts(cx, piece, a.taken.column.ty);
+    let end = number_behind(a.next, count)?;
     let listing = opened_listing(alloc, reached, a, leaves, count, missing)?;
+    if listing.end == 0 {
+        return Ok(None);
+    }
+    let mut columns = part_columns(alloc, cx, a, piece)?;
     columns.extend_from_slice(&a.others)?;
-    Ok(finish(listing, columns, a.next + count))
+    Ok(finish(listing, columns, end))
 }

@@ -12,20 +12,10 @@ use crate::frames::{Asked, Frame, Listing, OpenColumn, Reached};
 use no_memory::NoMemory;
 use std::alloc::Global;
 
-// No rows.
-pub(crate) fn none_listed<'a, T: Copy>(alloc: Global) -> Listing<'a, T>
-    ensures rows { plain_askeds result.rows.items ≡ [] }
-    ensures closed { result.closed ≡ false }
-    ensures kept { IsKept result }
-{
-    Listing {
-        rows: Vec::new(alloc),
-        end: 0,
-        closed: false,
-    }
-}
+// Room for so few rows is taken only once one is kept: often none is.
+const FEW: usize = 4;
 
-// The same, with room for so many.
+// No rows yet, and room for so many.
 pub(crate) fn room_listed<'a, T: Copy>(
     alloc: Global,
     room: usize,
@@ -34,8 +24,9 @@ pub(crate) fn room_listed<'a, T: Copy>(
     ensures closed { IfOk result (λ l. l.closed ≡ false) }
     ensures kept { IfOk result (λ l. IsKept l) }
 {
+    let at_once = if room > FEW { room } else { 0 };
     Ok(Listing {
-        rows: Vec::with_capacity(alloc, room)?,
+        rows: Vec::with_capacity(alloc, at_once)?,
         end: 0,
         closed: false,
     })

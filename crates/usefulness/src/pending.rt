@@ -1,17 +1,19 @@
 // Pieces of columns, which are entered one by one.
-ghost use Rattle.std.specs.Prelude.{◌≡◌, ◌<◌, ◌++◌, length, map, IfOk, OnOk, IfSome};
+ghost use Rattle.std.specs.Prelude.{◌≡◌, ◌<◌, ◌++◌, true, length, map, IfOk, OnOk, IfSome};
 ghost use Rattle.std.specs.List.{Contains, flat_map};
 ghost use Rattle.std.specs.Option.{option_to_list};
 ghost use Rattle.pattern_matrix.specs.Searching.{Submatrix, IsFit};
 ghost use Rattle.usefulness.specs.declared.frames.Todo.TheVariants.{Rows};
-ghost use Rattle.usefulness.specs.Stack.{IsPending, IsNext, IsTaken, IsTodo, more_of, opened_todo, pending_views, todo_view};
+ghost use Rattle.usefulness.specs.Stack.{IsPending, IsEntered, IsPut, IsTaken, IsTodo, more_of, opened_todo, pending_views, todo_view};
 ghost use Rattle.usefulness.specs.States.{child_views, IsGood, is_noted, scope_of};
 
-use crate::cutting::next_cut;
+use crate::cutting::{covers, next_cut};
 use crate::entering::piece_child;
 use crate::frames::{Frame, Opened, Pending, Reached, Todo};
+use constructor_sets::Span;
 use no_memory::NoMemory;
 use pat_context::PatCx;
+use pattern_matrix::Part;
 use std::alloc::Global;
 
 // What is left of the last of the column's pieces of which something new may come, which is taken from these.
@@ -26,7 +28,7 @@ pub(crate) fn next_child<'a, C: PatCx>(
     ensures scope { OnOk result (scope_of reached.new ≡ scope_of reached.old) }
     ensures good { IfOk result (λ o. IfSome o (λ f. IsGood (scope_of reached.old) f)) }
     ensures pending { OnOk result (IsPending (C.is_type cx.now) (C.is_value cx.now) (C.context cx.now) (scope_of reached.old) (is_noted reached.new) p.new) }
-    ensures next { IfOk result (λ o. IsNext (C.is_value cx.now) (is_noted reached.old) (is_noted reached.new) (pending_views (C.context cx.now) p.old) (pending_views (C.context cx.now) p.new) (child_views o)) }
+    ensures next { IfOk result (λ o. IsEntered (C.is_value cx.now) (is_noted reached.old) (is_noted reached.new) (pending_views (C.context cx.now) p.old) (pending_views (C.context cx.now) p.new) (child_views o)) }
 {
     match next_cut(alloc, &mut p.parts, reached, &p.apart, &p.spans, p.missing)? {
         None => Ok(None),
@@ -97,6 +99,56 @@ pub(crate) fn add_opened<'a, T: Copy>(
     add_rows(todo, wild)
 }
 
+// How many of the spans have all pieces of the part.
+fn count_covering(spans: &[Span], part: &Part) -> usize {
+    let mut count = 0usize;
+    for span in spans {
+        if covers(span, part.first, part.end) {
+            count = count.saturating_add(1);
+        }
+    }
+    count
+}
+
+// Tells whether the part is one piece, which less than half of the leaves with these spans have.
+fn is_small(spans: &[Span], part: &Part) -> bool {
+    part.end.saturating_sub(part.first) == 1 && count_covering(spans, part) < spans.len() / 2
+}
+
+// Tells whether one piece alone is left, which less than half of the leaves have.
+fn is_small_rest<'a, T: Copy>(p: &Pending<'a, T>) -> bool
+    ensures { result ≡ true → 0 < length p.now.parts.items }
+{
+    if p.parts.len() == 1 {
+        is_small(&p.spans, &p.parts[0])
+    } else {
+        false
+    }
+}
+
+// Adds what is left of the column. Where that is one piece, and its rows are few beside those that the column keeps, it is
+// entered at once, and the column goes.
+fn add_rest<'a, C: PatCx>(
+    alloc: Global,
+    cx: &C,
+    reached: &mut Reached<'a, C::Ty>,
+    todo: &mut Vec<Todo<'a, C::Ty>>,
+    p: Pending<'a, C::Ty>,
+) -> Result<(), NoMemory>
+    requires { IsPending (C.is_type cx.now) (C.is_value cx.now) (C.context cx.now) (scope_of reached.old) (is_noted reached.old) p }
+    ensures scope { OnOk result (scope_of reached.new ≡ scope_of reached.old) }
+    ensures put { OnOk result (IsPut (C.is_type cx.now) (C.is_value cx.now) (C.context cx.now) (scope_of reached.old) (is_noted reached.old) (is_noted reached.new) (pending_views (C.context cx.now) p.entry) todo.old.items todo.new.items) }
+{
+    if is_small_rest(&p) {
+        let mut p = p;
+        let child = next_child(alloc, cx, reached, &mut p)?;
+        add_pending(todo, p)?;
+        add_rows(todo, child)
+    } else {
+        add_pending(todo, p)
+    }
+}
+
 // The rows that are looked at next: the entry that was taken from the end of the stack, or what is left of one of its pieces by
 // what is marked now. What else is left of it is back.
 pub(crate) fn next_rows<'a, C: PatCx>(
@@ -117,7 +169,7 @@ pub(crate) fn next_rows<'a, C: PatCx>(
         Todo::Pieces(p) => {
             let mut p = p;
             let child = next_child(alloc, cx, reached, &mut p)?;
-            add_pending(todo, p)?;
+            add_rest(alloc, cx, reached, todo, p)?;
             Ok(child)
         }
     }

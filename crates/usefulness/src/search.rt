@@ -104,6 +104,9 @@ fn first_listing<'a, T: Copy>(
     Ok(listing)
 }
 
+// For so many entries the stack has room at first.
+const ROOM: usize = 16;
+
 // What is to be looked at first.
 fn first_frames<'a, C: PatCx>(
     alloc: Global,
@@ -130,7 +133,7 @@ fn first_frames<'a, C: PatCx>(
             validity: m.validity,
         },
     })?;
-    let mut todo = Vec::new(alloc);
+    let mut todo = Vec::with_capacity(alloc, ROOM)?;
     add_rows(&mut todo, finish(listing, columns, 1))?;
     Ok(todo)
 }

@@ -13,7 +13,7 @@ ghost use Rattle.usefulness.specs.Listing.{IsListedAs};
 ghost use Rattle.usefulness.specs.States.{plain_asked, child_views, IsGood, IsKept, IsListed, IsApart, other_numbers, other_places, apart_rows, apart_leaves, wild_view, is_noted, scope_of};
 
 use crate::frames::{Apart, Asked, Frame, Listing, Reached};
-use crate::listing::{finish, list_row, none_listed};
+use crate::listing::{finish, list_row, room_listed};
 use no_memory::NoMemory;
 use pat_context::PatCx;
 use pattern_matrix::{Leaf, dropped_row, is_wild_leaf};
@@ -61,6 +61,17 @@ fn list_wild<'a, T: Copy>(
     }
 }
 
+// How many of the leaves are wildcards.
+fn count_wild<'a, T: Copy>(leaves: &[Leaf<'a, T>]) -> usize {
+    let mut count = 0usize;
+    for leaf in leaves {
+        if is_wild_leaf(leaf.head) {
+            count = count.saturating_add(1);
+        }
+    }
+    count
+}
+
 // The rows of the leaves that are wildcards, listed.
 fn wild_listing<'a, T: Copy>(
     alloc: Global,
@@ -71,14 +82,15 @@ fn wild_listing<'a, T: Copy>(
     ensures { IfOk result (λ l. IsListed (scope_of reached.old) (is_noted reached.old) reached.new (other_numbers a.now)
         (dropped a.now.taken.number (apart_rows a.now) (apart_leaves a.now)) l) }
 {
-    let mut listing = none_listed(alloc);
+    let mut listing = room_listed(alloc, count_wild(&a.leaves))?;
     for leaf in &a.leaves {
         list_wild(alloc, reached, &mut listing, a, leaf)?;
     }
     Ok(listing)
 }
 
-// What is left where the value at the column is in no head: the rows that are wild there.
+// What is left where the value at the column is in no head: the rows that are wild there. Columns are copied only where
+// some row is left.
 pub(crate) fn wild_child<'a, C: PatCx>(
     alloc: Global,
     cx: &C,
@@ -94,6 +106,9 @@ pub(crate) fn wild_child<'a, C: PatCx>(
         (child_views o)) }
 {
     let listing = wild_listing(alloc, reached, a)?;
+    if listing.end == 0 {
+        return Ok(None);
+    }
     let columns = Vec::from_slice(alloc, &a.others)?;
     Ok(finish(listing, columns, a.next))
 }

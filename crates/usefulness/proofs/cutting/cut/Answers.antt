@@ -7,7 +7,7 @@ use Rattle.usefulness.proofs.cutting.cut.Goals as goal
 pub loop-k-init : goal.loop-k-init
 loop-k-init g c =
     let p = c.args.part.now in
-    subst (IsCutSoFar (is_noted c.args.reached.now) c.args.missing c.args.a.now c.args.spans.now p.first p.end []) (sym c.new-kept.ensures.items)
+    subst (IsCutSoFar (is_noted c.args.reached.now) c.args.missing c.args.a.now c.args.spans.now p.first p.end []) (sym c.in_ok-kept.ensures.items)
     (cut_begins c.args.missing c.args.a.now c.args.spans.now (is_noted c.args.reached.now) p.first p.end)
 
 pub returns-then-last : goal.returns-then-last

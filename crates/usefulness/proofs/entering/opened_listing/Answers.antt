@@ -11,9 +11,9 @@ use Rattle.usefulness.proofs.entering.opened_listing.Goals as goal
 
 pub loop-k-init : goal.loop-k-init
 loop-k-init g c =
-    let none = c.none_listed-listing.ensures in
+    let none = c.in_ok-listing.ensures in
     let a = c.args.a.now in
-    listed_first (scope_of c.args.reached.now) c.args.reached.now (columns_from a.next c.args.count ++ other_numbers a) c.none_listed-listing.result refl none.rows none.closed none.kept
+    listed_first (scope_of c.args.reached.now) c.args.reached.now (columns_from a.next c.args.count ++ other_numbers a) c.in_ok-listing.listing refl none.rows none.closed none.kept
 
 pub list_opened-requires-clause-within : goal.list_opened-requires-clause-within
 list_opened-requires-clause-within g c =

@@ -18,7 +18,7 @@ use Rattle.usefulness.proofs.Pieces.{read_at, spans_long, piece_numbers, piece_h
 use Rattle.usefulness.proofs.Cuts.{cut_later}
 use Rattle.usefulness.proofs.Reading.{got_at}
 use Rattle.usefulness.proofs.RowFacts.{at_get}
-use Rattle.usefulness.proofs.Stacking.{found_below, still_within, still_few, parts_some, some_next, none_next}
+use Rattle.usefulness.proofs.Stacking.{found_below, still_within, still_few, parts_some, some_entered, none_entered}
 use Rattle.usefulness.proofs.Steps.{ok_held}
 use Rattle.usefulness.proofs.pending.next_child.Goals as goal
 
@@ -143,7 +143,7 @@ returns-in-None-clause-next g c =
     let context = g.C.PatCx.context cx in
     let scope = scope_of c.args.reached.now in
     let off = subst (λ ss. IsCutOff m p.missing a ss before after None) c.deref.ensures.value (subst (λ o. IsCutOff m p.missing a c.deref.result.now before after o) c.in-None.is c.in_ok-next_cut.ensures.cut) in
-    none_next IsType IsValue context scope a p.pieces.items p.missing p.spans.items pending.apart pending.pieces pending.spans m before after off pending.within
+    none_entered IsType IsValue context scope a p.pieces.items p.missing p.spans.items pending.apart pending.pieces pending.spans m before after off pending.within
     (parts_some m p.missing a p.spans.items p.parts.items pending.parts c.requires.some)
     (MatchOption-at_none (after ≡ []) (λ _. ⊤) c.in-None.is c.in_ok-next_cut.ensures.none)
 
@@ -210,5 +210,5 @@ returns-in-Some-clause-next g c =
     let scope = scope_of c.args.reached.now in
     let now = is_noted c.piece_child.new.reached in
     IfOk-weaker c.piece_child.result _ _
-    (λ o l. some_next IsType IsValue context scope a p.pieces.items p.missing p.spans.items pending.apart pending.pieces pending.spans m now before after next c.index.result.now _ off pending.within c.index.ensures l)
+    (λ o l. some_entered IsType IsValue context scope a p.pieces.items p.missing p.spans.items pending.apart pending.pieces pending.spans m now before after next c.index.result.now o off pending.within c.index.ensures l)
     c.piece_child.ensures.listed

@@ -22,7 +22,7 @@ returns-clause-good g c =
     let scope = scope_for (plain_match c.args.m.now).arms in
     let now = is_noted c.first_listing.new.reached in
     let shown = one_pushed c.in_ok-push.ensures.items c.new-columns.ensures.items in
-    let added = c.in_ok-add_rows.ensures ∙ ap (λ xs. xs ++ map Rows (option_to_list c.finish.result)) c.new-todo.ensures.items in
+    let added = c.in_ok-add_rows.ensures ∙ ap (λ xs. xs ++ map Rows (option_to_list c.finish.result)) c.in_ok-todo.ensures.items in
     subst (All (IsTodo IsType IsValue context scope now)) (sym added)
     (rows_good IsType IsValue context scope now c.finish.result
     (IfSome_then c.finish.result c.finish.ensures.good
@@ -39,7 +39,7 @@ returns-clause-search g c =
     let scope = scope_for (plain_match m).arms in
     let listing = c.in_ok-listing.listing in
     let shown = one_pushed c.in_ok-push.ensures.items c.new-columns.ensures.items in
-    let added = c.in_ok-add_rows.ensures ∙ ap (λ xs. xs ++ map Rows (option_to_list c.finish.result)) c.new-todo.ensures.items in
+    let added = c.in_ok-add_rows.ensures ∙ ap (λ xs. xs ++ map Rows (option_to_list c.finish.result)) c.in_ok-todo.ensures.items in
     first_search IsType IsValue context scope (plain_match m) (is_noted c.args.reached.now) c.first_listing.new.reached listing (todo_views context c.add_rows.new.todo.items) c.requires.none
     ((first_tells IsType IsValue context).fit (plain_match m) c.requires.typed c.matches_are_made.ensures c.requires.value) c.in_ok-listing.ensures
     (ap (todo_views context) added ∙ rows_views IsType IsValue context scope c.finish.result ∙ c.finish.ensures.views ∙ ap (λ cs. subs_of (plain_opens cs) (take listing.end (plain_askeds listing.rows.items))) shown)

@@ -9,8 +9,8 @@ use Rattle.usefulness.proofs.wild.wild_listing.Goals as goal
 
 pub loop-leaf-init : goal.loop-leaf-init
 loop-leaf-init g c =
-    let none = c.none_listed-listing.ensures in
-    listed_first (scope_of c.args.reached.now) c.args.reached.now (other_numbers c.args.a.now) c.none_listed-listing.result refl none.rows none.closed none.kept
+    let none = c.in_ok-listing.ensures in
+    listed_first (scope_of c.args.reached.now) c.args.reached.now (other_numbers c.args.a.now) c.in_ok-listing.listing refl none.rows none.closed none.kept
 
 pub list_wild-requires-clause-within : goal.list_wild-requires-clause-within
 list_wild-requires-clause-within g c =
