@@ -31,8 +31,9 @@ KINDS = (
 GROWTH = 1.2
 RATIO = 1.5
 LEAST = 1_000_000
-# Memory that is given back stays with the process, so that the time of a column has none of the system's for new pages.
-MEMORY = {"GLIBC_TUNABLES": "glibc.malloc.mmap_max=0:glibc.malloc.trim_threshold=%d" % 2**40}
+# Memory that is given back stays with the process, so that the time of a column has none of the system's for new pages; and pages are large,
+# so that a column of 100 MB has none of the processor's for finding them.
+MEMORY = {"GLIBC_TUNABLES": "glibc.malloc.mmap_max=0:glibc.malloc.trim_threshold=%d:glibc.malloc.hugetlb=1" % 2**40}
 # The line of both programs that goes over the kinds, and the calls of the proved one that tell how many heads.
 LOOP = re.compile(r"for kind in 0\.\.\w+ \{")
 CALLS = re.compile(r"(kind, )(250_000|500_000|1_000_000)(\)\?;)")
