@@ -1,5 +1,5 @@
 -- Of pieces in order a head has those between the ones that lie before and the ones behind.
-use Rattle.std.proofs.Common.{◌≡◌, ◌≢◌, ◌⊎◌, inl, inr, ℕ, ◌+◌, ◌-◌, ◌<◌, ◌≤◌, Bool, true, false, not, ◌&&◌, ◌||◌, nat_eq, nat_lt, nat_le, List, [], ◌∷◌, ◌++◌, map, take, length, get_or, set, replicate, zero, suc, IsTrue, refl, sym, ap, subst, ◌∙◌, arith}
+use Rattle.std.proofs.Common.{◌≡◌, ◌⊎◌, inl, inr, ℕ, ◌+◌, ◌-◌, ◌<◌, ◌≤◌, Bool, true, false, not, ◌&&◌, ◌||◌, nat_eq, nat_lt, nat_le, List, [], ◌∷◌, ◌++◌, map, take, length, get_or, replicate, zero, suc, IsTrue, refl, sym, ap, subst, ◌∙◌, arith}
 use Rattle.std.specs.List.{All, AllPairs}
 use Rattle.std.specs.List.Sorted.{IsPartitionedBy, IsPartitionPoint}
 use Rattle.std.specs.Ordering.{is_lt, ordering_reverse}
@@ -8,7 +8,7 @@ use Rattle.std.specs.declared.cmp.Ordering.TheVariants.{Less, Equal, Greater}
 use Rattle.std.proofs.lemmas.Cmp.{nat_list_cmp_total}
 use Rattle.std.proofs.lemmas.Bool.Decides.{nat_tests}
 use Rattle.std.proofs.lemmas.List.Elements.{All-head, All-tail}
-use Rattle.std.proofs.lemmas.List.{get_or-map, length-map, map-append, get_or-set_same, get_or-set_other, length-set, length-replicate, get_or_read}
+use Rattle.std.proofs.lemmas.List.{get_or-map, length-map, map-append}
 use Rattle.std.proofs.lemmas.Grind.{common_steps}
 use Rattle.match_model.specs.Texts.{text_eq, compare_texts}
 use Rattle.match_model.specs.Numbers.{MEnd, Free, At, MRange}
@@ -20,7 +20,7 @@ use Rattle.pat_context.specs.Views.{plain_ctor}
 use Rattle.pat_context.specs.declared.ctor.Ctor.{Ctor}
 use Rattle.pat_context.specs.declared.ctor.Ctor.TheVariants as c
 use Rattle.constructor_sets.specs.Columns.{plain_ctors}
-use Rattle.constructor_sets.specs.Spans.{starts_before, shape_starts_before, is_up_to_head, Precedes, plain_span, IsSpan, AreSpans, HoldsBelow, FailsAt, IsFirst, IsEnd, AreHadByAll, AreKnownSpans}
+use Rattle.constructor_sets.specs.Spans.{starts_before, shape_starts_before, is_up_to_head, Precedes, plain_span, IsSpan, AreSpans, HoldsBelow, FailsAt, IsFirst, IsEnd, AreHadByAll}
 use Rattle.constructor_sets.specs.declared.piece.Span.{Span}
 
 -- texts
@@ -30,7 +30,7 @@ less_of Less h = refl
 less_of Equal h = untrue h
 less_of Greater h = untrue h
 
-not_before_itself : {A : Type 0} (t : List ℕ) → is_lt (compare_texts t t) ≡ true → A
+pub not_before_itself : {A : Type 0} (t : List ℕ) → is_lt (compare_texts t t) ≡ true → A
 not_before_itself t h = go (compare_texts t t) (less_of (compare_texts t t) h) (nat_list_cmp_total.antisymm t t)
   where
     go : {A : Type 0} (o : Ordering) → o ≡ Less → o ≡ ordering_reverse o → A
@@ -343,40 +343,3 @@ repeated_spans pieces heads s spans all e f =
     (ap (map plain_span) f ∙ map-replicate (length heads) s ∙ ap (replicate (length heads)) e ∙ ap (λ n. replicate n (0, length pieces)) (sym (length-map heads plain_ctor))
     ∙ ap (λ n. replicate (length (plain_ctors heads)) (0, n)) (sym (length-map pieces plain_ctor))))
     (whole_spans (plain_ctors pieces) (plain_ctors heads) all)
-
--- spans that are known
-
-none_known : (pieces : List MCtor) (heads : List Ctor) (n : ℕ) (s : Span) → s.end < s.first → AreKnownSpans pieces heads (replicate n s)
-none_known pieces heads n s l = λ i h d m k. absurd (omega (arith, none (get_or (replicate n s) i d) (all_same n i d m)))
-  where
-    all_same : (n i : ℕ) (d : Span) → i < length (replicate n s) → get_or (replicate n s) i d ≡ s
-    all_same zero i d m = absurd (omega arith)
-    all_same (suc n) zero d m = refl
-    all_same (suc n) (suc i) d m = all_same n i d (omega arith)
-
-    none : (x : Span) → x ≡ s → x.end < x.first
-    none x e = rw e l
-
-pub unknown_spans : (pieces : List MCtor) (heads : List Ctor) (n : ℕ) (s : Span) (known : List Span) → s.end < s.first → known ≡ replicate n s → (length known ≡ n) × AreKnownSpans pieces heads known
-unknown_spans pieces heads n s known l e = (ap length e ∙ length-replicate n s, subst (AreKnownSpans pieces heads) (sym e) (none_known pieces heads n s l))
-
-pub one_known : (pieces : List MCtor) (heads : List Ctor) (old : List Span) (place : ℕ) (x : Ctor) (s : Span) → place < length old → length old ≡ length heads → x ≡ get_or heads place x →
-    IsSpan pieces (plain_ctor x) (plain_span s) → AreKnownSpans pieces heads old → AreKnownSpans pieces heads (set old place s)
-one_known pieces heads old place x s l e is span known = λ i h d m k. go i h d m k (same_or_not i place)
-  where
-    same_or_not : (i j : ℕ) → (i ≡ j) ⊎ (i ≢ j)
-    same_or_not i j = grind arith
-
-    go : (i : ℕ) (h : Ctor) (d : Span) → i < length (set old place s) → (get_or (set old place s) i d).first ≤ (get_or (set old place s) i d).end → (i ≡ place) ⊎ (i ≢ place) →
-        IsSpan pieces (plain_ctor (get_or heads i h)) (plain_span (get_or (set old place s) i d))
-    go i h d m k (inl f) = at (subst (λ j. get_or (set old place s) j d ≡ s) (sym f) (get_or-set_same old place s d l)) (subst (λ j. plain_ctor x ≡ plain_ctor (get_or heads j h)) (sym f) (ap plain_ctor read))
-      where
-        read : x ≡ get_or heads place h
-        read = get_or_read heads place x (omega arith) is h
-
-        at : get_or (set old place s) i d ≡ s → plain_ctor x ≡ plain_ctor (get_or heads i h) → IsSpan pieces (plain_ctor (get_or heads i h)) (plain_span (get_or (set old place s) i d))
-        at e f = subst (λ y. IsSpan pieces (plain_ctor (get_or heads i h)) (plain_span y)) (sym e) (subst (λ y. IsSpan pieces y (plain_span s)) f span)
-    go i h d m k (inr f) =
-        let e : get_or (set old place s) i d ≡ get_or old i d = get_or-set_other old place i s d f in
-        subst (λ y. IsSpan pieces (plain_ctor (get_or heads i h)) (plain_span y)) (sym e)
-        (known i h d (omega (arith, length-set old place s)) (subst (λ y. y.first ≤ y.end) e k))

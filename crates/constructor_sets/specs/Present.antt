@@ -53,6 +53,12 @@ pub record AreFoundOf {T : Type 0} (IsValue : T → Bool → MValue → Type 0) 
   pub some_missing : missing ≡ list_any is_missing (map plain_piece pieces)
   pub missing_parts : gaps ≡ filter_map gap_of (map plain_piece pieces)
 
+-- what is found are some of the pieces, in their order
+pub record AreKept (flagged : List (Ctor × Bool)) (ctors : List MCtor) : Type 0 where
+  pub pieces : List Piece
+  pub same : map (λ p. plain_ctor p.ctor) pieces ≡ map (λ p. plain_ctor p.0) flagged
+  pub present : ctors ≡ filter_map present_piece (map plain_piece pieces)
+
 -- the same, and which of the pieces each head has
 pub record ArePresent {T : Type 0} (IsValue : T → Bool → MValue → Type 0) (cx : Context T) (o : Open T) (heads ctors : List MCtor) (missing : Bool) (gaps : List MCtor) (spans : List (ℕ × ℕ)) : Type 0 where
   pub found : AreFound IsValue cx o heads ctors missing gaps

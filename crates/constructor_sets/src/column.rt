@@ -7,7 +7,7 @@ ghost use Rattle.constructor_sets.specs.Columns.{plain_ctors, plain_flagged, IsS
 ghost use Rattle.constructor_sets.specs.Serving.{IsServing};
 ghost use Rattle.constructor_sets.specs.Spans.{plain_span};
 ghost use Rattle.constructor_sets.specs.Present.{is_sharp_head, present_piece, is_missing, gap_of, AreFound};
-ghost use Rattle.constructor_sets.specs.Present.{AreFoundOf, ArePresent};
+ghost use Rattle.constructor_sets.specs.Present.{AreFoundOf, ArePresent, AreKept};
 
 use crate::numbers::found_numbers;
 use crate::set_pieces::set_pieces;
@@ -124,9 +124,10 @@ pub(crate) fn found_pieces<'a, C: PatCx>(
     requires set { plain_set set.now ≡ (C.context cx.now).set_of ty }
     requires heads { All (λ h. IsTrue (is_sharp_head ((C.context cx.now).set_of ty) h)) (plain_ctors heads.now) }
     requires pieces { IsSetSplit (plain_set set.now) (plain_ctors heads.now) (plain_flagged pieces.now) }
-    ensures { IfOk result (λ f. AreFound (C.is_value cx.now) (C.context cx.now)
+    ensures found { IfOk result (λ f. AreFound (C.is_value cx.now) (C.context cx.now)
         (record { type = ty; sure = is_sure validity }) (plain_ctors heads.now)
         (plain_ctors f.ctors.items) f.missing (plain_ctors f.gaps.items)) }
+    ensures kept { IfOk result (λ f. AreKept pieces.now (plain_ctors f.ctors.items)) }
 {
     by_states(alloc, cx, ty, validity, set, heads, pieces)
 }

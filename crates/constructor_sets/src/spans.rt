@@ -68,7 +68,11 @@ fn spans_of_all(alloc: Global, pieces: &[Ctor], heads: &[Ctor]) -> Result<Vec<Sp
 }
 
 // The same for a set of any kind.
-fn spans_of(alloc: Global, pieces: &[Ctor], heads: &[Ctor]) -> Result<Vec<Span>, NoMemory>
+pub(crate) fn spans_of(
+    alloc: Global,
+    pieces: &[Ctor],
+    heads: &[Ctor],
+) -> Result<Vec<Span>, NoMemory>
     requires rising { AllPairs Precedes (plain_ctors pieces.now) }
     requires heads { All (λ h. IsTrue (is_written (plain_ctor h))) heads.now }
     ensures { IfOk result (λ v. AreSpans (plain_ctors pieces.now) (plain_ctors heads.now) (map plain_span v.items)) }

@@ -1,20 +1,22 @@
 // What the heads of a column of texts have. The texts are put in order once, each beside its first bytes as a number, so
-// that most of the order is told without a look at the texts; where a head's piece stands is looked for in the same order.
-ghost use Rattle.std.specs.Prelude.{◌≡◌, ◌≤◌, true, IsTrue, IfOk, length, map};
+// that most of the order is told without a look at the texts; which piece a head has is counted in the same order.
+ghost use Rattle.std.specs.Prelude.{◌≡◌, ◌<◌, ◌≤◌, ◌++◌, [], ◌∷◌, false, true, IsTrue, IfOk, OnOk};
+ghost use Rattle.std.specs.Prelude.{length, map, set, slice_index_or, option_copied};
 ghost use Rattle.std.specs.List.{All, AllPairs, filter_map};
-ghost use Rattle.std.specs.List.Sorted.{IsPermutation};
+ghost use Rattle.std.specs.List.Sorted.{IsPermutation, IsSorted};
 ghost use Rattle.std.specs.Str.{IsUtf8};
-ghost use Rattle.match_model.specs.Constructors.{TextSet, TextCtor};
+ghost use Rattle.match_model.specs.Constructors.{TextSet, TextCtor, OtherTextCtor};
 ghost use Rattle.match_model.specs.Pieces.{text_of, AreNamed};
 ghost use Rattle.match_model.specs.WellTyped.{is_written};
 ghost use Rattle.pat_context.specs.Views.{plain_ctor, is_sure};
-ghost use Rattle.constructor_sets.specs.Columns.{is_head, plain_ctors, plain_flagged, plain_texts, IsSetSplit};
+ghost use Rattle.constructor_sets.specs.Columns.{is_head, plain_ctors, plain_flagged, IsSetSplit};
 ghost use Rattle.constructor_sets.specs.Present.{is_sharp_head, ArePresent};
 ghost use Rattle.constructor_sets.specs.Spans.{Precedes, plain_span, IsSpan, AreSpans, AreKnownSpans};
-ghost use Rattle.constructor_sets.specs.Texts.{entry_text, entry_texts};
+ghost use Rattle.constructor_sets.specs.Texts.{entry_cmp, entry_texts, with_text, last_span, first_number, continues};
+ghost use Rattle.constructor_sets.specs.Texts.{last_of, is_each_text, is_other_text, IsEntry, AreNumbered, AreBytes};
 
 use crate::column::found_pieces;
-use crate::spans::{span_of, spans_of_one};
+use crate::spans::{span_of, spans_of};
 use crate::{PresentPieces, Span};
 use no_memory::NoMemory;
 use pat_context::{Ctor, CtorSet, PatCx, Validity};
@@ -23,21 +25,32 @@ use std::alloc::Global;
 // How many bytes of a text are told by its number.
 const FIRST: usize = 8;
 
-// The span of a head that was not looked for yet.
+// The span of a head of which no text is known.
 const UNKNOWN: Span = Span {
     first: usize::MAX,
     end: 0,
 };
 
 // A text of a column.
-#[derive(Clone, Copy, PartialEq, Eq, PartialOrd, Ord)]
+#[derive(Clone, Copy)]
+#[derive_where(PartialEq, Eq, PartialOrd, Ord)]
 pub(crate) struct Entry<'a> {
     // Its first bytes as a number, so that entries are in the order of their texts.
     pub(crate) begin: u64,
     // The text.
     pub(crate) text: &'a str,
-    // Which of the heads it is.
+    // Which of the heads it is; entries of one text are one.
+    #[derive_where(skip(EqHashOrd))]
     pub(crate) place: usize,
+}
+
+// The texts of a column, each once, and which of them the heads are.
+#[derive(Drop)]
+struct Told<'a> {
+    // The first entry of each text; the texts ascend.
+    named: Vec<Entry<'a>>,
+    // For each head that is a text its number among them.
+    known: Vec<Span>,
 }
 
 // What the heads of a column of texts have, and which pieces each head has.
@@ -55,10 +68,10 @@ pub(crate) fn present_texts<'a, C: PatCx>(
         (record { type = ty; sure = is_sure validity }) (plain_ctors heads.now)
         (plain_ctors p.ctors.items) p.missing (plain_ctors p.gaps.items) (map plain_span p.spans.items)) }
 {
-    let order = text_order(alloc, heads)?;
-    let pieces = pieces_in_order(alloc, heads, &order)?;
+    let told = told_texts(alloc, heads)?;
+    let pieces = text_pieces(alloc, &told.named)?;
     let found = found_pieces(alloc, cx, ty, validity, &CtorSet::Texts, heads, &pieces)?;
-    let spans = spans_in_order(alloc, &found.ctors, heads, &order)?;
+    let spans = text_spans(alloc, &found.ctors, heads, &told)?;
     Ok(PresentPieces {
         ctors: found.ctors,
         missing: found.missing,
@@ -75,70 +88,72 @@ pub(crate) fn texts<'a>(
     requires { All (λ h. IsTrue (is_head TextSet h)) (plain_ctors column.now) }
     ensures { IfOk result (λ v. IsSetSplit TextSet (plain_ctors column.now) (plain_flagged v.items)) }
 {
-    let order = text_order(alloc, column)?;
-    pieces_in_order(alloc, column, &order)
+    let told = told_texts(alloc, column)?;
+    text_pieces(alloc, &told.named)
 }
 
-// The pieces of texts, whose entries are in order.
-fn pieces_in_order<'a>(
-    alloc: Global,
-    column: &[Ctor<'a>],
-    order: &[Entry<'a>],
-) -> Result<Vec<(Ctor<'a>, bool)>, NoMemory>
-    requires column { All (λ h. IsTrue (is_head TextSet h)) (plain_ctors column.now) }
-    requires order { IsPermutation (filter_map text_of (plain_ctors column.now)) (entry_texts order.now) }
-    ensures { IfOk result (λ v. IsSetSplit TextSet (plain_ctors column.now) (plain_flagged v.items)) }
+// A piece for each text, and one for all others.
+fn text_pieces<'a>(alloc: Global, named: &[Entry<'a>]) -> Result<Vec<(Ctor<'a>, bool)>, NoMemory>
+    ensures { IfOk result (λ v. plain_flagged v.items
+        ≡ map (λ t. (TextCtor t, true)) (entry_texts named.now) ++ (OtherTextCtor, false) ∷ []) }
 {
-    let named = named_texts(alloc, order)?;
-    let mut pieces = text_pieces(alloc, &named)?;
+    let mut pieces = Vec::with_capacity(alloc, named.len() + 1)?;
+    for entry in named {
+        pieces.push((Ctor::Text(entry.text), true))?;
+    }
     pieces.push((Ctor::OtherText, false))?;
     Ok(pieces)
 }
 
-// A piece for each text.
-fn text_pieces<'a>(alloc: Global, named: &[&'a str]) -> Result<Vec<(Ctor<'a>, bool)>, NoMemory>
-    ensures { IfOk result (λ v. plain_flagged v.items ≡ map (λ t. (TextCtor t, true)) (plain_texts named.now)) }
+// The texts of a column, each once, and which of them the heads are.
+fn told_texts<'a>(alloc: Global, heads: &[Ctor<'a>]) -> Result<Told<'a>, NoMemory>
+    ensures named { IfOk result (λ t. AreNamed (filter_map text_of (plain_ctors heads.now)) (entry_texts t.named.items)) }
+    ensures known { IfOk result (λ t. AreNumbered heads.now (entry_texts t.named.items) t.known.items) }
 {
-    let mut pieces = Vec::with_capacity(alloc, named.len() + 1)?;
-    for text in named {
-        pieces.push((Ctor::Text(text), true))?;
+    let order = text_order(alloc, heads)?;
+    let mut told = Told {
+        named: Vec::with_capacity(alloc, order.len())?,
+        known: vec![in alloc; UNKNOWN; heads.len()]?,
+    };
+    for entry in &order {
+        tell(&mut told, entry)?;
     }
-    Ok(pieces)
+    Ok(told)
 }
 
-// The texts of the entries, ascending, each once. Sorting them takes one walk where the entries are in order.
-fn named_texts<'a>(alloc: Global, order: &[Entry<'a>]) -> Result<Vec<&'a str>, NoMemory>
-    ensures { IfOk result (λ v. AreNamed (entry_texts order.now) (plain_texts v.items)) }
+// Adds the text of an entry, where it is not the last one, and keeps its number.
+fn tell<'a>(told: &mut Told<'a>, entry: &Entry<'a>) -> Result<(), NoMemory>
+    requires { entry.now.place < length told.old.known.items }
+    ensures named { OnOk result (told.new.named.items ≡ with_text told.old.named.items entry.now) }
+    ensures known { OnOk result (told.new.known.items
+        ≡ set told.old.known.items entry.now.place (last_span (length told.new.named.items))) }
 {
-    let mut named = texts_of(alloc, order)?;
-    named.sort()?;
-    named.dedup();
-    Ok(named)
-}
-
-// The texts of the entries.
-fn texts_of<'a>(alloc: Global, order: &[Entry<'a>]) -> Result<Vec<&'a str>, NoMemory>
-    ensures same { IfOk result (λ v. plain_texts v.items ≡ entry_texts order.now) }
-    ensures texts { IfOk result (λ v. All (λ t. IsUtf8 t.now) v.items) }
-{
-    let mut texts = Vec::with_capacity(alloc, order.len())?;
-    for entry in order {
-        texts.push(as_text(entry.text))?;
+    if !is_last(&told.named, entry) {
+        told.named.push(*entry)?;
     }
-    Ok(texts)
+    let end = told.named.len();
+    told.known[entry.place] = Span {
+        first: end.saturating_sub(1),
+        end,
+    };
+    Ok(())
 }
 
-// The text itself; its bytes are UTF-8.
-fn as_text(text: &str) -> &str
-    ensures same { result.now ≡ text.now }
-    ensures utf8 { IsUtf8 result.now }
+// Tells whether the last entry has the text of the next one.
+fn is_last(named: &[Entry], next: &Entry) -> bool
+    ensures { result ≡ continues (last_of named.now) next.now }
 {
-    text
+    match named.last() {
+        Some(last) => next == last,
+        None => false,
+    }
 }
 
 // The entries of the texts of a column, in order.
 fn text_order<'a>(alloc: Global, heads: &[Ctor<'a>]) -> Result<Vec<Entry<'a>>, NoMemory>
-    ensures { IfOk result (λ v. IsPermutation (filter_map text_of (plain_ctors heads.now)) (entry_texts v.items)) }
+    ensures same { IfOk result (λ v. IsPermutation (filter_map text_of (plain_ctors heads.now)) (entry_texts v.items)) }
+    ensures each { IfOk result (λ v. All (λ e. IsEntry heads.now e) v.items) }
+    ensures sorted { IfOk result (λ v. IsSorted entry_cmp v.items) }
 {
     let mut entries = entries_of(alloc, heads)?;
     entries.sort()?;
@@ -147,103 +162,91 @@ fn text_order<'a>(alloc: Global, heads: &[Ctor<'a>]) -> Result<Vec<Entry<'a>>, N
 
 // The entries of the texts of a column, head by head.
 fn entries_of<'a>(alloc: Global, heads: &[Ctor<'a>]) -> Result<Vec<Entry<'a>>, NoMemory>
-    ensures { IfOk result (λ v. entry_texts v.items ≡ filter_map text_of (plain_ctors heads.now)) }
+    ensures same { IfOk result (λ v. entry_texts v.items ≡ filter_map text_of (plain_ctors heads.now)) }
+    ensures each { IfOk result (λ v. All (λ e. IsEntry heads.now e) v.items) }
 {
     let mut entries = Vec::with_capacity(alloc, heads.len())?;
     for (place, head) in heads.iter().enumerate() {
         if let Ctor::Text(text) = *head {
-            entries.push(Entry {
-                begin: first_bytes(text),
-                text,
-                place,
-            })?;
+            entries.push(entry_of(text, place))?;
         }
     }
     Ok(entries)
 }
 
-// The first bytes of a text as a number, of which the first byte counts most; a shorter text is followed by zeros.
-fn first_bytes(text: &str) -> u64 {
-    let bytes = text.as_bytes();
+// The entry of a text, which is the head at the place.
+fn entry_of<'a>(text: &'a str, place: usize) -> Entry<'a>
+    ensures text { result.text.now ≡ text.now }
+    ensures utf8 { IsUtf8 result.text.now }
+    ensures begin { result.begin ≡ first_number 8 text.now }
+    ensures bytes { AreBytes text.now }
+    ensures place { result.place ≡ place }
+{
+    Entry {
+        begin: first_bytes(text.as_bytes()),
+        text,
+        place,
+    }
+}
+
+// The first bytes as a number, of which the first byte counts most; a shorter text is followed by zeros.
+fn first_bytes(bytes: &[u8]) -> u64
+    ensures number { result ≡ first_number 8 bytes.now }
+    ensures bytes { AreBytes bytes.now }
+{
     let mut begin = 0;
     for place in 0..FIRST {
-        begin = (begin << 8) | byte_at(bytes, place);
+        begin = begin * 256 + byte_at(bytes, place);
     }
     begin
 }
 
 // The byte at the place, or 0 behind the last one.
-fn byte_at(bytes: &[u8], place: usize) -> u64 {
+fn byte_at(bytes: &[u8], place: usize) -> u64
+    ensures byte { result ≡ slice_index_or bytes.now place 0 }
+    ensures less { result < 256 }
+{
     match bytes.get(place) {
         Some(byte) => *byte as u64,
         None => 0,
     }
 }
 
-// For each head which of the pieces it has. The entries tell in what order the heads stand among the pieces; any order
-// gives the same.
-fn spans_in_order(
+// For each head which of the pieces it has. Where each text has its piece, the number of the text tells it.
+fn text_spans(
     alloc: Global,
     pieces: &[Ctor],
     heads: &[Ctor],
-    order: &[Entry],
+    told: &Told,
 ) -> Result<Vec<Span>, NoMemory>
     requires rising { AllPairs Precedes (plain_ctors pieces.now) }
     requires heads { All (λ h. IsTrue (is_written (plain_ctor h))) heads.now }
+    requires known { AreNumbered heads.now (entry_texts told.now.named.items) told.now.known.items }
+    requires pieces { IsTrue (is_each_text (length told.now.named.items) pieces.now) →
+        plain_ctors pieces.now ≡ map TextCtor (entry_texts told.now.named.items) }
     ensures { IfOk result (λ v. AreSpans (plain_ctors pieces.now) (plain_ctors heads.now) (map plain_span v.items)) }
 {
-    if pieces.len() <= 1 {
-        return spans_of_one(alloc, pieces, heads);
-    }
-    let known = known_spans(alloc, pieces, heads, order)?;
-    all_spans(alloc, pieces, heads, &known)
-}
-
-// The spans of the heads that have entries, each looked for behind the one before.
-fn known_spans(
-    alloc: Global,
-    pieces: &[Ctor],
-    heads: &[Ctor],
-    order: &[Entry],
-) -> Result<Vec<Span>, NoMemory>
-    requires rising { AllPairs Precedes (plain_ctors pieces.now) }
-    requires heads { All (λ h. IsTrue (is_written (plain_ctor h))) heads.now }
-    ensures len { IfOk result (λ v. length v.items ≡ length heads.now) }
-    ensures known { IfOk result (λ v. AreKnownSpans (plain_ctors pieces.now) heads.now v.items) }
-{
-    let mut known = vec![in alloc; UNKNOWN; heads.len()]?;
-    let mut last = Span { first: 0, end: 0 };
-    for entry in order {
-        last = known_span(&mut known, pieces, heads, entry.place, last);
-    }
-    Ok(known)
-}
-
-// Keeps the span of the head at the place, which mostly has the piece behind the last span, or that of it.
-fn known_span(
-    known: &mut Vec<Span>,
-    pieces: &[Ctor],
-    heads: &[Ctor],
-    place: usize,
-    last: Span,
-) -> Span
-    requires rising { AllPairs Precedes (plain_ctors pieces.now) }
-    requires heads { All (λ h. IsTrue (is_written (plain_ctor h))) heads.now }
-    requires len { length known.old.items ≡ length heads.now }
-    requires known { AreKnownSpans (plain_ctors pieces.now) heads.now known.old.items }
-    ensures len { length known.new.items ≡ length known.old.items }
-    ensures known { AreKnownSpans (plain_ctors pieces.now) heads.now known.new.items }
-{
-    if place < heads.len() {
-        let next = Span {
-            first: last.end,
-            end: last.end.saturating_add(1),
-        };
-        let span = span_of(pieces, &heads[place], next, last, last);
-        known[place] = span;
-        span
+    if is_each_found(pieces, told.named.len()) {
+        all_spans(alloc, pieces, heads, &told.known)
     } else {
-        last
+        spans_of(alloc, pieces, heads)
+    }
+}
+
+// Tells whether the pieces that are found are as many as the texts, and the last one is not that of all others.
+fn is_each_found(pieces: &[Ctor], count: usize) -> bool
+    ensures { result ≡ is_each_text count pieces.now }
+{
+    pieces.len() == count && !is_other(pieces.last())
+}
+
+// Tells whether the piece is that of all texts that are not named.
+fn is_other(piece: Option<&Ctor>) -> bool
+    ensures { result ≡ is_other_text (option_copied piece.entry) }
+{
+    match piece {
+        Some(Ctor::OtherText) => true,
+        _ => false,
     }
 }
 
