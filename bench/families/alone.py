@@ -109,18 +109,25 @@ def build(target):
             sys.exit(done.stdout + done.stderr)
 
 
+def took(program, path, count, runs):
+    """The processor time of judging the match so many times more than once, as the least of some runs."""
+    often, once = (least(["sh", "-c", f"exec {program} {k} < {path}"], runs)[0] for k in (count + 1, 1))
+    return max(often - once, 0.0)
+
+
 def times(program, path):
-    """How often the match is judged in about a tenth of a second, at most 4,096 times."""
-    once = least(["sh", "-c", f"exec {program} 2 < {path}"], 1)[0]
-    return max(1, min(4096, int(0.1 / max(once, 1e-5))))
+    """How often the match is judged in about a fifth of a second, so that the start of a program does not count."""
+    count = 16
+    while (spent := took(program, path, count, 1)) < 0.05 and count < 65_536:
+        count *= 4
+    return max(1, int(count * 0.2 / max(spent, 1e-3)))
 
 
 def ours(words, name, n):
     """The program's time of judging a match of a family."""
     path = write(f"family_{name}_{n}.matches", told(words.engine, name, n))
     count = times(words.program, path)
-    often, once = (least(["sh", "-c", f"exec {words.program} {k} < {path}"], words.times)[0] for k in (count + 1, 1))
-    return max(often - once, 0.0) / count
+    return took(words.program, path, count, words.times) / count
 
 
 if __name__ == "__main__":
