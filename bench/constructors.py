@@ -154,17 +154,18 @@ def told(engine, name, n):
     return subprocess.run([engine, "family", name, str(n)], capture_output=True, text=True, check=True).stdout
 
 
-def spent(engine, name, n, step, word):
-    """The processor time that the program tells of one of its steps on the match."""
-    words = subprocess.run([engine, "time", f"{name}:{n}", "", step], capture_output=True, text=True, check=True).stdout.split()
-    return float(words[words.index(word) + 1])
+def spent(engine, name, n, step, word, times):
+    """The least processor time, of so many runs, that the program tells of one of its steps on the match."""
+    runs = (subprocess.run([engine, "time", f"{name}:{n}", "", step], capture_output=True, text=True, check=True) for _ in range(times))
+    told = (run.stdout.split() for run in runs)
+    return min(float(words[words.index(word) + 1]) for words in told)
 
 
 def measured(words, name, first, ours, step, word):
     """Prints a family's times at its sizes, and tells whether it met its goals."""
     fine, before = True, None
     for n in (first, 2 * first, 4 * first):
-        own, other = ours(words, name, n), spent(words.engine, name, n, step, word)
+        own, other = ours(words, name, n), spent(words.engine, name, n, step, word, words.times)
         ratio = own / max(other, 1e-9)
         growth = own / before[0] if before and before[0] > 0 else 0.0
         steepness = other / before[1] if before else 0.0
