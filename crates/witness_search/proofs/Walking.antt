@@ -84,6 +84,17 @@ left-below {T = T} f j p chosen e = rw (tree_out p) (go (placed_ctor p) (is_or_c
         left-other f j c (de_pats_of subs) h ∙ ap (left_of_each f j false) (listed subs)
         ∙ sym (ap (λ b. left_of_each f j b subs) (k ∙ ap (λ b. b && nat_lt 1 (length (placed_subs p))) h))
 
+-- nothing is left of a pattern with none below it
+pub left-none : {T : Type 0} (f : ℕ → Bool) (j : ℕ) (p : DePat T) → length (placed_subs p) ≡ 0 → left_in f j (arena_alternatives (tree p)) ≡ []
+left-none {T} f j p e = left-below f j p chosen refl ∙ none (placed_subs p) e
+  where
+    chosen : Bool
+    chosen = is_or_ctor (placed_ctor p) && nat_lt 1 (length (placed_subs p))
+
+    none : (ps : List (DePat T)) → length ps ≡ 0 → left_of_each f j chosen (map tree ps) ≡ []
+    none [] k = refl
+    none (x ∷ xs) k = absurd (omega (arith, k))
+
 -- what is left of one pattern, by what it is placed with
 pub left-one : {T : Type 0} (f : ℕ → Bool) (j : ℕ) (chosen : Bool) (q : DePat T) →
     left_of_one f j chosen (tree q)
@@ -100,4 +111,4 @@ each_more f j chosen (x ∷ xs) (suc i) q l is =
     ap (λ ys. left_of_one f j chosen (tree x) ++ ys) (each_more f j chosen xs i q (omega (arith, l)) is)
     ∙ sym (append_assoc (left_of_one f j chosen (tree x)) (left_of_each f j chosen (map tree (take i xs))) (left_of_one f j chosen (tree q)))
 
-pub ruleset walks = (left-below, left-one)
+pub ruleset walks = (left-below, left-none, left-one)

@@ -7,7 +7,7 @@ ghost use Rattle.pat_context.specs.Views.{plain_ctor};
 ghost use Rattle.pattern_arena.specs.Trees.{tree, placed_ctor, placed_subs, plain_arm, plain_match};
 ghost use Rattle.pattern_matrix.specs.Counting.{to_arm, through_alternative};
 ghost use Rattle.pattern_matrix.specs.ReachLaws.{left_in, left_from};
-ghost use Rattle.witness_search.specs.Entries.{plain_entry, plain_entries, left_of_one, left_of_arm, left_of_arms};
+ghost use Rattle.witness_search.specs.Entries.{plain_entries, left_of_one, left_of_arm, left_of_arms};
 
 use no_memory::NoMemory;
 use pat_context::Ctor;
@@ -60,7 +60,8 @@ fn add_left<'a, T: Copy, M: Marked>(
     Ok(())
 }
 
-// Adds the pattern, if it is an alternative to which no value comes, else the alternatives in it to which none comes.
+// Adds the pattern, if it is an alternative to which no value comes, else the alternatives in it to which none comes. Most
+// patterns have none below them, which is told without a call.
 #[cycle(walking)]
 #[tactic(auto, using(crate::proofs::Walking::walks))]
 fn add_one_left<'a, T: Copy, M: Marked>(
@@ -80,6 +81,8 @@ fn add_one_left<'a, T: Copy, M: Marked>(
             uid: q.uid,
             whole: false,
         })?;
+        Ok(())
+    } else if q.subs.is_empty() {
         Ok(())
     } else {
         add_left(marks, found, arm, q)
