@@ -1,5 +1,5 @@
 // The alternatives that were chosen on the way to a row.
-ghost use Rattle.std.specs.Prelude.{◌≡◌, ◌++◌, ◌∷◌, ◌==◌, [], length, IfOk, OnOk};
+ghost use Rattle.std.specs.Prelude.{◌≡◌, ◌++◌, ◌∷◌, ◌==◌, [], length, IfOk};
 ghost use Rattle.pattern_matrix.specs.ChosenLists.{kept_chosen};
 
 use no_memory::NoMemory;

@@ -1,5 +1,5 @@
 // The rows of a piece, and the rows without a column.
-ghost use Rattle.std.specs.Prelude.{◌≡◌, ◌≢◌, ◌<◌, ◌≤◌, ◌+◌, ◌-◌, ◌^◌, ◌++◌, ◌∷◌, [], List, ℕ, map, length, take, drop, cond, true, false, IsTrue, IfOk, OnOk, Some, None, slice_get};
+ghost use Rattle.std.specs.Prelude.{◌≡◌, ◌≢◌, ◌<◌, ◌+◌, ◌-◌, ◌^◌, ◌++◌, ◌∷◌, [], List, ℕ, map, length, cond, true, false, IsTrue, IfOk, OnOk, Some, None, slice_get};
 ghost use Rattle.std.specs.List.{All};
 ghost use Rattle.match_model.specs.Constructors.{MCtor, RowCtor, LongerShape};
 ghost use Rattle.match_model.specs.Places.{MStep};

@@ -1,5 +1,5 @@
 // The pieces of a place that are gone through.
-ghost use Rattle.std.specs.Prelude.{◌≡◌, ◌++◌, ◌∷◌, [], map, true, false, IsTrue, IfOk, OnOk};
+ghost use Rattle.std.specs.Prelude.{◌≡◌, map, true, false, IsTrue, IfOk};
 ghost use Rattle.std.specs.List.{All, filter_map};
 ghost use Rattle.match_model.specs.Pieces.{text_of};
 ghost use Rattle.constructor_sets.specs.Columns.{plain_ctors, plain_piece, IsColumnSplit};

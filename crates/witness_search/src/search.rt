@@ -19,7 +19,7 @@ ghost use Rattle.witness_search.specs.Found.{IsEnterable};
 ghost use Rattle.witness_search.specs.Opened.{places_of, numbers_of};
 ghost use Rattle.witness_search.specs.Starts.{starting_rows};
 ghost use Rattle.witness_search.specs.Turns.{Root, IsPut, Accepts, IsWanted, IsWantedAt, Ends, IsGoneThrough, IsTurn};
-ghost use Rattle.witness_search.specs.Wells.{heads_over, apart_heads, IsWell, IsTakenApart};
+ghost use Rattle.witness_search.specs.Wells.{apart_heads, IsWell, IsTakenApart};
 ghost use Rattle.witness_search.specs.declared.opened.Opened.{Opened};
 
 use crate::apart::{Apart, enter_piece, rows_behind, take_apart};
