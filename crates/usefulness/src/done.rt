@@ -18,8 +18,21 @@ use pat_context::Ctor;
 use pattern_arena::DePat;
 use pattern_matrix::{Head, Marked, Row};
 
-// Tells whether these alternatives of the arm are all marked.
+// Tells whether these alternatives of the arm are all marked. The one that was chosen last is asked for first: in an alternative
+// within another it is mostly that one which is not.
 pub(crate) fn are_marked(marks: &Marks, arm: u32, ids: &[u64]) -> bool
+    ensures { result ≡ are_marked (is_marked marks.now) arm ids.now }
+{
+    match ids.split_last() {
+        None => true,
+        Some((last, others)) => {
+            marks.has_alternative(arm, *last) && all_marked(marks, arm, others)
+        }
+    }
+}
+
+// The same, from the first one on.
+fn all_marked(marks: &Marks, arm: u32, ids: &[u64]) -> bool
     ensures { result ≡ are_marked (is_marked marks.now) arm ids.now }
 {
     for id in ids {
