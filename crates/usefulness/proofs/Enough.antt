@@ -15,11 +15,7 @@ heads_behind : {T : Type 0} (xs ys : List (WantedRow T)) → heads_in (xs ++ ys)
 heads_behind xs ys = map-append (λ x. x.row.heads) xs ys
 
 module _ {T : Type 0} (m : Question → Bool) (n : ℕ) where
-  -- rows do for themselves
-  pub same_do : (xs : List (WantedRow T)) → DoFor m n xs xs
-  same_do xs = record { on = λ q vs k l c. inr c; back = λ q vs k l c. c; part = listing.part_self (heads_in xs) }
-
-  -- and stand for themselves
+  -- rows stand for themselves
   pub same_stand : (xs : List (WantedRow T)) → StandFor m n xs xs
   same_stand xs = record { on = λ q vs l c. inr c; back = λ q vs l c. c; part = listing.part_self (heads_in xs) }
 
@@ -68,20 +64,6 @@ module _ {T : Type 0} (m : Question → Bool) (n : ℕ) where
     on = λ q vs k l c. elim (d.on q vs k l c) [ inl h ↦ inl h | inr h ↦ e.on q vs k l h ];
     back = λ q vs k l c. d.back q vs k l (e.back q vs k l c);
     part = listing.part_both (heads_in zs) (heads_in ys) (heads_in xs) e.part d.part;
-  }
-
-  -- what stands for them and what is behind stands for the others and that
-  pub both_stand : (xs ys rest zs : List (WantedRow T)) → DoFor m n xs ys → StandFor m n (ys ++ rest) zs → StandFor m n (xs ++ rest) zs
-  both_stand xs ys rest zs d s = record {
-    on = λ q vs l c. elim (d.on q vs (counts q rest vs) l (sym (listing.counts_append q xs rest vs) ∙ c)) [
-      | inl h ↦ inl h
-      | inr h ↦ s.on q vs l (listing.counts_append q ys rest vs ∙ h)
-    ];
-    back = λ q vs l c. listing.counts_append q xs rest vs ∙ d.back q vs (counts q rest vs) l (sym (listing.counts_append q ys rest vs) ∙ s.back q vs l c);
-    part = listing.part_both (heads_in zs) (heads_in (ys ++ rest)) (heads_in (xs ++ rest)) s.part
-        (subst (λ hs. IsPart hs (heads_in (xs ++ rest))) (sym (heads_behind ys rest))
-        (subst (IsPart (heads_in ys ++ heads_in rest)) (sym (heads_behind xs rest))
-        (listing.part_append (heads_in ys) (heads_in xs) (heads_in rest) (heads_in rest) d.part (listing.part_self (heads_in rest)))));
   }
 
   -- a row more on both sides
@@ -145,29 +127,3 @@ module _ {T : Type 0} (m : Question → Bool) (n : ℕ) where
           listing.before_append q xs (x ∷ []) vs k
           ∙ ap (counts_before q xs vs) (stopped q vs k (counts_before q rest vs k) l)
           ∙ sym (listing.before_append q xs (x ∷ rest) vs k)
-
--- the rows that are enough are listed, and so all are
-pub enough_listed : {T : Type 0} (old now : Question → Bool) (columns : List ℕ) (all some rows : List (SparseAsked T)) (closed : Bool) →
-    DoFor old (length columns) (asked_views columns all) (asked_views columns some) → IsListing old now columns some rows closed → IsListing old now columns all rows closed
-enough_listed {T} old now columns all some rows closed d l = record {
-  grow = l.grow;
-  right = λ q h. elim (l.right q h) [
-    | inl o ↦ inl o
-    | inr f ↦ inr (λ rest vs k.
-        ap (λ ys. counts q ys vs) (over all rest)
-        ∙ listing.counts_append q (asked_views columns all) (asked_views columns rest) vs
-        ∙ d.back q vs (counts q (asked_views columns rest) vs) k
-        (sym (listing.counts_append q (asked_views columns some) (asked_views columns rest) vs) ∙ ap (λ ys. counts q ys vs) (sym (over some rest)) ∙ f rest vs k))
-  ];
-  does = λ e. both_do now (length columns) (asked_views columns all) (asked_views columns some) (asked_views columns rows) later (l.does e);
-  stands = λ e rest.
-      subst (λ ys. StandFor now (length columns) ys (asked_views columns rows)) (sym (over all rest))
-      (both_stand now (length columns) (asked_views columns all) (asked_views columns some) (asked_views columns rest) (asked_views columns rows) later
-      (subst (λ ys. StandFor now (length columns) ys (asked_views columns rows)) (over some rest) (l.stands e rest)));
-}
-  where
-    over : (xs rest : List (SparseAsked T)) → asked_views columns (xs ++ rest) ≡ asked_views columns xs ++ asked_views columns rest
-    over xs rest = map-append (asked_view columns) xs rest
-
-    later : DoFor now (length columns) (asked_views columns all) (asked_views columns some)
-    later = listing.listed_later old now (length columns) (asked_views columns all) (asked_views columns some) l.grow d

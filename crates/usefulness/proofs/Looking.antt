@@ -174,21 +174,6 @@ module _ {T : Type 0} (IsValue : T → Bool → MValue → Type 0) where
     listed = listed_both then more left others new b.listed (listed_later now then left new b.grow a.listed);
   }
 
-  -- one more is
-  pub one_listed : (old now then : Question → Bool) (left new others : List (Submatrix T)) (s : Submatrix T) → AreAllListed IsValue old now left new → IsListedAs IsValue now then s others →
-      AreAllListed IsValue old then (left ++ s ∷ []) (new ++ others)
-  one_listed old now then left new others s a b = record {
-    grow = λ q m. b.grow q (a.grow q m);
-    right = λ q m. elim (b.right q m) [
-      | inl k ↦ elim (a.right q k) [
-        | inl o ↦ inl o
-        | inr (n, i, c) ↦ inr (n, in_left left (s ∷ []) n i, c)
-      ]
-      | inr c ↦ inr (s, in_right left (s ∷ []) s (here s []), c)
-    ];
-    listed = listed_both then left (s ∷ []) new others (listed_later now then left new b.grow a.listed) b.listed;
-  }
-
 module _ {T : Type 0} (IsType : T → Type 0) (IsValue : T → Bool → MValue → Type 0) (cx : Context T) where
   pub stood_fit : (is_marked : Question → Bool) (n m : Submatrix T) → IsFit IsType IsValue cx n → m.places ≡ n.places → StandFor is_marked (length n.places) n.rows m.rows → IsFit IsType IsValue cx m
   stood_fit is_marked n m f e d =
@@ -198,71 +183,6 @@ module _ {T : Type 0} (IsType : T → Type 0) (IsValue : T → Bool → MValue �
   pub stood_back : (is_marked : Question → Bool) (n m : Submatrix T) → m.places ≡ n.places → StandFor is_marked (length n.places) n.rows m.rows → (q : Question) → Comes IsValue q m → Comes IsValue q n
   stood_back is_marked n m e d q (vs, a, c) =
       let b = subst (λ ps. AreValues IsValue ps vs) e a in (vs, b, d.back q vs (values_long IsValue n.places vs b) c)
-
-  -- a submatrix whose rows were listed once more, in place of which one stands or none
-  pub listed_fit : (old now : Question → Bool) (s t : Submatrix T) → IsFit IsType IsValue cx s → IsListedAs IsValue old now s (t ∷ []) → IsFit IsType IsValue cx t
-  listed_fit old now s t f a =
-      let (n, j, e, d) = a.listed.of_left t (here t []) in
-      in_cons s n [] (λ z. (t.places ≡ z.places) → StandFor now (length z.places) z.rows t.rows → IsFit IsType IsValue cx t)
-      (λ e d. stood_fit now s t f e d) (λ z (k, l, g). absurd (omega (arith, l))) j e d
-
-  pub looked_listed : (old mid now : Question → Bool) (s t : Submatrix T) (new : List (Submatrix T)) → IsListedAs IsValue old mid s (t ∷ []) → IsLookedAt IsType IsValue cx mid now t new →
-      IsLookedAt IsType IsValue cx old now s new
-  looked_listed old mid now s t new a l = record {
-    grow = λ q m. l.grow q (a.grow q m);
-    right = λ q m. elim (l.right q m) [
-      | inl k ↦ a.right q k
-      | inr c ↦ inr (back q c)
-    ];
-    fit = l.fit;
-    lighter = λ n i. let lighter = l.lighter n i in omega (arith, lighter, weight);
-    back = λ n i q c. back q (l.back n i q c);
-    on = λ q c. onward q c (a.listed.each s (here s []));
-  }
-    where
-      of_s : (Q : Type 0) → (((t.places ≡ s.places) × StandFor mid (length s.places) s.rows t.rows) → Q) → Q
-      of_s Q f =
-          let (n, j, e, d) = a.listed.of_left t (here t []) in
-          in_cons s n [] (λ z. (t.places ≡ z.places) → StandFor mid (length z.places) z.rows t.rows → Q) (λ e d. f (e, d)) (λ z (k, l, g). absurd (omega (arith, l))) j e d
-
-      weight : weight_of t ≤ weight_of s
-      weight = of_s (weight_of t ≤ weight_of s) (λ (e, d). part_weighs t.rows s.rows d.part)
-
-      back : (q : Question) → Comes IsValue q t → Comes IsValue q s
-      back q c = of_s (Comes IsValue q s) (λ (e, d). stood_back mid s t e d q c)
-
-      onward : (q : Question) → Comes IsValue q s →
-          (rows : List (WantedRow T)) × StandFor mid (length s.places) s.rows rows × (Contains (t ∷ []) (record { places = s.places; rows = rows }) ⊎ (rows ≡ [])) →
-          (now q ≡ true) ⊎ SomeComes IsValue q new
-      onward q (vs, b, e) (rows, d, h) = elim (d.on q vs (values_long IsValue s.places vs b) e) [
-        | inl m ↦ inl (l.grow q m)
-        | inr k ↦ elim h [
-          | inl i ↦ in_cons t (record { places = s.places; rows = rows }) [] (λ z. Comes IsValue q z → (now q ≡ true) ⊎ SomeComes IsValue q new)
-              (λ c. l.on q c) (λ z (n, m, g). absurd (omega (arith, m))) i (vs, b, k)
-          | inr z ↦ untrue (sym (ap (λ (xs : List (WantedRow T)). counts q xs vs) z) ∙ k)
-        ]
-      ]
-
-  pub looked_none : (old now : Question → Bool) (s : Submatrix T) → IsListedAs IsValue old now s [] → IsLookedAt IsType IsValue cx old now s []
-  looked_none old now s a = record {
-    grow = a.grow;
-    right = a.right;
-    fit = λ n (k, l, e). absurd (omega (arith, l));
-    lighter = λ n (k, l, e). absurd (omega (arith, l));
-    back = λ n (k, l, e). absurd (omega (arith, l));
-    on = λ q c. onward q c (a.listed.each s (here s []));
-  }
-    where
-      onward : (q : Question) → Comes IsValue q s →
-          (rows : List (WantedRow T)) × StandFor now (length s.places) s.rows rows × (Contains {X = Submatrix T} [] (record { places = s.places; rows = rows }) ⊎ (rows ≡ [])) →
-          (now q ≡ true) ⊎ SomeComes IsValue q []
-      onward q (vs, b, e) (rows, d, h) = elim (d.on q vs (values_long IsValue s.places vs b) e) [
-        | inl m ↦ inl m
-        | inr k ↦ elim h [
-          | inl (n, l, g) ↦ absurd (omega (arith, l))
-          | inr z ↦ untrue (sym (ap (λ (xs : List (WantedRow T)). counts q xs vs) z) ∙ k)
-        ]
-      ]
 
 module _ {T : Type 0} (IsType : T → Type 0) (IsValue : T → Bool → MValue → Type 0) (cx : Context T) (values : ValuesLaw IsType IsValue cx) (law : PartsLaw IsType IsValue cx) where
   -- what is left of a submatrix that fits, fits without names

@@ -45,23 +45,6 @@ module _ {T : Type 0} (IsType : T → Type 0) (IsValue : T → Bool → MValue �
             ]) (λ z (k, h, e). absurd (omega (arith, h))) j m c
       ]
 
-  -- or it is left out, where all that comes to it is marked
-  pub goes_out : ((q : Question) → Comes IsValue q s → now q ≡ true) → IsSearch IsType IsValue cx first now todo seen
-  goes_out on = record {
-    right = all_right;
-    fit = λ n i. search.fit n (in_left todo (s ∷ []) n i);
-    back = λ n i q c. search.back n (in_left todo (s ∷ []) n i) q c;
-    on = λ q c. accounted q (suc (weight_of first)) (search.on q c);
-    told = λ n i q c. accounted q (weight_of n) (search.told n i q c);
-  }
-    where
-      accounted : (q : Question) (w : ℕ) → IsAccounted IsValue old (todo ++ s ∷ []) q w → IsAccounted IsValue now todo q w
-      accounted q w (inl m) = inl (grow q m)
-      accounted q w (inr (n, i, m, c)) = elim (in_either todo (s ∷ []) n i) [
-        | inl j ↦ inr (n, j, m, c)
-        | inr j ↦ in_cons s n [] (λ z. Comes IsValue q z → IsAccounted IsValue now todo q w) (λ c. inl (on q c)) (λ z (k, h, e). absurd (omega (arith, h))) j c
-      ]
-
 module _ {T : Type 0} (IsType : T → Type 0) (IsValue : T → Bool → MValue → Type 0) (cx : Context T) (first : Submatrix T) (now : Question → Bool) (todo seen : List (Submatrix T)) (s t : Submatrix T)
     (search : IsSearch IsType IsValue cx first now (todo ++ s ∷ []) seen) (one : Contains seen t)
     (same : (q : Question) → Comes IsValue q s → (now q ≡ true) ⊎ (Comes IsValue q t × (weight_of s ≡ weight_of t))) where

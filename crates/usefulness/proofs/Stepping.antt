@@ -27,8 +27,7 @@ use Rattle.usefulness.specs.Told.{IsTold, AreTold, AreLighter, IsStep}
 use Rattle.usefulness.specs.Words.{AreNumbered, words}
 use Rattle.usefulness.proofs.Choosing.{same_got}
 use Rattle.usefulness.proofs.RowFacts.{heads_below, numbers_below}
-use Rattle.usefulness.proofs.Replacing.{stands_in, goes_out, repeats}
-use Rattle.usefulness.proofs.Looking.{stood_back, listed_fit}
+use Rattle.usefulness.proofs.Replacing.{stands_in, repeats}
 use Rattle.usefulness.proofs.SameSubs.{AreAllUsed, all_got, same_comes, same_weighs}
 use Rattle.usefulness.proofs.Unused.{AreUsed, AreRowsUsed, comes_used, comes_unused, fit_used, weight_used}
 
@@ -231,28 +230,9 @@ module _ {T : Type 0} (IsType : T → Type 0) (IsValue : T → Bool → MValue �
   pub step_lighter : (new : List (Submatrix T)) → AreLighter new (frame_view g) → AreLighter new (frame_view f)
   step_lighter new l = λ n i. subst (λ m. weight_of n < m) (compact_weighs scope IsType IsValue cx f g c fit) (l n i)
 
--- rows that were listed once more
+-- ---- rows that are not noted
 
 module _ {T : Type 0} (IsType : T → Type 0) (IsValue : T → Bool → MValue → Type 0) (cx : Context T) (scope : Scope T) (old now : Question → Bool) (s : Submatrix T) where
-  -- none is left
-  pub step_none : (keys : List (List ℕ)) → IsListedAs IsValue old now s [] → IsStep IsType IsValue cx scope old now s [] keys keys
-  step_none keys a = λ first todo seen search told. (
-    seen,
-    subst (λ zs. IsSearch IsType IsValue cx first now zs seen) (sym (append-nil todo))
-        (goes_out IsType IsValue cx first old now todo seen s search a.grow a.right (λ q c. onward q c (a.listed.each s (here s [])))),
-    told,
-  )
-    where
-      onward : (q : Question) → Comes IsValue q s →
-          (rows : List (WantedRow T)) × StandFor now (length s.places) s.rows rows × (Contains {X = Submatrix T} [] (record { places = s.places; rows = rows }) ⊎ (rows ≡ [])) → now q ≡ true
-      onward q (vs, b, e) (rows, d, h) = elim (d.on q vs (values_long IsValue s.places vs b) e) [
-        | inl m ↦ m
-        | inr k ↦ elim h [
-          | inl (n, l, g) ↦ absurd (omega (arith, l))
-          | inr z ↦ untrue (sym (ap (λ (xs : List (WantedRow T)). counts q xs vs) z) ∙ k)
-        ]
-      ]
-
   -- it is looked at, and not noted
   pub step_early : (new : List (Submatrix T)) (keys after : List (List ℕ)) → after ≡ keys → IsLookedAt IsType IsValue cx old now s new → IsStep IsType IsValue cx scope old now s new keys after
   step_early new keys after e l = λ first todo seen search told. (
@@ -262,37 +242,6 @@ module _ {T : Type 0} (IsType : T → Type 0) (IsValue : T → Bool → MValue �
         let k = told v (subst (λ ks. Contains ks v) e i) in
         record { marks = k.marks; at = k.at; shown = k.shown; rows = k.rows; known = k.known; numbered = k.numbered; fit = k.fit; one = there s (sub_view k.shown k.rows) seen k.one; are = k.are },
   )
-
-  module _ (t : Submatrix T) (a : IsListedAs IsValue old now s (t ∷ [])) where
-    of_s : (Q : Type 0) → (((t.places ≡ s.places) × StandFor now (length s.places) s.rows t.rows) → Q) → Q
-    of_s Q f =
-        let (n, j, e, d) = a.listed.of_left t (here t []) in
-        in_cons s n [] (λ z. (t.places ≡ z.places) → StandFor now (length z.places) z.rows t.rows → Q) (λ e d. f (e, d)) (λ z (k, l, g). absurd (omega (arith, l))) j e d
-
-    listed_weight : weight_of t ≤ weight_of s
-    listed_weight = of_s (weight_of t ≤ weight_of s) (λ (e, d). part_weighs t.rows s.rows d.part)
-
-    listed_on : (q : Question) → Comes IsValue q s →
-        (rows : List (WantedRow T)) × StandFor now (length s.places) s.rows rows × (Contains (t ∷ []) (record { places = s.places; rows = rows }) ⊎ (rows ≡ [])) → (now q ≡ true) ⊎ Comes IsValue q t
-    listed_on q (vs, b, e) (rows, d, h) = elim (d.on q vs (values_long IsValue s.places vs b) e) [
-      | inl m ↦ inl m
-      | inr k ↦ elim h [
-        | inl i ↦ in_cons t (record { places = s.places; rows = rows }) [] (λ z. Comes IsValue q z → (now q ≡ true) ⊎ Comes IsValue q t) (λ c. inr c) (λ z (n, m, g). absurd (omega (arith, m))) i (vs, b, k)
-        | inr z ↦ untrue (sym (ap (λ (xs : List (WantedRow T)). counts q xs vs) z) ∙ k)
-      ]
-    ]
-
-    -- one is left
-    pub step_some : (then : Question → Bool) (new : List (Submatrix T)) (keys after : List (List ℕ)) → IsFit IsType IsValue cx s → IsStep IsType IsValue cx scope now then t new keys after → IsStep IsType IsValue cx scope old then s new keys after
-    step_some then new keys after f step = λ first todo seen search told.
-        step first todo seen
-        (stands_in IsType IsValue cx first old now todo seen s search a.grow a.right t (listed_fit IsType IsValue cx old now s t f a) listed_weight
-        (λ q c. listed_on q c (a.listed.each s (here s [])))
-        (λ q c. of_s (Comes IsValue q s) (λ (e, d). stood_back IsType IsValue cx now s t e d q c)))
-        told
-
-    pub lighter_some : (new : List (Submatrix T)) → AreLighter new t → AreLighter new s
-    lighter_some new l = λ n i. let k = l n i in let w = listed_weight in omega (arith, k, w)
 
 -- nothing is told at first
 pub none_told : {T : Type 0} (IsType : T → Type 0) (IsValue : T → Bool → MValue → Type 0) (cx : Context T) (scope : Scope T) (keys : List (List ℕ)) → keys ≡ [] → AreTold IsType IsValue cx scope [] keys

@@ -21,7 +21,6 @@ use Rattle.usefulness.specs.Done.{is_done}
 use Rattle.usefulness.specs.States.{plain_asked, plain_askeds, IsKept, IsListed, is_noted, scope_of}
 use Rattle.usefulness.proofs.Listed.{after_closed, left_guarded, listing_begins}
 use Rattle.usefulness.proofs.DoneRows.{done_row}
-use Rattle.usefulness.proofs.Enough.{enough_listed}
 use Rattle.usefulness.proofs.Finishing.{start_more, end_unwanted, end_all}
 
 -- a list without elements has no heads
@@ -77,16 +76,6 @@ listed_first {T} scope m columns l k e f g = record {
   rows = subst (All (IsRowIn scope columns)) (sym e) (All-nil (IsRowIn {T = T} scope columns));
   listed = subst (λ ks. IsListing {T = T} (is_noted m) (is_noted m) columns [] ks l.closed) (sym e)
       (subst (λ c. IsListing {T = T} (is_noted m) (is_noted m) columns [] [] c) (sym f) (listing_begins (is_noted m) columns));
-}
-
--- the rows that are enough were listed, and so were all
-pub listed_enough : {T : Type 0} (scope : Scope T) (old : Question → Bool) (columns : List ℕ) (all some : List (SparseAsked T)) (m : Reached T) (l : Listing T) →
-    DoFor old (length columns) (asked_views columns all) (asked_views columns some) → IsListed scope old m columns some l → IsListed scope old m columns all l
-listed_enough scope old columns all some m l d listed = record {
-  known = listed.known;
-  kept = listed.kept;
-  rows = listed.rows;
-  listed = enough_listed old (is_noted m) columns all some (plain_askeds l.rows.items) l.closed d listed.listed;
 }
 
 -- no row counts any more

@@ -24,7 +24,8 @@ pub(crate) struct Told {
     pub(crate) lists: IndexSet<Vec<u64>>,
     // How many submatrices are looked at before the first one is noted.
     pub(crate) untold: usize,
-    // Whether the submatrix that is looked at next is all that was left of the one before.
+    // Whether one submatrix alone was left of the one that was looked at last. Where nothing new comes of that one, another is
+    // looked at next, and is not noted either.
     pub(crate) alone: bool,
     // How many words there is room for.
     pub(crate) room: usize,
