@@ -24,7 +24,7 @@ use Rattle.pattern_matrix.specs.declared.halving.Part.{Part}
 use Rattle.pattern_matrix.proofs.Halves.{whole_part}
 use Rattle.pattern_arena.specs.declared.pattern.DePat.{DePat}
 use Rattle.keyed_matrix.specs.Steps.{AreLonger}
-use Rattle.keyed_matrix.specs.Views.{plain_head, plain_heads, plain_row, plain_rows}
+use Rattle.keyed_matrix.specs.Views.{plain_head, plain_row, plain_rows}
 use Rattle.keyed_matrix.specs.declared.rows.KeyedRow.{KeyedRow}
 use Rattle.decision_tree.specs.Cutting.{head_there, IsCutPart, AreLed}
 use Rattle.decision_tree.specs.Fronts.{IsFront}
@@ -299,23 +299,25 @@ same-head : {T : Type 0} (x : Option (Bor (DePat T))) → plain_head x ≡ plain
 same-head None = refl
 same-head (Some p) = refl
 
-head-read : {T : Type 0} (i : ℕ) (hs : List (Option (Bor (DePat T)))) (h : Option (Bor (DePat T))) → i < length hs →
-    h ≡ get_or hs i h → plain_pattern h ≡ head_there i (plain_heads hs)
-head-read i [] h l e = absurd (omega (arith, l))
-head-read zero (x ∷ hs) h l e = ap plain_pattern e ∙ sym (same-head x)
-head-read (suc i) (x ∷ hs) h l e = head-read i hs h (omega (arith, l)) e
+pub there-got : {T : Type 0} (i : ℕ) (hs : List (Head T)) (h : Head T) → slice_get hs i ≡ Some h → head_there i hs ≡ h
+there-got i [] h e = cc
+there-got zero (x ∷ hs) h e = one x h e
+  where
+    one : {A : Type 0} (x y : A) → Some x ≡ Some y → x ≡ y
+    one x y e = cc
+there-got (suc i) (x ∷ hs) h e = there-got i hs h e
 
 pub leaf-read : {T : Type 0} (i : ℕ) (r : KeyedRow T) (h : Option (Bor (DePat T))) (chosen : List ℕ) →
-    i < length r.heads.items → h ≡ get_or r.heads.items i h → chosen ≡ [] →
+    slice_get (plain_row r).heads i ≡ Some (plain_head h) → chosen ≡ [] →
     leaf_of (plain_pattern h) chosen ≡ column_leaf i (plain_row r)
-leaf-read i r h chosen l e none =
-    ap (leaf_of (plain_pattern h)) none ∙ ap (λ q. leaf_of q []) (head-read i r.heads.items h l e)
+leaf-read i r h chosen e none =
+    ap (leaf_of (plain_pattern h)) none
+    ∙ ap (λ q. leaf_of q []) (sym (same-head h) ∙ sym (there-got i (plain_row r).heads (plain_head h) e))
 
 -- a row alone has a head there
-pub one-longer : {T : Type 0} (i : ℕ) (r : KeyedRow T) → i < length r.heads.items → AreLonger i (plain_rows (r ∷ []))
+pub one-longer : {T : Type 0} (i : ℕ) (r : KeyedRow T) → i < length (plain_row r).heads → AreLonger i (plain_rows (r ∷ []))
 one-longer {T} i r l =
-    All-cons (λ (x : MRow T). i < length x.heads) (plain_row r) []
-    (omega (arith, length-map r.heads.items plain_head, l)) (All-nil (λ (x : MRow T). i < length x.heads))
+    All-cons (λ (x : MRow T). i < length x.heads) (plain_row r) [] l (All-nil (λ (x : MRow T). i < length x.heads))
 
 -- what is read within a list does not depend on what would be read outside
 pub same-get : {A : Type 0} (xs : List A) (j : ℕ) (d e : A) → j < length xs → get_or xs j d ≡ get_or xs j e

@@ -1,5 +1,4 @@
 -- Numbers of rows that are enough for the pieces of a column.
-use denote.Bor.{Bor}
 use Rattle.std.proofs.Common.{◌≡◌, nat_eq, true≢false, inl, inr, ◌≤◌, ◌<◌, ℕ, zero, suc, ◌+◌, Bool, true, false, not, ◌&&◌, nat_le, nat_lt, List, [], ◌∷◌, ◌++◌, map, filter, cond, length, take, drop, get_or, Option, Some, None, refl, sym, ap, subst, ◌∙◌, arith, slice_get, append_assoc, take-append-drop, ◌-◌}
 use Rattle.std.proofs.lemmas.Bool.Decides.{nat_tests}
 use Rattle.std.proofs.lemmas.List.{length-map, take_more}
@@ -23,7 +22,7 @@ use Rattle.pattern_matrix.specs.Halving.{span_has, span_meets, having, meeting, 
 use Rattle.pattern_matrix.specs.Parts.{plain_spans, IsFull}
 use Rattle.pattern_matrix.specs.Sparse.{head_has}
 use Rattle.pattern_matrix.specs.declared.halving.Part.{Part}
-use Rattle.keyed_matrix.specs.Views.{plain_head, plain_heads, plain_row, plain_rows}
+use Rattle.keyed_matrix.specs.Views.{plain_row, plain_rows}
 use Rattle.keyed_matrix.specs.declared.rows.KeyedRow.{KeyedRow}
 use Rattle.decision_tree.proofs.Reading.{read-map}
 use Rattle.decision_tree.specs.Cutting.{head_there, is_flat, takes_pieces, TakesPieces, BeginAlike, AreEnough, IsCutPart, IsCutTo, AreLed}
@@ -323,13 +322,6 @@ module _ {T : Type 0} (i : ℕ) (rows : List (KeyedRow T)) where
 pub covers-meets : (first end a b : ℕ) → first < end → (nat_le a first && nat_le end b) ≡ true →
     (nat_lt a end && nat_lt first b) ≡ true
 covers-meets first end a b l e = grind (arith, nat_tests)
-
--- the head that is read
-pub there-read : {T : Type 0} (i : ℕ) (hs : List (Option (Bor (DePat T)))) (h : Option (Bor (DePat T))) → i < length hs →
-    h ≡ get_or hs i h → plain_head h ≡ head_there i (plain_heads hs)
-there-read i [] h l e = absurd (omega (arith, l))
-there-read zero (x ∷ hs) h l e = ap plain_head e
-there-read (suc i) (x ∷ hs) h l e = there-read i hs h (omega (arith, l)) e
 
 -- what is complete is enough
 pub full-part : {T : Type 0} (i : ℕ) (rows : List (MRow T)) (spans : List Span) (p : Part) → IsFull spans p →

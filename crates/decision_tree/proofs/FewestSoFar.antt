@@ -12,7 +12,7 @@ use Rattle.match_model.specs.Lists.{Every}
 use Rattle.match_model.specs.Matrices.{MColumn, MRow}
 use Rattle.match_model.specs.Rows.{Head, is_wild, starts_wild}
 use Rattle.match_model.specs.WellTyped.{AreHeadsTyped}
-use Rattle.keyed_matrix.specs.Views.{plain_column, plain_columns, plain_head, plain_heads, plain_row, plain_rows}
+use Rattle.keyed_matrix.specs.Views.{plain_column, plain_columns, plain_heads, plain_row, plain_rows}
 use Rattle.keyed_matrix.specs.declared.rows.KeyedColumn.{KeyedColumn}
 use Rattle.keyed_matrix.specs.declared.rows.KeyedRow.{KeyedRow}
 use Rattle.tree_laws.proofs.FewestPlaces.{fewest-of}
@@ -223,8 +223,7 @@ first-cut (r ∷ rows) d l = refl
 -- it has as many heads as there are columns
 pub first-heads : {T : Type 0} (cx : Context T) (columns : List (KeyedColumn T)) (rows : List (KeyedRow T))
     (d : KeyedRow T) → 0 < length rows → Every (λ r. AreHeadsTyped cx (plain_columns columns) r.heads) (plain_rows rows) →
-    length columns ≡ length (get_or rows 0 d).heads.items
+    length columns ≡ length (plain_row (get_or rows 0 d)).heads
 first-heads cx columns [] d l t = absurd (omega (arith, l))
 first-heads cx columns (r ∷ rows) d l t =
     sym (length-map columns plain_column) ∙ as-many cx (plain_columns columns) (plain_heads r.heads.items) t.0
-    ∙ length-map r.heads.items plain_head

@@ -33,4 +33,14 @@ mod Asking
 mod Cuts
 mod Fronts
 mod Enough
+pub mod Stepwise
+mod Blanks
+pub mod Marks
+pub mod Open
+pub mod RunTests
+pub mod Shown
+pub mod ThinHeads
+pub mod ThinGood
+pub mod ThinLeads
+pub mod ThinMatrix
 mod KnownHeads

@@ -25,7 +25,7 @@ use Rattle.constructor_sets.specs.Present.{AreFound}
 use Rattle.constructor_sets.specs.declared.piece.PieceState.TheVariants.{Present}
 use Rattle.keyed_rows.specs.Parting.{RowParted}
 use Rattle.keyed_steps.specs.Good.{IsGood}
-use Rattle.keyed_matrix.specs.Views.{plain_column, plain_columns, plain_head, plain_heads, plain_rows}
+use Rattle.keyed_matrix.specs.Views.{plain_column, plain_columns, plain_heads, plain_rows, plain_row}
 use Rattle.keyed_matrix.specs.declared.rows.KeyedColumn.{KeyedColumn}
 use Rattle.keyed_matrix.specs.declared.rows.KeyedRow.{KeyedRow}
 use Rattle.tree_sharing.specs.Table.{IsCaseAt}
@@ -96,13 +96,13 @@ module _ {T : Type 0} (IsType : T → Type 0) (cx : Context T) (V : T → Bool �
 
   -- a row has as many heads as there are columns
   pub first-as-many : (e : Matrix T) (r : KeyedRow T) (rows : List (KeyedRow T)) → e.rows.items ≡ r ∷ rows →
-      IsGoodMatrix IsType cx decides e → length e.columns.items ≡ length r.heads.items
+      IsGoodMatrix IsType cx decides e → length e.columns.items ≡ length (plain_row r).heads
   first-as-many e r rows rs g =
       let good : IsGood IsType cx decides (matrix_columns e) (plain_rows (r ∷ rows)) =
       subst (λ q. IsGood IsType cx decides (matrix_columns e) (plain_rows q)) rs g.good in
       let same : length (matrix_columns e) ≡ length (plain_heads r.heads.items) =
       as-many cx (matrix_columns e) (plain_heads r.heads.items) good.rows_are.0.typed in
-      sym (length-map e.columns.items plain_column) ∙ same ∙ length-map r.heads.items plain_head
+      sym (length-map e.columns.items plain_column) ∙ same
 
   -- the guard of the first row is asked
   pub guard-begun : (frames : List (Frame T)) (now : List MTree) (arm : ℕ) (binds : Vec Bind)

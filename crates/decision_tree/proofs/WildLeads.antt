@@ -73,7 +73,7 @@ module _ {T : Type 0} (IsType : T → Type 0) (cx : Context T) (decides : ℕ �
     pub here : IsBeside i columns new
 
   -- the number of branches depends on the heads alone
-  branches-to : (j k : ℕ) (c : MColumn T) (rows others : List (MRow T)) (n : ℕ) →
+  pub branches-to : (j k : ℕ) (c : MColumn T) (rows others : List (MRow T)) (n : ℕ) →
       all_wild_at j (rows_at expand_head c.place j rows) ≡ all_wild_at k (rows_at expand_head c.place k others) →
       ctors_at j (rows_at expand_head c.place j rows) ≡ ctors_at k (rows_at expand_head c.place k others) →
       AreBranches cx V j c rows n → AreBranches cx V k c others n

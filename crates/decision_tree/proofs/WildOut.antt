@@ -1,5 +1,5 @@
 -- Columns in which every row is wild are left out, one after the other.
-use Rattle.std.proofs.Common.{◌≡◌, ◌<◌, ◌≤◌, inl, inr, ℕ, zero, suc, ◌+◌, false, List, [], ◌∷◌, ◌++◌, map, take, drop, length, get_or, Some, refl, sym, ap, ◌∙◌, append-nil, arith, subst}
+use Rattle.std.proofs.Common.{◌≡◌, ◌<◌, ◌≤◌, inl, inr, ℕ, zero, suc, ◌+◌, false, List, [], ◌∷◌, ◌++◌, map, take, drop, length, Some, slice_get, refl, sym, ap, ◌∙◌, append-nil, arith, subst}
 use Rattle.std.specs.List.{All}
 use Rattle.std.proofs.lemmas.Bool.{cases_lt}
 use Rattle.std.proofs.lemmas.List.Elements.{All-nil, All-cons, All-head, All-tail}
@@ -29,11 +29,13 @@ removed f i xs ys l e =
     ∙ map-replaced f i xs []
 
 -- a head that stands there
-pub head-there : {A : Type 0} {T : Type 0} (f : A → Head T) (i : ℕ) (xs : List A) (x : A) → i < length xs →
-    x ≡ get_or xs i x → head_at i (map f xs) ≡ f x
-head-there f i [] x l e = absurd (omega (arith, l))
-head-there f zero (y ∷ xs) x l e = ap f (sym e)
-head-there f (suc i) (y ∷ xs) x l e = head-there f i xs x (omega (arith, l)) e
+pub head-got : {T : Type 0} (i : ℕ) (hs : List (Head T)) (h : Head T) → slice_get hs i ≡ Some h → head_at i hs ≡ h
+head-got i [] h e = cc
+head-got zero (x ∷ hs) h e = one x h e
+  where
+    one : {A : Type 0} (x y : A) → Some x ≡ Some y → x ≡ y
+    one x y e = cc
+head-got (suc i) (x ∷ hs) h e = head-got i hs h e
 
 cut-long : {A B : Type 0} (i : ℕ) (xs : List A) (ys : List B) → length xs ≡ length ys →
     length (replaced_at i xs []) ≡ length (replaced_at i ys [])
@@ -53,7 +55,12 @@ beside-behind zero j l = refl
 beside-behind (suc i) zero l = absurd (omega (arith, l))
 beside-behind (suc i) (suc j) l = ap suc (beside-behind i j (omega (arith, l)))
 
-every-all : {A : Type 0} (P : A → Type 0) (xs : List A) → Every P xs → All P xs
+beside-before : (i j : ℕ) → j < i → beside i j ≡ j
+beside-before zero j l = absurd (omega (arith, l))
+beside-before (suc i) zero l = refl
+beside-before (suc i) (suc j) l = ap suc (beside-before i j (omega (arith, l)))
+
+pub every-all : {A : Type 0} (P : A → Type 0) (xs : List A) → Every P xs → All P xs
 every-all P [] h = All-nil P
 every-all P (x ∷ xs) h = All-cons P x xs h.0 (every-all P xs h.1)
 
@@ -73,6 +80,7 @@ module _ {T : Type 0} where
     pub as_long : AreAsLong cs rs
     pub within : low ≤ length cs
     pub none : (n : ℕ) → low ≤ n → n < length cs → all_wild_at n rs ≡ false
+    pub before : (n : ℕ) → n < low → all_wild_at n rs ≡ all_wild_at n rows
 
   pub out-begun : (columns : List (MColumn T)) (rows : List (MRow T)) → AreAsLong columns rows →
       ArePartlyOut (length columns) columns rows columns rows
@@ -81,6 +89,7 @@ module _ {T : Type 0} where
     as_long = h;
     within = omega arith;
     none = λ n l m. absurd (omega (arith, l, m));
+    before = λ n l. refl;
   }
 
   pub out-more : (i : ℕ) (columns : List (MColumn T)) (rows : List (MRow T)) (cs : List (MColumn T)) (rs : List (MRow T))
@@ -95,6 +104,7 @@ module _ {T : Type 0} where
             (left_out w.column.place i) rs (λ r e. cut-long i r.heads cs e) h.as_long;
         within = less;
         none = none;
+        before = before;
       }))
     where
       shorter : length (replaced_at i cs []) + 1 ≡ length cs
@@ -102,6 +112,10 @@ module _ {T : Type 0} where
 
       less : i ≤ length (replaced_at i cs [])
       less = let l = h.within in omega (arith, l, shorter)
+
+      before : (n : ℕ) → n < i → all_wild_at n (all_left_out w.column.place i rs) ≡ all_wild_at n rows
+      before n l =
+          wild-cut w.column.place i n rs ∙ ap (λ k. all_wild_at k rs) (beside-before i n l) ∙ h.before n (omega (arith, l))
 
       none : (n : ℕ) → i ≤ n → n < length (replaced_at i cs []) →
           all_wild_at n (all_left_out w.column.place i rs) ≡ false
@@ -115,6 +129,7 @@ module _ {T : Type 0} where
         as_long = h.as_long;
         within = (let l = h.within in omega (arith, l));
         none = none;
+        before = λ n l. h.before n (omega (arith, l));
       }))
     where
       none : (n : ℕ) → i ≤ n → n < length cs → all_wild_at n rs ≡ false

@@ -1,5 +1,5 @@
 -- Rows of a column of which some pieces have the first alone, since it is taken there (our own choice).
-use Rattle.std.specs.Prelude.{◌≡◌, ◌⊎◌, ◌≤◌, ◌<◌, ◌+◌, ℕ, zero, suc, Bool, true, not, ◌&&◌, List, [], ◌∷◌, map, take, drop, length, Some, None, slice_get}
+use Rattle.std.specs.Prelude.{◌≡◌, ◌⊎◌, ◌≤◌, ◌<◌, ◌+◌, ℕ, zero, suc, Bool, true, not, ◌&&◌, List, [], ◌∷◌, map, take, drop, length, Some, None, slice_get, cond}
 use Rattle.std.specs.List.{All, list_all}
 use Rattle.match_model.specs.ArenaPatterns.{de_pat, de_pats_list}
 use Rattle.match_model.specs.Matrices.{MRow}
@@ -19,6 +19,11 @@ head_there (suc i) (h ∷ hs) = head_there i hs
 abbrev pub is_flat : {T : Type 0} → Head T → Bool
 is_flat None = true
 is_flat (Some (de_pat c t uid at subs binds)) = list_all is_wild (map Some (de_pats_list subs))
+
+-- how many heads are neither wildcards nor names
+abbrev pub open_count : {T : Type 0} → List (Head T) → ℕ
+open_count [] = 0
+open_count (h ∷ hs) = cond (is_wild h) (open_count hs) (suc (open_count hs))
 
 -- whatever piece of the column is entered that the row has, the row is taken: it has no guard, and only wildcards and names
 -- in the other columns and below its head in this one

@@ -1,6 +1,7 @@
 pub mod Places
 pub mod Matrices
 pub mod Waiting
+pub mod Thin
 pub mod Lone
 pub mod WildColumns
 pub mod Known

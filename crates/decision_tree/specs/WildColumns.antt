@@ -1,5 +1,5 @@
 -- Rows without a column in which every row is wild (our own choice).
-use Rattle.std.specs.Prelude.{◌≡◌, ◌<◌, ◌⊎◌, ℕ, zero, suc, true, false, List, [], ◌∷◌, ◌++◌, map, length, slice_get, Some, None}
+use Rattle.std.specs.Prelude.{◌≡◌, ◌<◌, ◌⊎◌, ℕ, zero, suc, Bool, true, false, ◌&&◌, List, [], ◌∷◌, ◌++◌, map, length, slice_get, Some, None}
 use Rattle.match_model.specs.Lists.{Every}
 use Rattle.match_model.specs.Lowering.{all_wild_at}
 use Rattle.match_model.specs.Matrices.{MColumn, MRow, head_binds}
@@ -60,3 +60,20 @@ pub record AreLeftOut {T : Type 0} (columns : List (MColumn T)) (rows : List (MR
     (rs : List (MRow T)) : Type 0 where
   pub leaves : LeavesOut columns rows cs rs
   pub none_left : (i : ℕ) → i < length cs → all_wild_at i rs ≡ false
+
+-- marks of columns, each taken off where the head there is neither a wildcard nor a name
+abbrev pub marked : {T : Type 0} → List Bool → List (Head T) → List Bool
+marked [] hs = []
+marked (b ∷ bs) [] = b ∷ bs
+marked (b ∷ bs) (h ∷ hs) = (b && is_wild h) ∷ marked bs hs
+
+-- the same, where the first head stands in the column with the number
+abbrev pub marked_from : {T : Type 0} → (at : ℕ) → List Bool → List (Head T) → List Bool
+marked_from zero bs hs = marked bs hs
+marked_from (suc n) [] hs = []
+marked_from (suc n) (b ∷ bs) hs = b ∷ marked_from n bs hs
+
+-- the same, row by row
+abbrev pub all_marked : {T : Type 0} → List Bool → List (MRow T) → List Bool
+all_marked bs [] = bs
+all_marked bs (r ∷ rows) = all_marked (marked bs r.heads) rows

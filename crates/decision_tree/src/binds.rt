@@ -9,11 +9,11 @@ ghost use Rattle.match_model.specs.Ways.{put_by};
 ghost use Rattle.pat_context.specs.Places.{steps_of};
 ghost use Rattle.pat_context.specs.Views.{plain_place};
 ghost use Rattle.pattern_arena.specs.Trees.{plain_bound, plain_part};
-ghost use Rattle.keyed_matrix.specs.Views.{plain_caught, plain_columns, plain_head, plain_heads, plain_row};
+ghost use Rattle.keyed_matrix.specs.Views.{plain_caught, plain_columns, plain_head, plain_row};
 ghost use Rattle.tree_eval.specs.Nodes.{plain_bind};
 ghost use Rattle.decision_tree.specs.Places.{part_place};
 
-use keyed_matrix::{Caught, KeyedColumn, KeyedRow};
+use keyed_matrix::{Caught, KeyedColumn, KeyedRow, head_at};
 use no_memory::NoMemory;
 use pat_context::{Place, Step};
 use pattern_arena::{Bound, DePat, Part};
@@ -110,14 +110,15 @@ fn add_heads<'a, T: Copy>(
     alloc: Global,
     all: &mut Vec<Bind>,
     columns: &[KeyedColumn<'a, T>],
-    heads: &[Option<&'a DePat<'a, T>>],
+    row: &KeyedRow<'a, T>,
 ) -> Result<(), NoMemory>
-    requires { length columns.now ≡ length heads.now }
+    requires { length columns.now ≡ length (plain_row row.now).heads }
     ensures { OnOk result (map plain_bind all.new.items ≡ map plain_bind all.old.items
-        ++ all_head_binds (plain_columns columns.now) (plain_heads heads.now)) }
+        ++ all_head_binds (plain_columns columns.now) (plain_row row.now).heads) }
 {
-    for i in 0..heads.len() {
-        add_head(alloc, all, columns[i].place, &heads[i])?;
+    for i in 0..columns.len() {
+        let head = head_at(row, i);
+        add_head(alloc, all, columns[i].place, &head)?;
     }
     Ok(())
 }
@@ -166,11 +167,11 @@ pub(crate) fn row_binds<'a, T: Copy>(
     columns: &[KeyedColumn<'a, T>],
     row: &KeyedRow<'a, T>,
 ) -> Result<Vec<Bind>, NoMemory>
-    requires { length columns.now ≡ length row.now.heads.items }
+    requires { length columns.now ≡ length (plain_row row.now).heads }
     ensures { IfOk result (λ v. map plain_bind v.items ≡ row_binds (plain_columns columns.now) (plain_row row.now)) }
 {
     let mut all = Vec::new(alloc);
     add_caught(alloc, &mut all, &row.caught)?;
-    add_heads(alloc, &mut all, columns, &row.heads)?;
+    add_heads(alloc, &mut all, columns, row)?;
     ascending(alloc, all)
 }

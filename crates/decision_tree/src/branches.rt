@@ -9,7 +9,7 @@ ghost use Rattle.decision_tree.specs.Matrices.{IsTypedMatrix, fewer};
 
 use crate::leaves::is_wild;
 use constructor_sets::present;
-use keyed_matrix::{KeyedColumn, KeyedRow, ctors_apart};
+use keyed_matrix::{KeyedColumn, KeyedRow, ctors_apart, head_at};
 use no_memory::NoMemory;
 use pat_context::PatCx;
 use std::alloc::Global;
@@ -57,10 +57,11 @@ pub(crate) fn place_of<'a, C: PatCx>(
     ensures { IfOk result (λ i. IsFewest (C.context cx.now) (C.is_value cx.now) (plain_columns columns.now)
         (plain_rows rows.now) i) }
 {
-    let heads = &rows[0].heads;
+    let first = &rows[0];
     let mut best = None;
-    for i in 0..heads.len() {
-        if !is_wild(&heads[i]) {
+    for i in 0..columns.len() {
+        let head = head_at(first, i);
+        if !is_wild(&head) {
             let count = branches(alloc, cx, columns, rows, i)?;
             best = fewer(best, i, count);
         }

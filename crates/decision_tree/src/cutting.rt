@@ -1,7 +1,7 @@
 // The rows of each piece of a column, found by halving the range of pieces. On the way there each half is rid of the rows
 // behind one that takes all of the half, where each row before it takes all that it has of the half: the first row of
 // each piece is kept then, and it is taken, so no other row is looked at.
-ghost use Rattle.std.specs.Prelude.{◌≡◌, ◌≤◌, ◌<◌, ◌+◌, ◌-◌, ◌++◌, ◌∷◌, ◌&&◌, not, nat_le, ℕ, List, length, map, take, drop};
+ghost use Rattle.std.specs.Prelude.{cond, ◌≡◌, ◌≤◌, ◌<◌, ◌+◌, ◌-◌, ◌++◌, ◌∷◌, ◌&&◌, not, nat_le, ℕ, List, length, map, take, drop};
 ghost use Rattle.std.specs.Prelude.{Some, IfOk, OnOk};
 ghost use Rattle.std.specs.List.{All, list_all};
 ghost use Rattle.match_model.specs.Rows.{is_wild};
@@ -10,12 +10,12 @@ ghost use Rattle.pattern_arena.specs.Trees.{tree};
 ghost use Rattle.pattern_matrix.specs.Halving.{span_meets, having, leaves_with};
 ghost use Rattle.pattern_matrix.specs.Parts.{plain_spans, pieces_in, pieces_left};
 ghost use Rattle.keyed_matrix.specs.Steps.{AreLonger};
-ghost use Rattle.keyed_matrix.specs.Views.{plain_head, plain_heads, plain_row, plain_rows};
-ghost use Rattle.decision_tree.specs.Cutting.{is_flat, takes_pieces, AreEnough, IsCutPart, IsCutTo, AreLed};
+ghost use Rattle.keyed_matrix.specs.Views.{plain_head, plain_run, plain_heads, plain_row, plain_rows};
+ghost use Rattle.decision_tree.specs.Cutting.{is_flat, open_count, takes_pieces, AreEnough, IsCutPart, IsCutTo, AreLed};
 
 use crate::leaves::{is_wild, is_wild_pat};
 use constructor_sets::Span;
-use keyed_matrix::KeyedRow;
+use keyed_matrix::{HeadRun, KeyedRow, head_at};
 use no_memory::NoMemory;
 use pattern_arena::DePat;
 use pattern_matrix::{Part, PieceLeaves, meeting};
@@ -33,16 +33,27 @@ fn are_wild_pats<'a, T: Copy>(pats: &[DePat<'a, T>]) -> bool
     true
 }
 
-// Tells whether the heads are wildcards and names.
-fn are_wild_heads<'a, T: Copy>(heads: &[Option<&'a DePat<'a, T>>]) -> bool
-    ensures { result ≡ list_all is_wild (plain_heads heads.now) }
+// How many of the heads side by side are neither wildcards nor names.
+#[tactic(auto, using(crate::proofs::RunTests::run_tests))]
+fn open_in<'a, T: Copy>(one: &HeadRun<'a, T>) -> usize
+    ensures is { result ≡ open_count (plain_run one.now) }
+    ensures few { result ≤ 1 }
 {
-    for head in heads {
-        if !is_wild(head) {
-            return false;
-        }
+    match one {
+        HeadRun::Wilds(_count) => 0,
+        HeadRun::Written(p) => { if is_wild_pat(*p) { 0 } else { 1 } }
     }
-    true
+}
+
+// How many of the heads are neither wildcards nor names.
+fn count_open<'a, T: Copy>(heads: &[HeadRun<'a, T>]) -> usize
+    ensures { result ≡ open_count (plain_heads heads.now) }
+{
+    let mut count = 0;
+    for one in heads {
+        count += open_in(one);
+    }
+    count
 }
 
 // Tells whether the patterns below the head are wildcards and names.
@@ -55,30 +66,35 @@ fn is_flat<'a, T: Copy>(head: Option<&'a DePat<'a, T>>) -> bool
     }
 }
 
-// Tells whether all heads but that with the number are wildcards and names.
-fn are_wild_beside<'a, T: Copy>(heads: &[Option<&'a DePat<'a, T>>], i: usize) -> bool
-    requires { i < length heads.now }
-    ensures { result ≡ (list_all is_wild (take i (plain_heads heads.now))
-        && list_all is_wild (drop (i + 1) (plain_heads heads.now))) }
+// How many heads the head is that are neither wildcards nor names.
+fn own_count<'a, T: Copy>(head: &Option<&'a DePat<'a, T>>) -> usize
+    ensures { result ≡ cond (is_wild (plain_head head.now)) 0 1 }
 {
-    if !are_wild_heads(&heads[..i]) {
-        return false;
-    }
-    are_wild_heads(&heads[i + 1..])
+    if is_wild(head) { 0 } else { 1 }
+}
+
+// Tells whether all heads of the row but that with the number are wildcards and names.
+fn are_wild_beside<'a, T: Copy>(row: &KeyedRow<'a, T>, i: usize) -> bool
+    requires { i < length (plain_row row.now).heads }
+    ensures { result ≡ (list_all is_wild (take i (plain_row row.now).heads)
+        && list_all is_wild (drop (i + 1) (plain_row row.now).heads)) }
+{
+    let head = head_at(row, i);
+    count_open(&row.heads) == own_count(&head)
 }
 
 // Tells whether the row is taken, whatever piece of the column is entered that it has.
 fn takes_pieces<'a, T: Copy>(row: &KeyedRow<'a, T>, i: usize) -> bool
-    requires { i < length row.now.heads.items }
+    requires { i < length (plain_row row.now).heads }
     ensures { result ≡ takes_pieces i (plain_row row.now) }
 {
     if row.guarded {
         return false;
     }
-    if !is_flat(row.heads[i]) {
+    if !is_flat(head_at(row, i)) {
         return false;
     }
-    are_wild_beside(&row.heads, i)
+    are_wild_beside(row, i)
 }
 
 // Tells whether the span has a piece from the first to before the end.
@@ -97,7 +113,7 @@ fn covers(span: &Span, first: usize, end: usize) -> bool
 
 // Tells whether the row with the span has a piece of the part, and is not taken in each.
 fn is_open<'a, T: Copy>(row: &KeyedRow<'a, T>, i: usize, span: &Span, part: &Part) -> bool
-    requires { i < length row.now.heads.items }
+    requires { i < length (plain_row row.now).heads }
     ensures { result ≡ (span_meets part.now.first part.now.end (Some (plain_span span.now))
         && not (takes_pieces i (plain_row row.now))) }
 {

@@ -14,7 +14,7 @@ ghost use Rattle.keyed_matrix.specs.Views.{plain_row, plain_rows};
 ghost use Rattle.decision_tree.specs.Cuts.{column_leaf, column_leaves, mirrored, listed_at};
 
 use constructor_sets::Span;
-use keyed_matrix::{KeyedRow, piece_rows};
+use keyed_matrix::{KeyedRow, head_at, piece_rows};
 use no_memory::NoMemory;
 use pat_context::{Ctor, Step};
 use pattern_matrix::{Chosen, Leaf, leaf_spans};
@@ -23,12 +23,12 @@ use std::slice::from_ref;
 
 // The head of the row in the column, as a leaf.
 fn column_leaf<'a, T: Copy>(row: &KeyedRow<'a, T>, i: usize) -> Leaf<'a, T>
-    requires { i < length row.now.heads.items }
+    requires { i < length (plain_row row.now).heads }
     ensures { plain_leaf result ≡ column_leaf i (plain_row row.now) }
 {
     Leaf {
         row: 0,
-        head: row.heads[i],
+        head: head_at(row, i),
         chosen: Chosen::Nothing,
     }
 }

@@ -1,12 +1,13 @@
 // Rows that have only wildcards and names left.
 ghost use Rattle.std.specs.Prelude.{◌≡◌, ◌≤◌, Some, length};
+ghost use Rattle.std.specs.List.{list_all};
 ghost use Rattle.match_model.specs.DecisionTrees.{all_wild};
 ghost use Rattle.match_model.specs.Rows.{is_wild};
 ghost use Rattle.pattern_arena.specs.Trees.{tree};
-ghost use Rattle.keyed_matrix.specs.Views.{plain_head, plain_row, plain_rows};
+ghost use Rattle.keyed_matrix.specs.Views.{plain_head, plain_run, plain_row, plain_rows};
 ghost use Rattle.decision_tree.specs.Asking.{asks_guard, AreAsked};
 
-use keyed_matrix::KeyedRow;
+use keyed_matrix::{HeadRun, KeyedRow};
 use pat_context::Ctor;
 use pattern_arena::DePat;
 
@@ -30,12 +31,23 @@ pub(crate) fn is_wild_pat<'a, T: Copy>(pat: &DePat<'a, T>) -> bool
     }
 }
 
+// Tells whether the heads side by side are wildcards and names.
+#[tactic(auto, using(crate::proofs::RunTests::run_tests))]
+fn is_wild_run<'a, T: Copy>(one: &HeadRun<'a, T>) -> bool
+    ensures { result ≡ list_all is_wild (plain_run one.now) }
+{
+    match one {
+        HeadRun::Wilds(_count) => true,
+        HeadRun::Written(p) => is_wild_pat(*p),
+    }
+}
+
 // Tells whether every head of the row is one.
 pub(crate) fn is_leaf<'a, T: Copy>(row: &KeyedRow<'a, T>) -> bool
     ensures { result ≡ all_wild (plain_row row.now) }
 {
-    for head in &row.heads {
-        if !is_wild(head) {
+    for one in &row.heads {
+        if !is_wild_run(one) {
             return false;
         }
     }

@@ -20,6 +20,7 @@ mod lowering;
 mod pieces;
 mod steps;
 mod tells;
+mod thin;
 mod top;
 mod wild;
 

@@ -32,6 +32,7 @@ use crate::lone::lone;
 use crate::pieces::{case_of, is_switchless};
 use crate::steps::{dropped, entered, entered_among, expanded};
 use crate::tells::known_matrix;
+use crate::thin::thin_rows;
 use crate::wild::without_wild;
 use bumpalo::Bump;
 use constructor_sets::{present, split_column};
@@ -369,7 +370,8 @@ fn look_up<'a, C: PatCx>(
 {
     tables_are_built(table);
     let Matrix { columns, rows } = m;
-    let rows = lone(alloc, rows);
+    let thin = thin_rows(alloc, rows)?;
+    let rows = lone(alloc, thin);
     let m = without_wild(alloc, Matrix { columns, rows })?;
     let matrix = known_matrix(alloc, &m.columns, &m.rows)?;
     if let Some(index) = find_known(known, &matrix) {

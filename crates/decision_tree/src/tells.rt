@@ -2,7 +2,7 @@
 ghost use Rattle.std.specs.Prelude.{◌≡◌, ◌+◌, ◌++◌, ◌∷◌, [], true, map, IfOk, IfSome, OnOk};
 ghost use Rattle.std.specs.List.{flat_map};
 ghost use Rattle.match_model.specs.Matrices.{bind_at};
-ghost use Rattle.keyed_matrix.specs.Views.{plain_caught, plain_columns, plain_head, plain_heads, plain_row};
+ghost use Rattle.keyed_matrix.specs.Views.{plain_caught, plain_columns, plain_run, plain_heads, plain_row};
 ghost use Rattle.keyed_matrix.specs.Views.{plain_rows};
 ghost use Rattle.decision_tree.specs.Known.{head_uid, known_column, known_row, known_matrix};
 ghost use Rattle.decision_tree.specs.KnownViews.{uids_of, plain_known_heads};
@@ -10,20 +10,10 @@ ghost use Rattle.decision_tree.specs.KnownViews.{plain_known_column, plain_name,
 
 use crate::digests::digest_of;
 use crate::known::{KnownColumn, KnownHeads, KnownMatrix, KnownName, KnownRow};
-use keyed_matrix::{Caught, KeyedColumn, KeyedRow};
+use keyed_matrix::{Caught, HeadRun, KeyedColumn, KeyedRow};
 use no_memory::NoMemory;
-use pattern_arena::{DePat, Part};
+use pattern_arena::Part;
 use std::alloc::Global;
-
-// The uid of the head's pattern.
-fn head_uid<'a, T: Copy>(head: &Option<&'a DePat<'a, T>>) -> Option<u64>
-    ensures { result ≡ head_uid (plain_head head.now) }
-{
-    match head {
-        None => None,
-        Some(p) => Some(p.uid),
-    }
-}
 
 // The heads with one more, where they go on with the uid.
 fn longer(heads: &KnownHeads, uid: Option<u64>) -> Option<KnownHeads>
@@ -95,16 +85,34 @@ fn add_uid(all: &mut Vec<KnownHeads>, uid: Option<u64>) -> Result<(), NoMemory>
     }
 }
 
+// Adds the heads side by side, by the uids of their patterns.
+#[tactic(auto, using(crate::proofs::RunTests::run_tests))]
+fn add_run<'a, T: Copy>(all: &mut Vec<KnownHeads>, one: &HeadRun<'a, T>) -> Result<(), NoMemory>
+    ensures { OnOk result (flat_map plain_known_heads all.new.items
+        ≡ flat_map plain_known_heads all.old.items ++ map head_uid (plain_run one.now)) }
+{
+    match one {
+        HeadRun::Wilds(count) => {
+            all.push(KnownHeads {
+                first: None,
+                count: *count as u64,
+            })?;
+            Ok(())
+        }
+        HeadRun::Written(p) => add_uid(all, Some(p.uid)),
+    }
+}
+
 // The heads by the uids of their patterns.
 fn known_heads<'a, T: Copy>(
     alloc: Global,
-    heads: &[Option<&'a DePat<'a, T>>],
+    heads: &[HeadRun<'a, T>],
 ) -> Result<Vec<KnownHeads>, NoMemory>
     ensures { IfOk result (λ v. flat_map plain_known_heads v.items ≡ map head_uid (plain_heads heads.now)) }
 {
     let mut all = Vec::new(alloc);
-    for head in heads {
-        add_uid(&mut all, head_uid(head))?;
+    for one in heads {
+        add_run(&mut all, one)?;
     }
     Ok(all)
 }

@@ -1,18 +1,22 @@
 // Columns in which every row has a wildcard or a name: a tree asks nothing there, so it is that of the rows without them.
-ghost use Rattle.std.specs.Prelude.{◌≡◌, ◌<◌, ◌++◌, map, length, IfOk};
+ghost use Rattle.std.specs.Prelude.{◌≡◌, ◌<◌, ◌≤◌, ◌+◌, ◌++◌, ◌∷◌, [], true, Some, map, length, replicate, IfOk};
+ghost use Rattle.std.specs.List.{All};
+ghost use Rattle.match_model.specs.Lowering.{all_wild_at};
 ghost use Rattle.match_model.specs.Matrices.{bind_at};
 ghost use Rattle.pat_context.specs.Views.{plain_place};
-ghost use Rattle.pattern_arena.specs.Trees.{plain_bound};
+ghost use Rattle.pattern_arena.specs.Trees.{tree, plain_bound};
 ghost use Rattle.keyed_matrix.specs.Steps.{AreLonger};
-ghost use Rattle.keyed_matrix.specs.Views.{plain_caught, plain_row, plain_rows};
+ghost use Rattle.keyed_matrix.specs.Views.{plain_caught, plain_run, plain_heads, plain_row, plain_rows};
 ghost use Rattle.decision_tree.specs.Matrices.{matrix_columns, matrix_rows};
 ghost use Rattle.decision_tree.specs.WildColumns.{left_out, all_left_out, AreAsLong, IsLeftOutAt, AreLeftOut};
+ghost use Rattle.decision_tree.specs.WildColumns.{marked, marked_from, all_marked};
 
 use crate::frames::Matrix;
-use keyed_matrix::{Caught, KeyedRow, are_wild};
+use crate::leaves::is_wild_pat;
+use keyed_matrix::{Caught, HeadRun, KeyedRow, head_at, replaced_heads, size_of};
 use no_memory::NoMemory;
 use pat_context::Step;
-use pattern_arena::Bound;
+use pattern_arena::{Bound, DePat};
 use std::alloc::Global;
 
 // The names, caught at the place, and behind them those that were caught before.
@@ -43,11 +47,13 @@ fn without_head<'a, T: Copy>(
     i: usize,
     place: &'a [Step],
 ) -> Result<KeyedRow<'a, T>, NoMemory>
-    requires { i < length row.heads.items }
+    requires { i < length (plain_row row).heads }
     ensures { IfOk result (λ r. plain_row r ≡ left_out (plain_place place.now) i (plain_row row.entry)) }
 {
     let mut row = row;
-    match row.heads.remove(i) {
+    let head = head_at(&row, i);
+    row.heads = replaced_heads(alloc, &row.heads, i, &[])?;
+    match head {
         None => Ok(row),
         Some(p) => {
             row.caught = caught_first(alloc, p.binds, place, &row.caught)?;
@@ -75,18 +81,72 @@ fn without_heads<'a, T: Copy>(
     Ok(all)
 }
 
-// The matrix without the column with the number, where every row is wild there.
+// Takes the mark off the column with the number where the pattern there is neither a wildcard nor a name.
+fn mark_pattern<'a, T: Copy>(marks: &mut [bool], at: usize, pat: &DePat<'a, T>)
+    requires { at < length marks.old }
+    ensures { marks.new ≡ marked_from at marks.old (Some (tree pat.now) ∷ []) }
+{
+    if is_wild_pat(pat) {
+        return;
+    }
+    marks[at] = false;
+}
+
+// Takes the mark off each column where the heads have neither a wildcard nor a name; the first stands in the column with the
+// number.
+fn mark_run<'a, T: Copy>(marks: &mut [bool], at: usize, one: &HeadRun<'a, T>)
+    requires { at + length (plain_run one.now) ≤ length marks.old }
+    ensures { marks.new ≡ marked_from at marks.old (plain_run one.now) }
+{
+    match one {
+        HeadRun::Wilds(_count) => {}
+        HeadRun::Written(p) => mark_pattern(marks, at, *p),
+    }
+}
+
+// Takes the mark off each of so many columns where the row has neither a wildcard nor a name.
+fn mark_row<'a, T: Copy>(marks: &mut [bool], heads: &[HeadRun<'a, T>], columns: usize)
+    requires marks { length marks.old ≡ columns }
+    requires heads { length (plain_heads heads.now) ≡ columns }
+    ensures { marks.new ≡ marked marks.old (plain_heads heads.now) }
+{
+    let mut at = 0;
+    for one in heads {
+        mark_run(marks, at, one);
+        at += size_of(one);
+    }
+}
+
+// For each column whether every row is wild there.
+fn wild_columns<'a, T: Copy>(
+    alloc: Global,
+    columns: usize,
+    rows: &[KeyedRow<'a, T>],
+) -> Result<Vec<bool>, NoMemory>
+    requires { All (λ r. length r.heads ≡ columns) (plain_rows rows.now) }
+    ensures { IfOk result (λ v. v.items ≡ all_marked (replicate columns true) (plain_rows rows.now)) }
+{
+    let mut marks = vec![in alloc; true; columns]?;
+    for row in rows {
+        mark_row(&mut marks, &row.heads, columns);
+    }
+    Ok(marks)
+}
+
+// The matrix without the column with the number, where the mark says that every row is wild there.
 fn without_wild_at<'a, T: Copy>(
     alloc: Global,
     m: Matrix<'a, T>,
     i: usize,
+    wild: bool,
 ) -> Result<Matrix<'a, T>, NoMemory>
     requires within { i < length m.columns.items }
     requires as_long { AreAsLong (matrix_columns m) (matrix_rows m) }
+    requires wild { wild ≡ all_wild_at i (matrix_rows m) }
     ensures { IfOk result (λ e. IsLeftOutAt i (matrix_columns m.entry) (matrix_rows m.entry) (matrix_columns e)
         (matrix_rows e)) }
 {
-    if !are_wild(&m.rows, i) {
+    if !wild {
         return Ok(m);
     }
     let Matrix { columns, rows } = m;
@@ -106,9 +166,11 @@ pub(crate) fn without_wild<'a, T: Copy>(
         (matrix_rows e)) }
 {
     let count = m.columns.len();
+    let marks = wild_columns(alloc, count, &m.rows)?;
     let mut m = m;
     for k in 0..count {
-        m = without_wild_at(alloc, m, count - 1 - k)?;
+        let i = count - 1 - k;
+        m = without_wild_at(alloc, m, i, marks[i])?;
     }
     Ok(m)
 }

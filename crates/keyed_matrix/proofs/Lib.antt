@@ -1,5 +1,6 @@
 pub mod ChoiceByChoice
 pub mod Replaced
+pub mod HeadRuns
 pub mod RowSteps
 pub mod Parts
 pub mod InColumn

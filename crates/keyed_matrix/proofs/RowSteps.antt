@@ -2,9 +2,9 @@
 use denote.Bor.{Bor}
 use Rattle.std.proofs.Common.{◌≡◌, ◌<◌, ℕ, ◌+◌, ◌-◌, true, false, List, [], ◌∷◌, ◌++◌, map, take, drop, length, get_or, min, refl, ap, sym, ◌∙◌, arith, Option, Some, cond, subst, append_assoc, append-nil, slice_get, Result, Ok, Err, OnOk}
 use Rattle.std.specs.List.{All}
-use Rattle.std.proofs.lemmas.List.{length-map, take_all, length-drop, take_min, drop_min, take-map}
+use Rattle.std.proofs.lemmas.List.{length-map, take_min, drop_min, take-map}
 use Rattle.std.specs.List.{drop-map}
-use Rattle.std.proofs.lemmas.Option.{get_or_from_slice_get, slice_get_within, slice_get_read}
+use Rattle.std.proofs.lemmas.Option.{get_or_from_slice_get, slice_get_within}
 use Rattle.match_model.specs.Constructors.{MCtor, RowCtor, LongerShape, has_piece}
 use Rattle.match_model.specs.ArenaPatterns.{MBound, de_pats_list, de_pats_of}
 use Rattle.match_model.specs.Places.{MStep}
@@ -21,21 +21,18 @@ use Rattle.keyed_matrix.proofs.Replaced.{replacements-of, get-map, map-map}
 
 -- the rows of what the step says of the head
 pub row-of : {T : Type 0} (f : Head T → List (Replacement T)) (place : List MStep) (i : ℕ) (row : KeyedRow T)
-    (h : Option (Bor (DePat T))) → slice_get row.heads.items i ≡ Some h →
+    (h : Option (Bor (DePat T))) → slice_get (plain_row row).heads i ≡ Some (plain_head h) →
     row_at f place i (plain_row row)
     ≡ map (row_replaced place (plain_row row)) (map (put_at i (plain_heads row.heads.items)) (f (plain_head h)))
 row-of {T} f place i row h e =
-    let within : i < length row.heads.items = slice_get_within row.heads.items i h e in
-    let long : length (plain_heads row.heads.items) ≡ length row.heads.items = length-map row.heads.items plain_head in
-    let here : get_or (plain_heads row.heads.items) i (plain_head h) ≡ plain_head h =
-    get-map plain_head row.heads.items i h ∙ ap plain_head (get_or_from_slice_get row.heads.items i h h e) in
+    let heads = plain_heads row.heads.items in
     ap (map (row_replaced place (plain_row row)))
-    (replacements-of f i (plain_heads row.heads.items) (plain_head h) (omega (arith, within, long))
-    ∙ ap (λ x. map (put_at i (plain_heads row.heads.items)) (f x)) here)
+    (replacements-of f i heads (plain_head h) (slice_get_within heads i (plain_head h) e)
+    ∙ ap (λ x. map (put_at i heads) (f x)) (get_or_from_slice_get heads i (plain_head h) (plain_head h) e))
 
 -- one row, where the step says one thing
 pub row-one : {T : Type 0} (f : Head T → List (Replacement T)) (place : List MStep) (i : ℕ) (row : KeyedRow T)
-    (h : Option (Bor (DePat T))) (y : Replacement T) → slice_get row.heads.items i ≡ Some h → f (plain_head h) ≡ y ∷ [] →
+    (h : Option (Bor (DePat T))) (y : Replacement T) → slice_get (plain_row row).heads i ≡ Some (plain_head h) → f (plain_head h) ≡ y ∷ [] →
     row_at f place i (plain_row row)
     ≡ row_replaced place (plain_row row) (put_at i (plain_heads row.heads.items) y) ∷ []
 row-one f place i row h y e k =
@@ -44,7 +41,7 @@ row-one f place i row h y e k =
 
 -- no row, where it says nothing
 pub row-none : {T : Type 0} (f : Head T → List (Replacement T)) (place : List MStep) (i : ℕ) (row : KeyedRow T)
-    (h : Option (Bor (DePat T))) → slice_get row.heads.items i ≡ Some h → f (plain_head h) ≡ [] →
+    (h : Option (Bor (DePat T))) → slice_get (plain_row row).heads i ≡ Some (plain_head h) → f (plain_head h) ≡ [] →
     row_at f place i (plain_row row) ≡ []
 row-none f place i row h e k =
     row-of f place i row h e
@@ -52,7 +49,7 @@ row-none f place i row h e k =
 
 -- a row for each choice
 pub row-chosen : {T : Type 0} (place : List MStep) (i : ℕ) (row : KeyedRow T) (p : Bor (DePat T)) →
-    slice_get row.heads.items i ≡ Some (Some p) →
+    slice_get (plain_row row).heads i ≡ Some (Some (tree p.now)) →
     row_at expand_head place i (plain_row row) ≡ chosen_rows place i (plain_row row) (choices_of (tree p.now))
 row-chosen {T} place i row p e =
     row-of expand_head place i row (Some p) e
@@ -114,19 +111,17 @@ default-other {T} p h =
 -- a row of a list that has more heads
 pub longer-row : {T : Type 0} (i : ℕ) (rows : List (KeyedRow T)) (k : ℕ) (row : KeyedRow T) →
     All (λ r. i < length r.heads) (plain_rows rows) → k < length rows → row ≡ get_or rows k row →
-    i < length row.heads.items
+    i < length (plain_row row).heads
 longer-row i rows k row all l e =
     let long : length (plain_rows rows) ≡ length rows = length-map rows plain_row in
     let a = all k (plain_row row) (omega (arith, l, long)) in
     let same : get_or (plain_rows rows) k (plain_row row) ≡ plain_row row = get-map plain_row rows k row ∙ ap plain_row (sym e) in
-    let b : i < length (plain_row row).heads = subst (λ (r : MRow _). i < length r.heads) same a in
-    let n : length (plain_heads row.heads.items) ≡ length row.heads.items = length-map row.heads.items plain_head in
-    omega (arith, b, n)
+    subst (λ (r : MRow _). i < length r.heads) same a
 
--- what stands at an index that was read
-pub was-there : {A : Type 0} (xs : List A) (i : ℕ) (x y : A) → i < length xs → x ≡ get_or xs i x → x ≡ y →
-    slice_get xs i ≡ Some y
-was-there xs i x y l e same = slice_get_read xs (length xs) i x refl l e ∙ ap Some same
+-- the head that was found is this one
+pub was-head : {T : Type 0} (hs : List (Head T)) (i : ℕ) (x y : Option (Bor (DePat T))) →
+    slice_get hs i ≡ Some (plain_head x) → x ≡ y → slice_get hs i ≡ Some (plain_head y)
+was-head hs i x y e same = e ∙ ap (λ z. Some (plain_head z)) same
 
 -- rows that were added, as other rows
 pub on-rows : {A E R : Type 0} (r : Result A E) (new old xs ys : List R) → ys ≡ xs → OnOk r (new ≡ old ++ xs) →
@@ -140,10 +135,6 @@ no-rows old ys e = sym (append-nil old) ∙ ap (λ zs. old ++ zs) (sym e)
 -- the replacement with these heads, where nothing is chosen
 abbrev pub of_heads : {T : Type 0} → List MBound → List (Head T) → List (Replacement T)
 of_heads binds heads = record { heads = heads; chosen = []; binds = binds } ∷ []
-
--- the rest of a list
-pub rest-of : {A : Type 0} (i : ℕ) (xs : List A) → take (length xs - (i + 1)) (drop (i + 1) xs) ≡ drop (i + 1) xs
-rest-of i xs = let l = length-drop (i + 1) xs in take_all (length xs - (i + 1)) (drop (i + 1) xs) (omega (arith, l))
 
 -- the heads of the ends of a row, and those between them
 pub ends-between : {T : Type 0} (subs : List (DePat T)) (front back count gap : ℕ) (first between all : List (Head T)) →

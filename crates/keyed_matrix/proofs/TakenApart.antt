@@ -3,7 +3,6 @@ use denote.Bor.{Bor}
 use Rattle.std.proofs.Common.{◌≡◌, ◌<◌, ℕ, zero, suc, Bool, true, false, List, [], ◌∷◌, ◌++◌, map, drop, length, nat_lt, refl, ap, sym, ◌∙◌, arith, Option, Some, None, slice_get, cond}
 use Rattle.std.specs.List.{flat_map, cons_option}
 use Rattle.std.specs.Option.{option_to_list}
-use Rattle.std.proofs.lemmas.List.{length-map}
 use Rattle.std.proofs.lemmas.Option.{slice_get_within}
 use Rattle.match_model.specs.ArenaPatterns.{MBound, MDePat, de_pat, uid_of}
 use Rattle.match_model.specs.Constructors.{MCtor}
@@ -17,7 +16,7 @@ use Rattle.pattern_arena.specs.Trees.{tree, placed_ctor, placed_subs, plain_boun
 use Rattle.pattern_arena.proofs.TreeFacts.{tree_out}
 use Rattle.keyed_matrix.specs.Choosing.{choice_after, choices_after, choices_of_each, ctors_chosen, ctors_of_each}
 use Rattle.keyed_matrix.specs.Steps.{row_at, chosen_rows, row_ctors}
-use Rattle.keyed_matrix.specs.Views.{plain_head, plain_heads, plain_row}
+use Rattle.keyed_matrix.specs.Views.{plain_heads, plain_row}
 use Rattle.keyed_matrix.specs.declared.rows.KeyedRow.{KeyedRow}
 use Rattle.keyed_matrix.proofs.ChoiceByChoice.{choices-other, choices-or, after-nothing}
 use Rattle.keyed_matrix.proofs.InColumn.{heads-from}
@@ -90,26 +89,19 @@ module _ {T : Type 0} where
       (ap first_ctor (drop-replaced i r.heads (Some c.pat) l) ∙ head-ctor (Some c.pat) (drop (suc i) r.heads))
       ∙ ap (cons_option (first_ctor (Some c.pat ∷ []))) (chosen-ctors place i r cs l)
 
-  within : (row : KeyedRow T) (i : ℕ) (h : Option (Bor (DePat T))) → slice_get row.heads.items i ≡ Some h →
-      i < length (plain_heads row.heads.items)
-  within row i h e =
-      let here : i < length row.heads.items = slice_get_within row.heads.items i h e in
-      let long : length (plain_heads row.heads.items) ≡ length row.heads.items = length-map row.heads.items plain_head in
-      omega (arith, here, long)
-
   -- a row has none where no pattern wrote a head
-  pub none-ctors : (row : KeyedRow T) (i : ℕ) → slice_get row.heads.items i ≡ Some None → row_ctors i (plain_row row) ≡ []
+  pub none-ctors : (row : KeyedRow T) (i : ℕ) → slice_get (plain_row row).heads i ≡ Some None → row_ctors i (plain_row row) ≡ []
   none-ctors row i e =
       ap (ctors_at i) (row-one expand_head [] i row None (record { heads = None ∷ []; chosen = []; binds = [] }) e refl)
       ∙ ap (λ hs. cons_option (first_ctor hs) [])
-      (drop-replaced i (plain_heads row.heads.items) None (within row i None e))
+      (drop-replaced i (plain_heads row.heads.items) None (slice_get_within (plain_heads row.heads.items) i None e))
 
   -- else those of the pattern
-  pub some-ctors : (row : KeyedRow T) (i : ℕ) (p : Bor (DePat T)) → slice_get row.heads.items i ≡ Some (Some p) →
+  pub some-ctors : (row : KeyedRow T) (i : ℕ) (p : Bor (DePat T)) → slice_get (plain_row row).heads i ≡ Some (Some (tree p.now)) →
       row_ctors i (plain_row row) ≡ ctors_chosen (choices_of (tree p.now))
   some-ctors row i p e =
       ap (ctors_at i) (row-chosen [] i row p e)
-      ∙ chosen-ctors [] i (plain_row row) (choices_of (tree p.now)) (within row i (Some p) e)
+      ∙ chosen-ctors [] i (plain_row row) (choices_of (tree p.now)) (slice_get_within (plain_heads row.heads.items) i (Some (tree p.now)) e)
 
   -- ---- rows
 
@@ -135,12 +127,12 @@ module _ {T : Type 0} where
 
   -- ---- or-patterns in a column
 
-  pub or-none : (row : KeyedRow T) (i : ℕ) → slice_get row.heads.items i ≡ Some None →
+  pub or-none : (row : KeyedRow T) (i : ℕ) → slice_get (plain_row row).heads i ≡ Some None →
       false ≡ starts_or (drop i (plain_row row).heads)
-  or-none row i e = sym (ap starts_or (heads-from row.heads.items i None e))
+  or-none row i e = sym (ap starts_or (heads-from (plain_row row).heads i None e))
 
-  pub or-some : (row : KeyedRow T) (i : ℕ) (p : Bor (DePat T)) → slice_get row.heads.items i ≡ Some (Some p) →
+  pub or-some : (row : KeyedRow T) (i : ℕ) (p : Bor (DePat T)) → slice_get (plain_row row).heads i ≡ Some (Some (tree p.now)) →
       is_or_ctor (placed_ctor p.now) ≡ starts_or (drop i (plain_row row).heads)
   or-some row i p e =
-      sym (ap starts_or (heads-from row.heads.items i (Some p) e)
+      sym (ap starts_or (heads-from (plain_row row).heads i (Some (tree p.now)) e)
       ∙ ap (λ q. starts_or (Some q ∷ drop (suc i) (plain_heads row.heads.items))) (tree_out p.now))

@@ -1,6 +1,7 @@
 -- Rows and columns as the definitions have them.
 use denote.Bor.{Bor}
-use Rattle.std.specs.Prelude.{List, map, Option, Some, None}
+use Rattle.std.specs.Prelude.{List, [], ◌∷◌, map, replicate, Option, Some, None}
+use Rattle.std.specs.List.{flat_map}
 use Rattle.match_model.specs.Rows.{Head}
 use Rattle.match_model.specs.Trees.{MBind}
 use Rattle.match_model.specs.Matrices.{MColumn, MRow, bind_at}
@@ -9,6 +10,8 @@ use Rattle.pattern_arena.specs.declared.pattern.DePat.{DePat}
 use Rattle.pattern_arena.specs.Trees.{tree, plain_bound}
 use Rattle.keyed_matrix.specs.declared.rows.Caught.{Caught}
 use Rattle.keyed_matrix.specs.declared.rows.KeyedColumn.{KeyedColumn}
+use Rattle.keyed_matrix.specs.declared.rows.HeadRun.{HeadRun}
+use Rattle.keyed_matrix.specs.declared.rows.HeadRun.TheVariants.{Wilds, Written}
 use Rattle.keyed_matrix.specs.declared.rows.KeyedRow.{KeyedRow}
 
 -- the head
@@ -16,9 +19,14 @@ abbrev pub plain_head : {T : Type 0} → Option (Bor (DePat T)) → Head T
 plain_head None = None
 plain_head (Some p) = Some (tree p.now)
 
+-- heads that stand side by side
+abbrev pub plain_run : {T : Type 0} → HeadRun T → List (Head T)
+plain_run (Wilds n) = replicate n None
+plain_run (Written p) = Some (tree p.now) ∷ []
+
 -- the heads
-abbrev pub plain_heads : {T : Type 0} → List (Option (Bor (DePat T))) → List (Head T)
-plain_heads heads = map plain_head heads
+abbrev pub plain_heads : {T : Type 0} → List (HeadRun T) → List (Head T)
+plain_heads heads = flat_map plain_run heads
 
 -- the name with the place of what it holds
 abbrev pub plain_caught : Caught → MBind

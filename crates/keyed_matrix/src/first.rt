@@ -6,7 +6,7 @@ ghost use Rattle.keyed_matrix.specs.First.{first_row};
 ghost use Rattle.keyed_matrix.specs.Steps.{AreLonger};
 ghost use Rattle.keyed_matrix.specs.Views.{plain_rows, plain_column};
 
-use crate::{KeyedColumn, KeyedRow};
+use crate::{HeadRun, KeyedColumn, KeyedRow};
 use no_memory::NoMemory;
 use pattern_arena::{CheckedArm, CheckedMatch};
 use smallvec::SmallVec;
@@ -52,7 +52,7 @@ fn add_arm<'a, T: Copy>(
         ++ first_row j (plain_arm arm.entry.now) ∷ []) }
 {
     let mut heads = Vec::new(alloc);
-    heads.push(Some(&arm.pat))?;
+    heads.push(HeadRun::Written(&arm.pat))?;
     rows.push(KeyedRow {
         heads,
         arm: j,

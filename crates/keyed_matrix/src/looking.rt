@@ -9,6 +9,7 @@ ghost use Rattle.keyed_matrix.specs.Steps.{AreLonger};
 ghost use Rattle.keyed_matrix.specs.Views.{plain_row, plain_rows};
 
 use crate::KeyedRow;
+use crate::heads::head_at;
 use no_memory::NoMemory;
 use pat_context::Ctor;
 use pattern_arena::DePat;
@@ -45,10 +46,10 @@ pub fn ctors_at<'a, T: Copy>(
 
 // Tells whether the row has a wildcard or a name in the column.
 fn is_wild_at<'a, T: Copy>(row: &KeyedRow<'a, T>, i: usize) -> bool
-    requires { i < length row.now.heads.items }
+    requires { i < length (plain_row row.now).heads }
     ensures { result ≡ starts_wild (drop i (plain_row row.now).heads) }
 {
-    match row.heads[i] {
+    match head_at(row, i) {
         None => true,
         Some(p) => is_wild(&p.ctor),
     }
@@ -60,11 +61,11 @@ fn add_ctor<'a, T: Copy>(
     row: &KeyedRow<'a, T>,
     i: usize,
 ) -> Result<(), NoMemory>
-    requires { i < length row.now.heads.items }
+    requires { i < length (plain_row row.now).heads }
     ensures { OnOk result (map plain_ctor ctors.new.items ≡ map plain_ctor ctors.old.items
         ++ option_to_list (first_ctor (drop i (plain_row row.now).heads))) }
 {
-    match row.heads[i] {
+    match head_at(row, i) {
         None => Ok(()),
         Some(p) => add_unless_wild(ctors, p),
     }

@@ -1,34 +1,18 @@
 // A row with something else in place of one of its heads.
-ghost use Rattle.std.specs.Prelude.{◌≡◌, ◌<◌, ◌++◌, map, take, drop, length, IfOk, OnOk};
+ghost use Rattle.std.specs.Prelude.{◌≡◌, ◌<◌, ◌++◌, map, length, IfOk};
 ghost use Rattle.match_model.specs.Matrices.{bind_at};
 ghost use Rattle.match_model.specs.Steps.{row_replaced, replaced_at};
 ghost use Rattle.pat_context.specs.Views.{plain_place};
 ghost use Rattle.pattern_arena.specs.Trees.{plain_bound};
 ghost use Rattle.keyed_matrix.specs.Views.{plain_heads, plain_caught, plain_row};
 
-use crate::{Caught, KeyedRow};
+use crate::heads::replaced_heads;
+use crate::{Caught, HeadRun, KeyedRow};
 use no_memory::NoMemory;
 use pat_context::Step;
-use pattern_arena::{Bound, DePat};
+use pattern_arena::Bound;
 use smallvec::SmallVec;
 use std::alloc::Global;
-
-// The heads with these in place of the head with the number.
-fn replaced_heads<'a, T: Copy>(
-    alloc: Global,
-    heads: &[Option<&'a DePat<'a, T>>],
-    i: usize,
-    new: &[Option<&'a DePat<'a, T>>],
-) -> Result<Vec<Option<&'a DePat<'a, T>>>, NoMemory>
-    requires { i < length heads.now }
-    ensures { IfOk result (λ v. plain_heads v.items ≡ replaced_at i (plain_heads heads.now) (plain_heads new.now)) }
-{
-    let mut all = Vec::with_capacity(alloc, heads.len().saturating_add(new.len()))?;
-    all.extend_from_slice(&heads[..i])?;
-    all.extend_from_slice(new)?;
-    all.extend_from_slice(&heads[i + 1..])?;
-    Ok(all)
-}
 
 // The alternatives that were chosen before, and these.
 fn both_chosen(alloc: Global, chosen: &[u64], more: &[u64]) -> Result<SmallVec<u64, 8>, NoMemory>
@@ -68,11 +52,11 @@ pub(crate) fn replaced_row<'a, T: Copy>(
     row: &KeyedRow<'a, T>,
     i: usize,
     place: &'a [Step],
-    heads: &[Option<&'a DePat<'a, T>>],
+    heads: &[HeadRun<'a, T>],
     chosen: &[u64],
     binds: &[Bound<'a>],
 ) -> Result<KeyedRow<'a, T>, NoMemory>
-    requires { i < length row.now.heads.items }
+    requires { i < length (plain_row row.now).heads }
     ensures { IfOk result (λ r. plain_row r ≡ row_replaced (plain_place place.now) (plain_row row.now) (record {
       heads = replaced_at i (plain_heads row.now.heads.items) (plain_heads heads.now);
       chosen = chosen.now;

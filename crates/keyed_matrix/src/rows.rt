@@ -19,11 +19,20 @@ pub struct KeyedColumn<'a, T: Copy> {
     pub validity: Validity,
 }
 
+/// Heads that stand side by side in a row.
+#[derive(Clone, Copy)]
+pub enum HeadRun<'a, T: Copy> {
+    /// So many wildcards that no pattern wrote.
+    Wilds(usize),
+    /// A pattern.
+    Written(&'a DePat<'a, T>),
+}
+
 /// A row of a matrix.
 #[derive(Drop)]
 pub struct KeyedRow<'a, T: Copy> {
-    /// A head for each column, in order; none is a wildcard that no pattern wrote.
-    pub heads: Vec<Option<&'a DePat<'a, T>>>,
+    /// A head for each column, in order.
+    pub heads: Vec<HeadRun<'a, T>>,
     /// The number of the arm, from 0.
     pub arm: u32,
     /// Whether the arm has a guard.

@@ -9,10 +9,11 @@ ghost use Rattle.pattern_arena.specs.Trees.{tree, placed_ctor, placed_subs, plai
 ghost use Rattle.keyed_matrix.specs.Views.{plain_heads, plain_row, plain_rows};
 ghost use Rattle.keyed_matrix.specs.Steps.{row_at, chosen_rows, AreLonger};
 
-use crate::KeyedRow;
 use crate::choices::choices_of;
+use crate::heads::{add_wilds, head_at};
 use crate::looking::is_wild;
 use crate::replacing::replaced_row;
+use crate::{HeadRun, KeyedRow};
 use constructor_sets::has_piece;
 use no_memory::NoMemory;
 use pat_context::{Ctor, Step};
@@ -89,12 +90,12 @@ fn add_expanded<'a, T: Copy>(
     i: usize,
     place: &'a [Step],
 ) -> Result<(), NoMemory>
-    requires { i < length row.now.heads.items }
+    requires { i < length (plain_row row.now).heads }
     ensures { OnOk result (plain_rows all.new.items ≡ plain_rows all.old.items
         ++ row_at expand_head (plain_place place.now) i (plain_row row.now)) }
 {
-    match row.heads[i] {
-        None => add_replaced(alloc, all, row, i, place, &[None], &[], &[]),
+    match head_at(row, i) {
+        None => add_replaced(alloc, all, row, i, place, &[HeadRun::Wilds(1)], &[], &[]),
         Some(p) => add_chosen(alloc, all, row, i, place, p),
     }
 }
@@ -108,7 +109,7 @@ fn add_chosen<'a, T: Copy>(
     place: &'a [Step],
     p: &'a DePat<'a, T>,
 ) -> Result<(), NoMemory>
-    requires { i < length row.now.heads.items }
+    requires { i < length (plain_row row.now).heads }
     ensures { OnOk result (plain_rows all.new.items ≡ plain_rows all.old.items
         ++ chosen_rows (plain_place place.now) i (plain_row row.now) (choices_of (tree p.entry.now))) }
 {
@@ -120,7 +121,7 @@ fn add_chosen<'a, T: Copy>(
             row,
             i,
             place,
-            &[Some(c.pat)],
+            &[HeadRun::Written(c.pat)],
             c.chosen.as_slice(),
             &c.binds,
         )?;
@@ -138,11 +139,11 @@ fn add_entered<'a, T: Copy>(
     piece: &Ctor,
     count: usize,
 ) -> Result<(), NoMemory>
-    requires { i < length row.now.heads.items }
+    requires { i < length (plain_row row.now).heads }
     ensures { OnOk result (plain_rows all.new.items ≡ plain_rows all.old.items
         ++ row_at (specialise_head (plain_ctor piece.now) count) (plain_place place.now) i (plain_row row.now)) }
 {
-    match row.heads[i] {
+    match head_at(row, i) {
         None => {
             let heads = wilds(alloc, count)?;
             add_replaced(alloc, all, row, i, place, &heads, &[], &[])
@@ -166,11 +167,11 @@ fn add_dropped<'a, T: Copy>(
     i: usize,
     place: &'a [Step],
 ) -> Result<(), NoMemory>
-    requires { i < length row.now.heads.items }
+    requires { i < length (plain_row row.now).heads }
     ensures { OnOk result (plain_rows all.new.items ≡ plain_rows all.old.items
         ++ row_at default_head (plain_place place.now) i (plain_row row.now)) }
 {
-    match row.heads[i] {
+    match head_at(row, i) {
         None => add_replaced(alloc, all, row, i, place, &[], &[], &[]),
         Some(p) => {
             if is_wild(&p.ctor) {
@@ -189,11 +190,11 @@ fn add_replaced<'a, T: Copy>(
     row: &KeyedRow<'a, T>,
     i: usize,
     place: &'a [Step],
-    heads: &[Option<&'a DePat<'a, T>>],
+    heads: &[HeadRun<'a, T>],
     chosen: &[u64],
     binds: &[Bound<'a>],
 ) -> Result<(), NoMemory>
-    requires { i < length row.now.heads.items }
+    requires { i < length (plain_row row.now).heads }
     ensures { OnOk result (plain_rows all.new.items ≡ plain_rows all.old.items
         ++ row_replaced (plain_place place.now) (plain_row row.now) (record {
           heads = replaced_at i (plain_heads row.now.heads.items) (plain_heads heads.now);
@@ -207,30 +208,24 @@ fn add_replaced<'a, T: Copy>(
 }
 
 // So many heads that no pattern wrote.
-#[tactic(auto, using(crate::proofs::Replaced::more_wilds))]
-fn wilds<'a, T: Copy>(
-    alloc: Global,
-    count: usize,
-) -> Result<Vec<Option<&'a DePat<'a, T>>>, NoMemory>
+fn wilds<'a, T: Copy>(alloc: Global, count: usize) -> Result<Vec<HeadRun<'a, T>>, NoMemory>
     ensures { IfOk result (λ v. plain_heads v.items ≡ wildcards count) }
 {
     let mut all = Vec::new(alloc);
-    for _part in 0..count {
-        all.push(None)?;
-    }
+    add_wilds(&mut all, count)?;
     Ok(all)
 }
 
 // Adds the patterns as heads.
 fn add_subs<'a, T: Copy>(
-    heads: &mut Vec<Option<&'a DePat<'a, T>>>,
+    heads: &mut Vec<HeadRun<'a, T>>,
     subs: &'a [DePat<'a, T>],
 ) -> Result<(), NoMemory>
     ensures { OnOk result (plain_heads heads.new.items
         ≡ plain_heads heads.old.items ++ map (λ p. Some (tree p)) subs.entry.now) }
 {
     for p in subs {
-        heads.push(Some(p))?;
+        heads.push(HeadRun::Written(p))?;
     }
     Ok(())
 }
@@ -240,7 +235,7 @@ fn part_heads<'a, T: Copy>(
     alloc: Global,
     p: &'a DePat<'a, T>,
     count: usize,
-) -> Result<Vec<Option<&'a DePat<'a, T>>>, NoMemory>
+) -> Result<Vec<HeadRun<'a, T>>, NoMemory>
     ensures { IfOk result (λ v. plain_heads v.items
         ≡ heads_of (placed_ctor p.entry.now) (map (λ q. Some (tree q)) (placed_subs p.entry.now)) count) }
 {
@@ -262,7 +257,7 @@ fn end_heads<'a, T: Copy>(
     front: u64,
     back: u64,
     count: usize,
-) -> Result<Vec<Option<&'a DePat<'a, T>>>, NoMemory>
+) -> Result<Vec<HeadRun<'a, T>>, NoMemory>
     ensures { IfOk result (λ v. plain_heads v.items
         ≡ heads_of (RowCtor (LongerShape front back)) (map (λ q. Some (tree q)) subs.entry.now) count) }
 {
@@ -273,9 +268,7 @@ fn end_heads<'a, T: Copy>(
     let gap = count
         .saturating_sub(front as usize)
         .saturating_sub(back as usize);
-    for _part in 0..gap {
-        heads.push(None)?;
-    }
+    add_wilds(&mut heads, gap)?;
     add_subs(&mut heads, end)?;
     Ok(heads)
 }

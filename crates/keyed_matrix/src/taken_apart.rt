@@ -12,6 +12,7 @@ ghost use Rattle.keyed_matrix.specs.Views.{plain_row, plain_rows};
 
 use crate::KeyedRow;
 use crate::choices::is_or;
+use crate::heads::head_at;
 use crate::looking::add_unless_wild;
 use no_memory::NoMemory;
 use pat_context::Ctor;
@@ -53,10 +54,10 @@ pub fn are_apart<'a, T: Copy>(rows: &[KeyedRow<'a, T>], i: usize) -> bool
 
 // Tells whether the row has an or-pattern in the column.
 fn is_or_at<'a, T: Copy>(row: &KeyedRow<'a, T>, i: usize) -> bool
-    requires { i < length row.now.heads.items }
+    requires { i < length (plain_row row.now).heads }
     ensures { result ≡ starts_or (drop i (plain_row row.now).heads) }
 {
-    match row.heads[i] {
+    match head_at(row, i) {
         None => false,
         Some(p) => is_or(&p.ctor),
     }
@@ -68,11 +69,11 @@ fn add_row_ctors<'a, T: Copy>(
     row: &KeyedRow<'a, T>,
     i: usize,
 ) -> Result<(), NoMemory>
-    requires { i < length row.now.heads.items }
+    requires { i < length (plain_row row.now).heads }
     ensures { OnOk result (map plain_ctor ctors.new.items ≡ map plain_ctor ctors.old.items
         ++ row_ctors i (plain_row row.now)) }
 {
-    match row.heads[i] {
+    match head_at(row, i) {
         None => Ok(()),
         Some(p) => add_pat_ctors(ctors, p),
     }

@@ -1,9 +1,8 @@
-use Rattle.std.proofs.Common.{◌<◌, ◌+◌, ◌∙◌, reverse, drop, length, refl, sym, subst, arith}
+use Rattle.std.proofs.Common.{◌<◌, ◌+◌, reverse, drop, length, refl, sym, subst, arith}
 use Rattle.std.proofs.lemmas.Bool.{and_parts}
-use Rattle.std.proofs.lemmas.List.{length-map}
 use Rattle.match_model.specs.DecisionTrees.{all_wild}
 use Rattle.keyed_matrix.specs.Deciding.{table_decides}
-use Rattle.keyed_matrix.specs.Views.{plain_columns, plain_head, plain_row, plain_rows}
+use Rattle.keyed_matrix.specs.Views.{plain_columns, plain_row, plain_rows}
 use Rattle.tree_eval.specs.Trees.{table_trees}
 use Rattle.decision_tree.specs.declared.frames.Frame.TheVariants.{Guard}
 use Rattle.decision_tree.specs.Waiting.{Awaits}
@@ -22,7 +21,6 @@ row_binds-requires g c =
     let row = c.index-rows-i.result in
     let within : i < length rows = omega (arith, c.requires.1.1.0) in
     c.requires.1.1.1.1.0 i (plain_row row) (read-map plain_row rows i row within c.index-rows-i.is)
-    ∙ length-map row.heads.items plain_head
 
 pub loop-i-preserved : goal.loop-i-preserved
 loop-i-preserved g c =

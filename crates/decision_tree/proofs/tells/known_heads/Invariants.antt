@@ -5,5 +5,5 @@ use Rattle.decision_tree.specs.Known.{head_uid}
 use Rattle.decision_tree.specs.KnownViews.{plain_known_heads}
 use Rattle.decision_tree.proofs.tells.known_heads.Given as goal
 
-abbrev pub invariant-loop-head : goal.invariant-loop-head
-invariant-loop-head g l = flat_map plain_known_heads l.all.items ≡ map head_uid (plain_heads (take l.head-index l.heads))
+abbrev pub invariant-loop-one : goal.invariant-loop-one
+invariant-loop-one g l = flat_map plain_known_heads l.all.items ≡ map head_uid (plain_heads (take l.one-index l.heads))

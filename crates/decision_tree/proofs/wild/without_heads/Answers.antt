@@ -1,7 +1,7 @@
 use Rattle.std.proofs.Common.{◌<◌, ◌++◌, ◌∷◌, [], ◌∙◌, map, length, ap, sym, append_assoc, append-nil, arith}
-use Rattle.std.proofs.lemmas.List.{map-append, length-map}
+use Rattle.std.proofs.lemmas.List.{map-append}
 use Rattle.pat_context.specs.Views.{plain_place}
-use Rattle.keyed_matrix.specs.Views.{plain_head, plain_row, plain_rows}
+use Rattle.keyed_matrix.specs.Views.{plain_row, plain_rows}
 use Rattle.decision_tree.specs.WildColumns.{left_out, all_left_out}
 use Rattle.decision_tree.proofs.WildOut.{next-row, none-long}
 use Rattle.decision_tree.proofs.wild.without_heads.Goals as goal
@@ -13,10 +13,8 @@ pub without_head-requires : goal.without_head-requires
 without_head-requires g c =
     let loop = c.loop-row in
     let row = c.in-Some.row in
-    let long = next-row (λ r. c.args.i < length r.heads) c.args.rows.items loop.yielded row loop.row-iterator.rest.items
-    c.next.new.self.rest.items c.requires loop.invariant.1 c.in-Some.ensures.steps.0 in
-    let same = length-map row.heads.items plain_head in
-    omega (arith, long, same)
+    next-row (λ r. c.args.i < length r.heads) c.args.rows.items loop.yielded row loop.row-iterator.rest.items
+    c.next.new.self.rest.items c.requires loop.invariant.1 c.in-Some.ensures.steps.0
 
 pub loop-row-preserved : goal.loop-row-preserved
 loop-row-preserved g c =

@@ -1,9 +1,52 @@
-use Rattle.std.proofs.Common.{◌≡◌, ◌<◌, ◌+◌, ◌-◌, length, subst, arith}
-use Rattle.std.proofs.lemmas.List.{length-map}
-use Rattle.keyed_matrix.specs.Views.{plain_column}
+use Rattle.std.proofs.Common.{◌≡◌, ◌<◌, ◌+◌, ◌-◌, ◌∙◌, true, length, replicate, slice_get, ap, sym, subst, arith}
+use Rattle.std.specs.List.{All}
+use Rattle.std.proofs.lemmas.List.{length-map, length-replicate}
+use Rattle.match_model.specs.Lowering.{all_wild_at}
+use Rattle.keyed_matrix.specs.Views.{plain_column, plain_rows}
 use Rattle.decision_tree.specs.Matrices.{matrix_columns, matrix_rows}
-use Rattle.decision_tree.proofs.WildOut.{ArePartlyOut, out-begun, out-more}
+use Rattle.decision_tree.specs.WildColumns.{all_marked}
+use Rattle.decision_tree.proofs.Marks.{all-long, column-mark}
+use Rattle.decision_tree.proofs.Reading.{read-one}
+use Rattle.decision_tree.proofs.WildOut.{ArePartlyOut, every-all, out-begun, out-more}
 use Rattle.decision_tree.proofs.wild.without_wild.Goals as goal
+
+pub wild_columns-requires : goal.wild_columns-requires
+wild_columns-requires g c =
+    let m = c.args.m in
+    let columns = matrix_columns m in
+    let rows = matrix_rows m in
+    let long = length-map m.columns.items plain_column in
+    let count = c.len-count.ensures in
+    let ok = m.columns.ok.0 in
+    let same : length columns ≡ c.len-count.result = omega (arith, long, count, ok) in
+    let each : All (λ r. length r.heads ≡ c.len-count.result) rows =
+    subst (λ n. All (λ r. length r.heads ≡ n) rows) same
+    (every-all (λ r. length r.heads ≡ length columns) rows c.requires) in
+    subst (λ rs. All (λ r. length r.heads ≡ c.len-count.result) (plain_rows rs)) (sym c.deref.ensures.value) each
+
+pub index-requires : goal.index-requires
+index-requires g c =
+    let count = c.len-count.result in
+    let rows = plain_rows c.deref.result.now in
+    let long : length c.in_ok-marks.marks.items ≡ count =
+    ap length c.in_ok-marks.ensures ∙ all-long (replicate count true) rows ∙ length-replicate count true in
+    let ok = c.in_ok-marks.marks.ok.0 in
+    omega (arith, long, ok, c.loop-k-test.true)
+
+pub without_wild_at-requires-clause-wild : goal.without_wild_at-requires-clause-wild
+without_wild_at-requires-clause-wild g c =
+    let count = c.len-count.result in
+    let k = c.loop-k.k in
+    let i = count - 1 - k in
+    let rows = matrix_rows c.args.m in
+    let below : k < count = c.loop-k-test.true in
+    let inside : i < count = omega (arith, below) in
+    let before : i < count - k = omega (arith, below) in
+    let mark = column-mark rows count i inside in
+    let marks = c.in_ok-marks.ensures ∙ ap (λ rs. all_marked (replicate count true) (plain_rows rs)) c.deref.ensures.value in
+    read-one c.in_ok-marks.marks.items i c.index.result.now (all_wild_at i rows)
+    (ap (λ bs. slice_get bs i) marks ∙ mark) c.index.ensures
+    ∙ sym (c.loop-k.invariant.before i before)
 
 pub loop-k-init : goal.loop-k-init
 loop-k-init g c =

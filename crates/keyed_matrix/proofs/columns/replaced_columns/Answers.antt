@@ -1,6 +1,6 @@
 use Rattle.std.proofs.Common.{◌++◌, ◌+◌, take, drop, ap, ◌∙◌}
 use Rattle.keyed_matrix.specs.Views.{plain_column, plain_columns}
-use Rattle.keyed_matrix.proofs.RowSteps.{rest-of}
+use Rattle.keyed_matrix.proofs.HeadRuns.{rest-of}
 use Rattle.keyed_matrix.proofs.Replaced.{replaced-parts, map-replaced}
 use Rattle.keyed_matrix.proofs.columns.replaced_columns.Goals as goal
 

@@ -5,7 +5,7 @@ use Rattle.pattern_arena.specs.declared.pattern.DePat.{out-DePat}
 use Rattle.pattern_arena.specs.Trees.{plain_bound}
 use Rattle.keyed_matrix.specs.Views.{plain_row, plain_rows}
 use Rattle.keyed_matrix.specs.Steps.{row_at}
-use Rattle.keyed_matrix.proofs.RowSteps.{row-one, row-none, was-there, on-rows, no-rows, default-wild, default-other}
+use Rattle.keyed_matrix.proofs.RowSteps.{row-one, row-none, was-head, on-rows, no-rows, default-wild, default-other}
 use Rattle.keyed_matrix.proofs.steps.add_dropped.Goals as goal
 
 pub returns-in-None : goal.returns-in-None
@@ -13,7 +13,7 @@ returns-in-None g c =
     let row = c.args.row.now in
     let place = plain_place c.args.place.now in
     let i = c.args.i in
-    let at = was-there row.heads.items i c.index.result.now None c.requires c.index.ensures c.in-None.is in
+    let at = was-head (plain_row row).heads i c.head_at.result None c.head_at.ensures c.in-None.is in
     on-rows c.add_replaced.result (plain_rows c.add_replaced.new.all.items) (plain_rows c.args.all.now.items) _ (row_at default_head place i (plain_row row))
     (row-one default_head place i row None (record { heads = []; chosen = []; binds = [] }) at refl) c.add_replaced.ensures
 
@@ -23,7 +23,7 @@ returns-then-is_wild g c =
     let place = plain_place c.args.place.now in
     let i = c.args.i in
     let p = c.in-Some.p.now in
-    let at = was-there row.heads.items i c.index.result.now (Some c.in-Some.p) c.requires c.index.ensures c.in-Some.is in
+    let at = was-head (plain_row row).heads i c.head_at.result (Some c.in-Some.p) c.head_at.ensures c.in-Some.is in
     on-rows c.add_replaced-then-is_wild.result (plain_rows c.add_replaced-then-is_wild.new.all.items) (plain_rows c.args.all.now.items) _
     (row_at default_head place i (plain_row row))
     (row-one default_head place i row (Some c.in-Some.p)
@@ -36,6 +36,6 @@ returns-else-is_wild g c =
     let place = plain_place c.args.place.now in
     let i = c.args.i in
     let p = c.in-Some.p.now in
-    let at = was-there row.heads.items i c.index.result.now (Some c.in-Some.p) c.requires c.index.ensures c.in-Some.is in
+    let at = was-head (plain_row row).heads i c.head_at.result (Some c.in-Some.p) c.head_at.ensures c.in-Some.is in
     no-rows (plain_rows c.args.all.now.items) (row_at default_head place i (plain_row row))
     (row-none default_head place i row (Some c.in-Some.p) at (default-other p (sym c.is_wild.ensures ∙ c.if-is_wild.false)))

@@ -5,7 +5,7 @@ use Rattle.pattern_arena.specs.declared.pattern.DePat.{out-DePat}
 use Rattle.pattern_arena.specs.Trees.{plain_bound}
 use Rattle.keyed_matrix.specs.Views.{plain_heads, plain_row, plain_rows}
 use Rattle.keyed_matrix.specs.Steps.{row_at}
-use Rattle.keyed_matrix.proofs.RowSteps.{row-one, row-none, was-there, on-rows, no-rows, of_heads, specialised-has, specialised-lacks}
+use Rattle.keyed_matrix.proofs.RowSteps.{row-one, row-none, was-head, on-rows, no-rows, of_heads, specialised-has, specialised-lacks}
 use Rattle.keyed_matrix.proofs.steps.add_entered.Goals as goal
 
 pub returns-in_ok-heads-in-None : goal.returns-in_ok-heads-in-None
@@ -14,7 +14,7 @@ returns-in_ok-heads-in-None g c =
     let place = plain_place c.args.place.now in
     let i = c.args.i in
     let step = specialise_head (plain_ctor c.args.piece.now) c.args.count in
-    let at = was-there row.heads.items i c.index.result.now None c.requires c.index.ensures c.in-None.is in
+    let at = was-head (plain_row row).heads i c.head_at.result None c.head_at.ensures c.in-None.is in
     let heads = ap plain_heads c.deref.ensures.value ∙ c.in_ok-heads-in-None.ensures in
     on-rows c.add_replaced.result (plain_rows c.add_replaced.new.all.items) (plain_rows c.args.all.now.items) _ (row_at step place i (plain_row row))
     (row-one step place i row None (record { heads = plain_heads c.deref.result.now; chosen = []; binds = [] }) at
@@ -28,7 +28,7 @@ returns-in_ok-heads-in-Some g c =
     let p = c.in-Some.p.now in
     let binds = map plain_bound (out-DePat g.row.T.Denot p).binds.now in
     let step = specialise_head (plain_ctor c.args.piece.now) c.args.count in
-    let at = was-there row.heads.items i c.index.result.now (Some c.in-Some.p) c.requires c.index.ensures c.in-Some.is in
+    let at = was-head (plain_row row).heads i c.head_at.result (Some c.in-Some.p) c.head_at.ensures c.in-Some.is in
     let heads = ap plain_heads c.deref-then-has_piece.ensures.value ∙ c.in_ok-heads-in-Some.ensures in
     on-rows c.add_replaced-then-has_piece.result (plain_rows c.add_replaced-then-has_piece.new.all.items) (plain_rows c.args.all.now.items) _
     (row_at step place i (plain_row row))
@@ -44,7 +44,7 @@ returns-else-has_piece g c =
     let i = c.args.i in
     let p = c.in-Some.p.now in
     let step = specialise_head (plain_ctor c.args.piece.now) c.args.count in
-    let at = was-there row.heads.items i c.index.result.now (Some c.in-Some.p) c.requires c.index.ensures c.in-Some.is in
+    let at = was-head (plain_row row).heads i c.head_at.result (Some c.in-Some.p) c.head_at.ensures c.in-Some.is in
     no-rows (plain_rows c.args.all.now.items) (row_at step place i (plain_row row))
     (row-none step place i row (Some c.in-Some.p) at
     (specialised-lacks (plain_ctor c.args.piece.now) c.args.count p (sym c.has_piece.ensures ∙ c.if-has_piece.false)))

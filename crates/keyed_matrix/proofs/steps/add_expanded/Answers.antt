@@ -5,7 +5,7 @@ use Rattle.pat_context.specs.Views.{plain_place}
 use Rattle.pattern_arena.specs.Trees.{tree}
 use Rattle.keyed_matrix.specs.Views.{plain_row, plain_rows}
 use Rattle.keyed_matrix.specs.Steps.{row_at, chosen_rows}
-use Rattle.keyed_matrix.proofs.RowSteps.{row-one, row-chosen, was-there, on-rows}
+use Rattle.keyed_matrix.proofs.RowSteps.{row-one, row-chosen, was-head, on-rows}
 use Rattle.keyed_matrix.proofs.steps.add_expanded.Goals as goal
 
 pub returns-in-None : goal.returns-in-None
@@ -13,7 +13,7 @@ returns-in-None g c =
     let row = c.args.row.now in
     let place = plain_place c.args.place.now in
     let i = c.args.i in
-    let at = was-there row.heads.items i c.index.result.now None c.requires c.index.ensures c.in-None.is in
+    let at = was-head (plain_row row).heads i c.head_at.result None c.head_at.ensures c.in-None.is in
     on-rows c.add_replaced.result (plain_rows c.add_replaced.new.all.items) (plain_rows c.args.all.now.items) _ (row_at expand_head place i (plain_row row))
     (row-one expand_head place i row None (record { heads = None ∷ []; chosen = []; binds = [] }) at refl) c.add_replaced.ensures
 
@@ -22,7 +22,7 @@ returns-in-Some g c =
     let row = c.args.row.now in
     let place = plain_place c.args.place.now in
     let i = c.args.i in
-    let at = was-there row.heads.items i c.index.result.now (Some c.in-Some.p) c.requires c.index.ensures c.in-Some.is in
+    let at = was-head (plain_row row).heads i c.head_at.result (Some c.in-Some.p) c.head_at.ensures c.in-Some.is in
     on-rows c.add_chosen.result (plain_rows c.add_chosen.new.all.items) (plain_rows c.args.all.now.items)
     (chosen_rows place i (plain_row row) (choices_of (tree c.in-Some.p.now))) (row_at expand_head place i (plain_row row))
     (row-chosen place i row c.in-Some.p at) c.add_chosen.ensures

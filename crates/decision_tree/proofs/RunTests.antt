@@ -1,0 +1,185 @@
+-- What is asked and made of heads that stand side by side.
+use Rattle.std.proofs.Common.{◌≡◌, ◌<◌, ◌≤◌, ℕ, zero, suc, ◌+◌, Bool, true, false, ◌&&◌, List, [], ◌∷◌, ◌++◌, map, take, drop, length, get_or, replicate, Some, None, refl, sym, ap, ◌∙◌, arith, subst, slice_get, append_assoc, append-nil}
+use Rattle.std.specs.List.{All, list_all}
+use Rattle.std.proofs.lemmas.List.{drop_all, length-append, length-map, map-append}
+use Rattle.std.proofs.lemmas.List.Folds.{list_all-append}
+use Rattle.match_model.specs.DecisionTrees.{all_head_binds}
+use Rattle.match_model.specs.Matrices.{MRow, head_binds}
+use Rattle.match_model.specs.Rows.{Head, is_wild, wildcards}
+use Rattle.match_model.specs.Trees.{MBind}
+use Rattle.pat_context.specs.Views.{plain_place}
+use Rattle.keyed_matrix.specs.declared.rows.KeyedColumn.{KeyedColumn}
+use Rattle.keyed_matrix.specs.declared.rows.HeadRun.{HeadRun}
+use Rattle.keyed_matrix.specs.declared.rows.KeyedRow.{KeyedRow}
+use Rattle.keyed_matrix.specs.Views.{plain_run, plain_heads, plain_row, plain_rows, plain_columns}
+use Rattle.keyed_matrix.proofs.Replaced.{get-map}
+use Rattle.keyed_matrix.proofs.HeadRuns.{runs-from, runs-until, none-from}
+use Rattle.decision_tree.specs.Cutting.{open_count}
+use Rattle.decision_tree.specs.Known.{head_uid}
+use Rattle.decision_tree.specs.Thin.{thin_head}
+use Rattle.decision_tree.specs.WildColumns.{marked, marked_from, all_marked}
+use Rattle.decision_tree.proofs.Marks.{marked-behind, all-more}
+use Rattle.decision_tree.proofs.Open.{open-append}
+
+some-is : {A : Type 0} (x y : A) → Some x ≡ Some y → x ≡ y
+some-is x y e = cc
+
+pub wilds-wild : (T : Type 0) (n : ℕ) → list_all is_wild (wildcards {T = T} n) ≡ true
+wilds-wild T zero = refl
+wilds-wild T (suc n) = wilds-wild T n
+
+pub open-wilds : (T : Type 0) (n : ℕ) → open_count (wildcards {T = T} n) ≡ 0
+open-wilds T zero = refl
+open-wilds T (suc n) = open-wilds T n
+
+pub wild-uids : (T : Type 0) (n : ℕ) → map head_uid (wildcards {T = T} n) ≡ replicate n None
+wild-uids T zero = refl
+wild-uids T (suc n) = ap (λ us. None ∷ us) (wild-uids T n)
+
+after : (k : ℕ) → suc k + 1 ≡ suc (k + 1)
+after k = omega arith
+
+module _ {T : Type 0} where
+  pub thin-wilds : (n : ℕ) → map thin_head (wildcards {T = T} n) ≡ wildcards n
+  thin-wilds zero = refl
+  thin-wilds (suc n) = ap (λ hs. None ∷ hs) (thin-wilds n)
+
+  module _ (xs : List (HeadRun T)) (k : ℕ) (x : HeadRun T) (l : k < length xs) (e : x ≡ get_or xs k x) where
+    wild-from : list_all is_wild (plain_heads (drop k xs))
+        ≡ (list_all is_wild (plain_run x) && list_all is_wild (plain_heads (drop (k + 1) xs)))
+    wild-from =
+        ap (list_all is_wild) (runs-from xs k x l e)
+        ∙ list_all-append is_wild (plain_run x) (plain_heads (drop (k + 1) xs))
+
+    pub wild-on : (whole : Bool) → list_all is_wild (plain_heads (drop k xs)) ≡ whole →
+        list_all is_wild (plain_run x) ≡ true → list_all is_wild (plain_heads (drop (k + 1) xs)) ≡ whole
+    wild-on whole h w =
+        sym (ap (λ b. b && list_all is_wild (plain_heads (drop (k + 1) xs))) w) ∙ sym wild-from ∙ h
+
+    pub wild-not : (whole : Bool) → list_all is_wild (plain_heads (drop k xs)) ≡ whole →
+        list_all is_wild (plain_run x) ≡ false → false ≡ whole
+    wild-not whole h w =
+        sym (ap (λ b. b && list_all is_wild (plain_heads (drop (k + 1) xs))) w) ∙ sym wild-from ∙ h
+
+    pub open-on : (count one whole : ℕ) → count + open_count (plain_heads (drop k xs)) ≡ whole →
+        one ≡ open_count (plain_run x) → (count + one) + open_count (plain_heads (drop (k + 1) xs)) ≡ whole
+    open-on count one whole h o =
+        let s = ap open_count (runs-from xs k x l e)
+        ∙ open-append (plain_run x) (plain_heads (drop (k + 1) xs)) in
+        omega (arith, s, o, h)
+
+    -- what is made of each head
+    pub mapped-on : {B : Type 0} (f : Head T → B) (all new : List B) → all ≡ map f (plain_heads (take k xs)) →
+        new ≡ all ++ map f (plain_run x) → new ≡ map f (plain_heads (take (k + 1) xs))
+    mapped-on f all new h n =
+        n ∙ ap (λ us. us ++ map f (plain_run x)) h
+        ∙ sym (map-append f (plain_heads (take k xs)) (plain_run x))
+        ∙ ap (map f) (sym (runs-until xs k x l e))
+
+    -- heads that stay as they are
+    pub same-on : (f : Head T → Head T) → map f (plain_heads (take k xs)) ≡ plain_heads (take k xs) →
+        map f (plain_run x) ≡ plain_run x → map f (plain_heads (take (k + 1) xs)) ≡ plain_heads (take (k + 1) xs)
+    same-on f h w =
+        sym (mapped-on f (plain_heads (take k xs)) (plain_heads (take (k + 1) xs)) (sym h)
+        (runs-until xs k x l e ∙ ap (λ hs. plain_heads (take k xs) ++ hs) (sym w)))
+
+    pub at-on : (at : ℕ) → at ≡ length (plain_heads (take k xs)) →
+        at + length (plain_run x) ≡ length (plain_heads (take (k + 1) xs))
+    at-on at h =
+        let s = ap length (runs-until xs k x l e) ∙ length-append (plain_heads (take k xs)) (plain_run x) in
+        omega (arith, s, h)
+
+    pub marks-on : (bs marks new : List Bool) (at : ℕ) → at ≡ length (plain_heads (take k xs)) →
+        marks ≡ marked bs (plain_heads (take k xs)) → new ≡ marked_from at marks (plain_run x) →
+        new ≡ marked bs (plain_heads (take (k + 1) xs))
+    marks-on bs marks new at a m n =
+        n ∙ (λ i. marked_from (a i) (m i) (plain_run x))
+        ∙ sym (marked-behind bs (plain_heads (take k xs)) (plain_run x))
+        ∙ ap (marked bs) (sym (runs-until xs k x l e))
+
+  pub wild-end : (xs : List (HeadRun T)) (k : ℕ) (whole : Bool) → length xs ≤ k →
+      list_all is_wild (plain_heads (drop k xs)) ≡ whole → true ≡ whole
+  wild-end xs k whole l h = ap (list_all is_wild) (sym (none-from xs k l)) ∙ h
+
+  pub open-end : (xs : List (HeadRun T)) (k count whole : ℕ) → length xs ≤ k →
+      count + open_count (plain_heads (drop k xs)) ≡ whole → count ≡ whole
+  open-end xs k count whole l h =
+      let none : open_count (plain_heads (drop k xs)) ≡ 0 = ap open_count (none-from xs k l) in
+      omega (arith, none, h)
+
+  pub part-long : (xs : List (HeadRun T)) (k : ℕ) → length (plain_heads (take k xs)) ≤ length (plain_heads xs)
+  part-long [] zero = omega arith
+  part-long [] (suc k) = omega arith
+  part-long (x ∷ xs) zero = omega arith
+  part-long (x ∷ xs) (suc k) =
+      let r = part-long xs k in
+      let a = length-append (plain_run x) (plain_heads (take k xs)) in
+      let b = length-append (plain_run x) (plain_heads xs) in
+      omega (arith, r, a, b)
+
+  -- the rows before the next one
+  pub rows-until : (rows : List (KeyedRow T)) (k : ℕ) (r : KeyedRow T) → k < length rows → r ≡ get_or rows k r →
+      plain_rows (take (k + 1) rows) ≡ plain_rows (take k rows) ++ plain_row r ∷ []
+  rows-until [] k r l e = absurd (omega (arith, l))
+  rows-until (x ∷ rows) zero r l e = ap (λ y. plain_row y ∷ []) (sym e)
+  rows-until (x ∷ rows) (suc k) r l e =
+      ap (λ j. plain_rows (take j (x ∷ rows))) (after k)
+      ∙ ap (λ rs. plain_row x ∷ rs) (rows-until rows k r (omega (arith, l)) e)
+
+  -- what holds of each row holds of the one that was read
+  pub row-all : (P : MRow T → Type 0) (rows : List (KeyedRow T)) (k : ℕ) (r : KeyedRow T) → All P (plain_rows rows) →
+      k < length rows → r ≡ get_or rows k r → P (plain_row r)
+  row-all P rows k r all l e =
+      let long : length (plain_rows rows) ≡ length rows = length-map rows plain_row in
+      subst P (get-map plain_row rows k r ∙ ap plain_row (sym e)) (all k (plain_row r) (omega (arith, l, long)))
+
+  pub marks-more : (bs marks new : List Bool) (rows : List (KeyedRow T)) (k : ℕ) (r : KeyedRow T) → k < length rows →
+      r ≡ get_or rows k r → marks ≡ all_marked bs (plain_rows (take k rows)) → new ≡ marked marks (plain_row r).heads →
+      new ≡ all_marked bs (plain_rows (take (k + 1) rows))
+  marks-more bs marks new rows k r l e m n =
+      n ∙ ap (λ ms. marked ms (plain_row r).heads) m ∙ sym (all-more bs (plain_rows (take k rows)) (plain_row r))
+      ∙ ap (all_marked bs) (sym (rows-until rows k r l e))
+
+  -- the names of the next column
+  pub binds-on : (columns : List (KeyedColumn T)) (hs : List (Head T)) (i : ℕ) (c : KeyedColumn T) (h : Head T) →
+      i < length columns → c ≡ get_or columns i c → slice_get hs i ≡ Some h →
+      all_head_binds (plain_columns (drop i columns)) (drop i hs)
+      ≡ head_binds (plain_place c.place.now) h
+      ++ all_head_binds (plain_columns (drop (i + 1) columns)) (drop (i + 1) hs)
+  binds-on [] hs i c h l e g = absurd (omega (arith, l))
+  binds-on (x ∷ columns) [] i c h l e g = cc
+  binds-on (x ∷ columns) (y ∷ hs) zero c h l e g =
+      λ k. head_binds (plain_place (sym e k).place.now) (some-is y h g k) ++ all_head_binds (plain_columns columns) hs
+  binds-on (x ∷ columns) (y ∷ hs) (suc i) c h l e g =
+      binds-on columns hs i c h (omega (arith, l)) e g
+      ∙ ap (λ j. head_binds (plain_place c.place.now) h
+      ++ all_head_binds (plain_columns (drop j (x ∷ columns))) (drop j (y ∷ hs))) (sym (after i))
+
+  pub binds-more : (columns : List (KeyedColumn T)) (hs : List (Head T)) (i : ℕ) (c : KeyedColumn T) (h : Head T)
+      (all new whole : List MBind) → i < length columns → c ≡ get_or columns i c → slice_get hs i ≡ Some h →
+      all ++ all_head_binds (plain_columns (drop i columns)) (drop i hs) ≡ whole →
+      new ≡ all ++ head_binds (plain_place c.place.now) h →
+      new ++ all_head_binds (plain_columns (drop (i + 1) columns)) (drop (i + 1) hs) ≡ whole
+  binds-more columns hs i c h all new whole l e g w n =
+      let rest = all_head_binds (plain_columns (drop (i + 1) columns)) (drop (i + 1) hs) in
+      ap (λ bs. bs ++ rest) n ∙ append_assoc all (head_binds (plain_place c.place.now) h) rest
+      ∙ ap (λ bs. all ++ bs) (sym (binds-on columns hs i c h l e g)) ∙ w
+
+  pub binds-end : (columns : List (KeyedColumn T)) (hs : List (Head T)) (i : ℕ) (all whole : List MBind) →
+      length columns ≤ i → all ++ all_head_binds (plain_columns (drop i columns)) (drop i hs) ≡ whole → all ≡ whole
+  binds-end columns hs i all whole l w =
+      sym (append-nil all) ∙ ap (λ bs. all ++ bs) (sym (none (drop i hs)))
+      ∙ ap (λ cs. all ++ all_head_binds (plain_columns cs) (drop i hs)) (sym (drop_all i columns l)) ∙ w
+    where
+      none : (hs : List (Head T)) → all_head_binds [] hs ≡ []
+      none [] = refl
+      none (h ∷ hs) = refl
+
+pub one-wild : {T : Type 0} (h : Head T) → list_all is_wild (h ∷ []) ≡ is_wild h
+one-wild h = go (is_wild h)
+  where
+    go : (b : Bool) → (b && true) ≡ b
+    go true = refl
+    go false = refl
+
+pub ruleset run_tests = (wilds-wild, one-wild, open-wilds, wild-uids, thin-wilds)

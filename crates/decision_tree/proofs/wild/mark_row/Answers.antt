@@ -1,0 +1,44 @@
+use Rattle.std.proofs.Common.{◌+◌, take, length, refl, sym, ap, ◌∙◌, arith}
+use Rattle.keyed_matrix.specs.Views.{plain_heads}
+use Rattle.decision_tree.proofs.Marks.{marked-long, unmarked}
+use Rattle.decision_tree.proofs.RunTests.{at-on, marks-on, part-long}
+use Rattle.decision_tree.proofs.wild.mark_row.Goals as goal
+
+pub loop-one-init : goal.loop-one-init
+loop-one-init g c = record { passed = refl; marks = sym (unmarked _ c.args.marks.now) }
+
+pub mark_run-requires : goal.mark_run-requires
+mark_run-requires g c =
+    let loop = c.loop-one in
+    let xs = c.args.heads.now in
+    let bs = c.args.marks.now in
+    let next = at-on xs loop.one-index c.one-item.result c.loop-one-test.true c.one-item.is loop.at loop.invariant.passed in
+    let part = part-long xs (loop.one-index + 1) in
+    let long = ap length loop.invariant.marks ∙ marked-long bs (plain_heads (take loop.one-index xs)) in
+    let count = c.requires.marks in
+    let heads = c.requires.heads in
+    omega (arith, next, part, long, count, heads)
+
+pub overflow_add-at : goal.overflow_add-at
+overflow_add-at g c =
+    let loop = c.loop-one in
+    let xs = c.args.heads.now in
+    let next = at-on xs loop.one-index c.one-item.result c.loop-one-test.true c.one-item.is loop.at loop.invariant.passed in
+    let part = part-long xs (loop.one-index + 1) in
+    let size = c.size_of-at.ensures in
+    let heads = c.requires.heads in
+    omega (arith, next, part, size, heads)
+
+pub loop-one-preserved : goal.loop-one-preserved
+loop-one-preserved g c =
+    let loop = c.loop-one in
+    let xs = c.args.heads.now in
+    let one = c.one-item.result in
+    record {
+      passed =
+          ap (λ n. loop.at + n) c.size_of-at.ensures
+          ∙ at-on xs loop.one-index one c.loop-one-test.true c.one-item.is loop.at loop.invariant.passed;
+      marks =
+          marks-on xs loop.one-index one c.loop-one-test.true c.one-item.is c.args.marks.now loop.marks c.mark_run.new.marks
+          loop.at loop.invariant.passed loop.invariant.marks c.mark_run.ensures;
+    }

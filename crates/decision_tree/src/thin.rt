@@ -1,0 +1,107 @@
+// Wildcards that bind nothing go: no rule tells them from wildcards that no pattern wrote, so the tree is the same, and
+// none of their patterns is looked at again.
+ghost use Rattle.std.specs.Prelude.{◌≡◌, ◌++◌, false, map, Some, IfOk, OnOk};
+ghost use Rattle.pattern_arena.specs.Trees.{tree};
+ghost use Rattle.keyed_matrix.specs.Views.{plain_run, plain_heads, plain_row, plain_rows};
+ghost use Rattle.decision_tree.specs.Thin.{is_blank, thin_head, thin_row, thin_rows};
+
+use keyed_matrix::{HeadRun, KeyedRow, add_wilds};
+use no_memory::NoMemory;
+use pat_context::Ctor;
+use pattern_arena::DePat;
+use std::alloc::Global;
+
+// Tells whether the pattern is a wildcard that binds nothing.
+fn is_blank<'a, T: Copy>(pat: &DePat<'a, T>) -> bool
+    ensures { result ≡ is_blank (tree pat.now) }
+{
+    match pat.ctor {
+        Ctor::Wild => pat.subs.is_empty() && pat.binds.is_empty(),
+        _ => false,
+    }
+}
+
+// Tells whether such a wildcard may stand among the heads side by side.
+#[tactic(auto, using(crate::proofs::RunTests::run_tests))]
+fn has_blank<'a, T: Copy>(one: &HeadRun<'a, T>) -> bool
+    ensures { result ≡ false → map thin_head (plain_run one.now) ≡ plain_run one.now }
+{
+    match one {
+        HeadRun::Wilds(_count) => false,
+        HeadRun::Written(p) => is_blank(*p),
+    }
+}
+
+// Tells whether such a wildcard may stand among the heads.
+fn have_blank<'a, T: Copy>(heads: &[HeadRun<'a, T>]) -> bool
+    ensures { result ≡ false → map thin_head (plain_heads heads.now) ≡ plain_heads heads.now }
+{
+    for one in heads {
+        if has_blank(one) {
+            return true;
+        }
+    }
+    false
+}
+
+// Adds the heads side by side without such wildcards.
+#[tactic(auto, using(crate::proofs::RunTests::run_tests))]
+fn add_thin<'a, T: Copy>(
+    all: &mut Vec<HeadRun<'a, T>>,
+    one: &HeadRun<'a, T>,
+) -> Result<(), NoMemory>
+    ensures { OnOk result (plain_heads all.new.items
+        ≡ plain_heads all.old.items ++ map thin_head (plain_run one.now)) }
+{
+    match one {
+        HeadRun::Wilds(count) => add_wilds(all, *count),
+        HeadRun::Written(p) => {
+            if is_blank(*p) {
+                add_wilds(all, 1)
+            } else {
+                all.push(HeadRun::Written(*p))?;
+                Ok(())
+            }
+        }
+    }
+}
+
+// The heads without such wildcards.
+fn thin_heads<'a, T: Copy>(
+    alloc: Global,
+    heads: &[HeadRun<'a, T>],
+) -> Result<Vec<HeadRun<'a, T>>, NoMemory>
+    ensures { IfOk result (λ v. plain_heads v.items ≡ map thin_head (plain_heads heads.now)) }
+{
+    let mut all = Vec::new(alloc);
+    for one in heads {
+        add_thin(&mut all, one)?;
+    }
+    Ok(all)
+}
+
+// The row without such wildcards.
+fn thin_row<'a, T: Copy>(alloc: Global, row: KeyedRow<'a, T>) -> Result<KeyedRow<'a, T>, NoMemory>
+    ensures { IfOk result (λ r. plain_row r ≡ thin_row (plain_row row.entry)) }
+{
+    let mut row = row;
+    if have_blank(&row.heads) {
+        row.heads = thin_heads(alloc, &row.heads)?;
+    }
+    Ok(row)
+}
+
+// The rows without such wildcards.
+pub(crate) fn thin_rows<'a, T: Copy>(
+    alloc: Global,
+    rows: Vec<KeyedRow<'a, T>>,
+) -> Result<Vec<KeyedRow<'a, T>>, NoMemory>
+    ensures { IfOk result (λ v. plain_rows v.items ≡ thin_rows (plain_rows rows.entry.items)) }
+{
+    let mut all = Vec::with_capacity(alloc, rows.len())?;
+    for row in rows {
+        let new = thin_row(alloc, row)?;
+        all.push(new)?;
+    }
+    Ok(all)
+}

@@ -1,7 +1,0 @@
-use Rattle.std.proofs.Common.{◌≡◌}
-use Rattle.match_model.specs.Rows.{wildcards}
-use Rattle.keyed_matrix.specs.Views.{plain_heads}
-use Rattle.keyed_matrix.proofs.steps.wilds.Given as goal
-
-abbrev pub invariant-loop-part : goal.invariant-loop-part
-invariant-loop-part g l = plain_heads l.all.items ≡ wildcards l._part
