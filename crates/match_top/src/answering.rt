@@ -1,7 +1,7 @@
 // The text that is written for the bytes of a file, with its status.
 ghost use Rattle.std.specs.Prelude.{◌≡◌, ◌≤◌, ◌<◌, ◌^◌, ◌*◌, List, ℕ, length, nat_lt, sum_by, IfOk, IfErr};
 ghost use Rattle.decl_lexer.specs.Lexing.{HasTokens};
-ghost use Rattle.decl_lexer.specs.Tokens.{tokens_view};
+ghost use Rattle.decl_lexer.specs.Tokens.{tokens_view, IsFaultOf, IsKnown};
 ghost use Rattle.decl_syntax.specs.Counts.{kind_arms};
 ghost use Rattle.decl_syntax.specs.Items.{file_view};
 ghost use Rattle.decl_syntax.specs.Units.{units};
@@ -41,14 +41,14 @@ pub(crate) struct Answer {
 pub(crate) fn answer_to(
     alloc: Global,
     request: &Request<'_>,
-    source: &[u8],
+    source: Vec<u8>,
 ) -> Result<Answer, NoMemory>
-    ensures answers { IfOk result (λ a. (bytes : List ℕ) → source.now ≡ taken bytes
+    ensures answers { IfOk result (λ a. (bytes : List ℕ) → source.items ≡ taken bytes
         → Answers (request_view request.now) bytes a.text.items a.status) }
-    ensures itself { IfOk result (λ a. Answers (request_view request.now) source.now a.text.items a.status) }
+    ensures itself { IfOk result (λ a. Answers (request_view request.now) source.items a.text.items a.status) }
     ensures verdict { IfOk result (λ a. IsVerdict a.status) }
 {
-    if is_too_long(source) {
+    if is_too_long(&source) {
         return refused_at(alloc, 7, None);
     }
     judged(alloc, request, source)
@@ -63,16 +63,26 @@ fn is_too_long(source: &[u8]) -> bool
 }
 
 // The answer to a source that is not too long: its first fault, or else by its tokens.
-fn judged(alloc: Global, request: &Request<'_>, source: &[u8]) -> Result<Answer, NoMemory>
-    requires { length source.now ≤ longest_source }
-    ensures answers { IfOk result (λ a. IsJudged (request_view request.now) source.now a.text.items a.status) }
+fn judged(alloc: Global, request: &Request<'_>, source: Vec<u8>) -> Result<Answer, NoMemory>
+    requires { length source.items ≤ longest_source }
+    ensures answers { IfOk result (λ a. IsJudged (request_view request.now) source.items a.text.items a.status) }
     ensures verdict { IfOk result (λ a. IsVerdict a.status) }
 {
-    match lex(alloc, source) {
+    match tokens_of(alloc, source) {
         Ok(tokens) => answer_to_tokens(alloc, request, tokens),
         Err(LexFault::Rule { rule, at }) => refused_at(alloc, rule, Some(at)),
         Err(LexFault::NoMemory) => Err(NoMemory),
     }
+}
+
+// The tokens of a source, or its first fault. The source is given back, before anything is made of its tokens.
+fn tokens_of(alloc: Global, source: Vec<u8>) -> Result<Tokens, LexFault>
+    ensures tokens { IfOk result (λ ts. HasTokens source.items (tokens_view ts)) }
+    ensures fault { IfErr result (IsFaultOf source.items) }
+    ensures known { IfErr result (IsKnown (length source.items)) }
+    ensures count { IfOk result (λ ts. length (tokens_view ts) ≤ length source.items) }
+{
+    lex(alloc, &source)
 }
 
 // The answer to the tokens of a source: the answer to the file that they spell, or else their fault.

@@ -155,7 +155,7 @@ fn run_on_file<F: Files, K: Sink>(
         Err(ReadError::Failed) => return Status::ReadFault,
         Err(ReadError::NoMemory) => return Status::NoMemory,
     };
-    let Ok(answer) = answer_to(alloc, &asked.request, &source) else {
+    let Ok(answer) = answer_to(alloc, &asked.request, source) else {
         return Status::NoMemory;
     };
     match write_text(sink, &answer.text) {
@@ -190,7 +190,7 @@ fn run_on_demo<K: Sink>(alloc: Global, n: u32, sink: &mut K) -> Status
     let Ok(source) = demo_source(alloc, n) else {
         return Status::NoMemory;
     };
-    let Ok(answer) = answer_to(alloc, &request, &source) else {
+    let Ok(answer) = answer_to(alloc, &request, source) else {
         return Status::NoMemory;
     };
     match write_text(sink, &answer.text) {

@@ -7,11 +7,11 @@ use Rattle.match_top.proofs.answering.judged.Goals as goal
 
 pub returns-in-Ok-clause-answers : goal.returns-in-Ok-clause-answers
 returns-in-Ok-clause-answers c =
-    let lexed : HasTokens c.args.source.now (tokens_view c.in-Ok.tokens) = search rules in
-    tokens_answer (request_view c.args.request.now) c.args.source.now (tokens_view c.in-Ok.tokens) _ lexed c.answer_to_tokens.ensures.answers
+    let lexed : HasTokens c.args.source.items (tokens_view c.in-Ok.tokens) = search rules in
+    tokens_answer (request_view c.args.request.now) c.args.source.items (tokens_view c.in-Ok.tokens) _ lexed c.answer_to_tokens.ensures.answers
 
 pub returns-in-Err-Rule-clause-answers : goal.returns-in-Err-Rule-clause-answers
 returns-in-Err-Rule-clause-answers c =
-    let fault : HasFault c.args.source.now c.in-Err-Rule.rule c.in-Err-Rule.at = search rules in
+    let fault : HasFault c.args.source.items c.in-Err-Rule.rule c.in-Err-Rule.at = search rules in
     let refused = rw (c.in-Err-Rule.rule-is, c.in-Err-Rule.at-is) at c.refused_at.ensures.answers in
-    fault_answer (request_view c.args.request.now) c.args.source.now _ _ _ fault refused
+    fault_answer (request_view c.args.request.now) c.args.source.items _ _ _ fault refused

@@ -8,8 +8,8 @@ use Rattle.match_top.proofs.top.run_on_demo.Goals as goal
 
 pub returns-clause-part : goal.returns-clause-part
 returns-clause-part g c = λ _.
-    let text : c.deref-2.result.now ≡ c.in-Ok-answer_to.answer.text.items = search rules in
-    let source : c.deref.result.now ≡ demo_file c.args.n = search rules in (
+    let text : c.deref.result.now ≡ c.in-Ok-answer_to.answer.text.items = search rules in
+    let source : c.in-Ok.source.items ≡ demo_file c.args.n = search rules in (
       c.in-Ok-answer_to.answer.text.items,
       c.in-Ok-answer_to.answer.status,
       subst (λ (bytes : List ℕ). Answers counts_request bytes c.in-Ok-answer_to.answer.text.items c.in-Ok-answer_to.answer.status) source c.in-Ok-answer_to.ensures.itself,
@@ -18,8 +18,8 @@ returns-clause-part g c = λ _.
 
 pub returns-in-Ok-write_text-clause-whole : goal.returns-in-Ok-write_text-clause-whole
 returns-in-Ok-write_text-clause-whole g c = λ verdict.
-    let text : c.deref-2.result.now ≡ c.in-Ok-answer_to.answer.text.items = search rules in
-    let source : c.deref.result.now ≡ demo_file c.args.n = search rules in (
+    let text : c.deref.result.now ≡ c.in-Ok-answer_to.answer.text.items = search rules in
+    let source : c.in-Ok.source.items ≡ demo_file c.args.n = search rules in (
       c.in-Ok-answer_to.answer.text.items,
       subst (λ (bytes : List ℕ). Answers counts_request bytes c.in-Ok-answer_to.answer.text.items c.in-Ok-answer_to.answer.status) source c.in-Ok-answer_to.ensures.itself,
       subst (λ (z : List ℕ). Appends (g.K.Sink.written c.args.sink.now) (g.K.Sink.written c.write_text.new.sink) z) text c.in-Ok-write_text.ensures.whole,
