@@ -28,11 +28,42 @@ fn all_clauses(
     ensures { IfOk result (λ v. map clause_pair v.items ≡ said_from (entry_bodies sure (length items.now)) 0 items.now
         ++ said_from (bodies_of sure (length items.now)) (length items.now) nodes.now) }
 {
-    let mut clauses = Vec::new(alloc);
+    let mut clauses = Vec::with_capacity(alloc, clause_room(nodes, items))?;
     let count = items.len() as u32;
     add_entries(alloc, &mut clauses, sure, count, nodes.len(), items)?;
     add_nodes(alloc, &mut clauses, sure, count, nodes)?;
     Ok(clauses)
+}
+
+// The room with which the list of clauses begins: as many as there are at most, so that it does not grow by doubling.
+fn clause_room(nodes: &[Node], items: &[Entry]) -> usize {
+    nodes_room(nodes).saturating_add(entries_room(items))
+}
+
+// At most how many clauses the nodes have.
+fn nodes_room(nodes: &[Node]) -> usize {
+    let mut room = 0usize;
+    for node in nodes {
+        room = room.saturating_add(match node.head {
+            Head::Named(Owner::Result) => node.parts.len(),
+            _ => 1,
+        });
+    }
+    room
+}
+
+// At most how many clauses the items have.
+fn entries_room(items: &[Entry]) -> usize {
+    let mut room = 0usize;
+    for item in items {
+        room = room.saturating_add(match item {
+            Entry::Struct { .. } => 1,
+            Entry::Enum { variants, .. } => variants.len().max(1),
+            Entry::Function { .. } => 0,
+            Entry::Import => 0,
+        });
+    }
+    room
 }
 
 /// Of each item, and behind them of each node, whether its type has a value at such a place. More than 2,147,483,647
