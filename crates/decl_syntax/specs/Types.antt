@@ -30,7 +30,7 @@ type_step open_ty.Never = Never
 type_step (open_ty.Tuple parts) = Tuple (types_from parts.items)
 type_step (open_ty.Point mutable inner) = Point mutable inner.value
 type_step (open_ty.Slice item) = Slice item.value
-type_step (open_ty.Array item len suffix) = Array item.value len (string_bytes suffix)
+type_step (open_ty.Array item size) = Array item.value size.value.len (string_bytes size.value.suffix)
 type_step (open_ty.Named name args) = Named (string_bytes name) (types_from args.items)
 
 -- what a caller sees of a type

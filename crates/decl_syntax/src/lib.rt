@@ -41,5 +41,5 @@ pub use lists::fitted;
 pub use pattern::read_pattern;
 pub use stop::Stop;
 pub use tree::{Attr, FieldPat, IntLit, Lit, Pat, PatKind, Path, RangePat};
-pub use ty::{Ty, read_type};
+pub use ty::{ArraySize, Ty, read_type};
 pub use widths::{MOST_PARTS, pattern_is_wide, type_is_wide};

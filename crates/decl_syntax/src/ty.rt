@@ -17,6 +17,14 @@ use crate::stop::Stop;
 use decl_lexer::{Mark, Word};
 use std::alloc::Global;
 
+/// The length of an array as it is written: `len` is `None` from 2^128 on, `suffix` is the one that is written at it, or
+/// empty.
+#[derive(Debug, Drop)]
+pub struct ArraySize {
+    pub len: Option<u128>,
+    pub suffix: String,
+}
+
 /// A type as it is written. Brackets around a type and lifetimes leave no trace.
 #[derive(Debug, Drop)]
 pub enum Ty {
@@ -27,11 +35,10 @@ pub enum Ty {
         inner: Box<Ty>,
     },
     Slice(Box<Ty>),
-    /// `len` is `None` from 2^128 on, `suffix` is the one that is written at the length, or empty.
+    /// The length stands behind a box, since it is much larger than the others and rare.
     Array {
         item: Box<Ty>,
-        len: Option<u128>,
-        suffix: String,
+        size: Box<ArraySize>,
     },
     /// A name with its type arguments.
     Named {
@@ -118,7 +125,8 @@ fn square_type(alloc: Global, levels: u32, at: Cursor<'_>) -> Result<(Ty, Cursor
         return Err(Stop::Syntax);
     };
     let suffix = String::from_str(alloc, suffix)?;
-    Ok((Ty::Array { item, len, suffix }, rest))
+    let size = Box::new(alloc, ArraySize { len, suffix })?;
+    Ok((Ty::Array { item, size }, rest))
 }
 
 /// A type behind `&`.

@@ -162,7 +162,7 @@ fn is_long(ty: &Ty) -> bool
     ensures { (names : Means) (sized : Bool) → result ≡ is_long names sized (type_view ty.now) }
 {
     match ty {
-        Ty::Array { len, suffix, .. } => !is_length(*len, suffix),
+        Ty::Array { size, .. } => !is_length(size.len, &size.suffix),
         _ => false,
     }
 }

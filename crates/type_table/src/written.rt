@@ -45,9 +45,9 @@ pub(crate) fn type_id(
             let id = type_id(alloc, names, nodes, true, item)?;
             slice_id(alloc, nodes, sized, id)
         }
-        Ty::Array { item, len, suffix } => {
+        Ty::Array { item, size } => {
             let id = type_id(alloc, names, nodes, true, item)?;
-            array_id(alloc, nodes, id, *len, suffix)
+            array_id(alloc, nodes, id, size.len, &size.suffix)
         }
         Ty::Named { name, args } => {
             let ids = type_ids(alloc, names, nodes, arguments_sized(names, name), args)?;
