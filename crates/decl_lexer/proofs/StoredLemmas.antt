@@ -1,8 +1,10 @@
 -- Lists that grow leave the tokens as they were.
 use Rattle.std.proofs.Common.{◌≡◌, ℕ, zero, suc, Bool, true, false, cond, List, [], ◌∷◌, ◌++◌, map, length, Some, refl, sym, ap, ◌∙◌, subst, append_assoc}
-use Rattle.std.specs.Prelude.{slice_get, String}
+use Rattle.std.specs.Prelude.{slice_get}
+use Rattle.std.specs.declared.rc.RcStr.{RcStr}
 use Rattle.std.specs.Global.{Global}
 use Rattle.std.specs.List.{list_any}
+use Rattle.std.specs.List.{find}
 use Rattle.std.proofs.lemmas.List.{append-nil, map-append}
 use Rattle.indexmap.specs.IndexSet.{insert_key}
 use Rattle.decl_lexer.specs.Lexing.{Placed}
@@ -38,6 +40,18 @@ grew_insert {A} eq ks new k e = go (list_any (eq k) ks) e
     go true f = ([], f ∙ sym (append-nil ks))
     go false f = (k ∷ [], f)
 
+some_one : {A : Type 0} (x y : A) → Some x ≡ Some y → x ≡ y
+some_one x y h = cc
+
+-- what is found passes the test
+pub found_passes : {A : Type 0} (test : A → Bool) (xs : List A) (x : A) → find test xs ≡ Some x → test x ≡ true
+found_passes test [] x h = absurd cc
+found_passes {A} test (y ∷ ys) x h = go (test y) refl h (found_passes test ys x)
+  where
+    go : (b : Bool) → test y ≡ b → cond b (Some y) (find test ys) ≡ Some x → (find test ys ≡ Some x → test x ≡ true) → test x ≡ true
+    go true e f later = subst (λ z. test z ≡ true) (some_one y x f) e
+    go false e f later = later f
+
 -- an entry stays where it is
 pub get_in_longer : {A : Type 0} (xs ys : List A) (i : ℕ) (x : A) → Grew xs ys → slice_get xs i ≡ Some x → slice_get ys i ≡ Some x
 get_in_longer xs ys i x g h = subst (λ l. slice_get l i ≡ Some x) (sym g.1) (get_front xs g.0 i x h)
@@ -70,7 +84,7 @@ one_more lists between longer stored t placed whole g h shown =
     ∙ ap (λ p. map (placed_in lists) stored ++ p ∷ []) shown)
 
 -- a name stays where it is
-pub name_shown : (keys longer : List (String Global)) (bytes : List ℕ) (n : ℕ) (raw : Bool) → IsEntry bytes (slice_get keys n) → Grew keys longer → name_entry raw (slice_get longer n) ≡ Named bytes raw
+pub name_shown : (keys longer : List (RcStr Global)) (bytes : List ℕ) (n : ℕ) (raw : Bool) → IsEntry bytes (slice_get keys n) → Grew keys longer → name_entry raw (slice_get longer n) ≡ Named bytes raw
 name_shown keys longer bytes n raw e g = ap (name_entry raw) (get_in_longer keys longer n e.0 g e.1) ∙ ap (λ b. Named b raw) e.2
 
 -- a token that was read is the last one

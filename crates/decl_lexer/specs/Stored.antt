@@ -1,5 +1,7 @@
 -- What a caller sees of the tokens of a source that are kept.
 use Rattle.std.specs.Prelude.{◌≡◌, ℕ, Bool, true, false, List, [], ◌++◌, ◌∷◌, map, Option, Some, None, option_map, String, string_bytes, slice_get}
+use Rattle.std.specs.Rc.{rc_str_bytes}
+use Rattle.std.specs.declared.rc.RcStr.{RcStr}
 use Rattle.std.specs.Global.{Global, Box}
 use Rattle.decl_lexer.specs.declared.token.IntToken.{IntToken}
 use Rattle.decl_lexer.specs.declared.stored.Stored as declared
@@ -13,8 +15,8 @@ use Rattle.decl_lexer.specs.Begins.{mark_of, Lexeme, Named, Keyword, Marked, Lif
 use Rattle.decl_lexer.specs.Lexing.{Placed}
 
 -- the name with this text; where there is none, a lifetime
-abbrev pub name_entry : Bool → Option (String Global) → Lexeme
-name_entry raw (Some text) = Named (string_bytes text) raw
+abbrev pub name_entry : Bool → Option (RcStr Global) → Lexeme
+name_entry raw (Some text) = Named (rc_str_bytes text) raw
 name_entry raw None = Lifetime
 
 -- the decimal integer without a suffix of this value
@@ -84,8 +86,8 @@ abbrev pub Grows : Lists → Lists → Type 0
 Grows old new = Grew old.names.keys new.names.keys × Grew old.large.items new.large.items × Grew old.integers.items new.integers.items × Grew old.texts.items new.texts.items
 
 -- there is an entry, with these bytes
-abbrev pub IsEntry : List ℕ → Option (String Global) → Type 0
-IsEntry bytes entry = (text : String Global) × (entry ≡ Some text) × (string_bytes text ≡ bytes)
+abbrev pub IsEntry : List ℕ → Option (RcStr Global) → Type 0
+IsEntry bytes entry = (text : RcStr Global) × (entry ≡ Some text) × (rc_str_bytes text ≡ bytes)
 
 -- the kept token is this one in these lists, and stays so when they grow
 abbrev pub Shows : Lists → StoredKind → Lexeme → Type 0

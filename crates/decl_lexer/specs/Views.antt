@@ -1,5 +1,6 @@
 -- What a caller sees of pieces and of answers.
 use Rattle.std.specs.Prelude.{◌≡◌, ℕ, true, List, [], Some, chars, String, string_bytes, Result, Ok, Err}
+use Rattle.std.specs.Rc.{rc_str_bytes}
 use denote.Ref.{Bor}
 use Rattle.std.specs.declared.alloc.Global.{Global}
 use Rattle.decl_lexer.specs.declared.marks.Mark.{Mark}
@@ -27,7 +28,7 @@ char_view p = (p.0, chars p.1.now)
 
 -- a token's kind, without where its text lies in memory
 abbrev pub lexeme_view : TokenKind → Lexeme
-lexeme_view (kinds.Name text raw) = Named (string_bytes text.now) raw
+lexeme_view (kinds.Name text raw) = Named (rc_str_bytes text.now) raw
 lexeme_view (kinds.Word word) = Keyword word
 lexeme_view (kinds.Mark mark) = Marked mark
 lexeme_view kinds.Lifetime = Lifetime

@@ -36,6 +36,6 @@ pub use laws::{
 pub use lexing::{lex, name_form};
 pub use marks::Mark;
 pub use stored::{Rest, Tokens};
-pub use token::{IntToken, LexFault, Token, TokenKind};
+pub use token::{IntToken, LexFault, Name, Token, TokenKind};
 pub use words::{Word, word_of};
 pub use written::push_name;

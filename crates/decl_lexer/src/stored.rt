@@ -1,12 +1,13 @@
 //! Tokens as they are kept: 16 bytes each, with their texts in lists beside them.
 ghost use Rattle.std.specs.Prelude.{◌≡◌, ◌++◌, ◌∷◌, [], length, string_bytes, slice_get, option_map, IfOk, OnOk, MatchOption};
+ghost use Rattle.std.specs.Rc.{rc_str_bytes};
 ghost use Rattle.decl_lexer.specs.Views.{read_view, lexeme_view, token_view, read_token_view};
 ghost use Rattle.decl_lexer.specs.Begins.{mark_of, keyword_of, name_of};
 ghost use Rattle.decl_lexer.specs.Stored.{lexeme_in, Grew, Grows, IsEntry, Shows, IsWhole, tokens_view, rest_view, first_is, first_as, mark_and_end, name_entry, large_entry, integer_entry, text_entry};
 
 use crate::marks::Mark;
 use crate::read::{ReadKind, ReadToken};
-use crate::token::{IntToken, Token, TokenKind};
+use crate::token::{IntToken, Name, Token, TokenKind};
 use crate::words::Word;
 use indexmap::IndexSet;
 use no_memory::NoMemory;
@@ -43,7 +44,7 @@ struct Stored {
 /// from 2^32 on without a suffix, all other integers, and texts.
 #[derive(Drop)]
 struct Lists {
-    names: IndexSet<String>,
+    names: IndexSet<Name>,
     large: Vec<u64>,
     integers: Vec<Box<IntToken>>,
     texts: Vec<String>,
@@ -104,12 +105,25 @@ fn put<T: Drop>(list: &mut Vec<T>, entry: T) -> Result<u32, NoMemory>
     Ok(number)
 }
 
-/// The number of the text among the names, to which it is added where it is new.
-fn put_name(names: &mut IndexSet<String>, text: String) -> Result<u32, NoMemory>
+/// The place of the text among the names, to which it is added where it is new.
+fn place_name(names: &mut IndexSet<Name>, text: String) -> Result<usize, NoMemory>
     ensures grew { OnOk result (Grew names.old.keys names.new.keys) }
     ensures entry { IfOk result (λ n. IsEntry (string_bytes text) (slice_get names.new.keys n)) }
 {
-    let (at, _new) = names.insert_full(text)?;
+    if let Some((at, _known)) = names.get_full(text.as_str()) {
+        return Ok(at);
+    }
+    let shared = Name::from_string(text)?;
+    let (at, _new) = names.insert_full(shared)?;
+    Ok(at)
+}
+
+/// The number of the text among the names, to which it is added where it is new.
+fn put_name(names: &mut IndexSet<Name>, text: String) -> Result<u32, NoMemory>
+    ensures grew { OnOk result (Grew names.old.keys names.new.keys) }
+    ensures entry { IfOk result (λ n. IsEntry (string_bytes text) (slice_get names.new.keys n)) }
+{
+    let at = place_name(names, text)?;
     let number = narrow(at as u64)?;
     Ok(number)
 }
@@ -187,8 +201,8 @@ impl Lists {
     }
 
     /// The text of the name that a kept token is.
-    fn name_of(&self, kind: StoredKind) -> Option<&String>
-        ensures { option_map (λ s. string_bytes s.now) result ≡ name_of (lexeme_in self.now kind) }
+    fn name_of(&self, kind: StoredKind) -> Option<&Name>
+        ensures { option_map (λ s. rc_str_bytes s.now) result ≡ name_of (lexeme_in self.now kind) }
     {
         match kind {
             StoredKind::Name(number) | StoredKind::RawName(number) => {
@@ -326,8 +340,8 @@ impl<'a> Rest<'a> {
     }
 
     /// The text of the name that the first of the tokens is, and the tokens behind it.
-    pub fn split_name(self) -> Option<(&'a String, Rest<'a>)>
-        ensures { option_map (λ p. (string_bytes p.0.now, rest_view p.1)) result
+    pub fn split_name(self) -> Option<(&'a Name, Rest<'a>)>
+        ensures { option_map (λ p. (rc_str_bytes p.0.now, rest_view p.1)) result
             ≡ first_as (λ t. name_of t.lexeme) (rest_view self.entry) }
     {
         let (first, stored) = self.stored.split_first()?;

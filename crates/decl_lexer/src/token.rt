@@ -4,6 +4,10 @@ ghost use Rattle.std.specs.Prelude.{◌≡◌};
 use crate::marks::Mark;
 use crate::words::Word;
 use no_memory::NoMemory;
+use std::rc::RcStr;
+
+/// The text of a name. All names of a source with one text share it, and a copy takes no memory of its own.
+pub type Name = RcStr;
 
 /// A token and its place: the byte offsets in the file where it begins and where it ends, both below 2^32.
 /// `from` is below `to`, and the byte at `to` is the first one behind it.
@@ -29,7 +33,7 @@ pub struct IntToken {
 #[derive(Clone, Copy)]
 pub enum TokenKind<'a> {
     /// An identifier: its text in NFC, without its `r#`, and whether it had one.
-    Name { text: &'a String, raw: bool },
+    Name { text: &'a Name, raw: bool },
     Word(Word),
     Mark(Mark),
     /// A lifetime or a raw lifetime.

@@ -1,5 +1,6 @@
 //! Variants, the forms of structs, the heads of items and what an import lists.
-ghost use Rattle.std.specs.Prelude.{◌≡◌, map, option_map, string_bytes};
+ghost use Rattle.std.specs.Prelude.{◌≡◌, map, option_map};
+ghost use Rattle.std.specs.Rc.{rc_str_bytes};
 ghost use Rattle.decl_syntax.specs.Units.{left};
 ghost use Rattle.decl_syntax.specs.Reading.{Gives};
 ghost use Rattle.decl_syntax.specs.Items.{form_view, variant_view};
@@ -11,7 +12,7 @@ use crate::names::owned_name_at;
 use crate::params::skip_params;
 use crate::parts::attributes_at;
 use crate::runs::{Until, run_at};
-use decl_lexer::{Mark, Word};
+use decl_lexer::{Mark, Name, Word};
 use decl_syntax::{Cursor, Form, Stop, Variant, behind, behind_word};
 use std::alloc::Global;
 
@@ -32,7 +33,7 @@ fn variant_at(alloc: Global, at: Cursor<'_>) -> Result<(Variant, Cursor<'_>), St
     ensures { Gives (λ x. (variant_view x.0, left x.1)) result (variant_at (left at.entry)) }
 {
     let (attrs, rest) = attributes_at(alloc, at)?;
-    let (name, rest) = owned_name_at(alloc, rest)?;
+    let (name, rest) = owned_name_at(rest)?;
     let (form, rest) = form_at(alloc, rest)?;
     let rest = skip_number(alloc, rest)?;
     Ok((Variant { name, attrs, form }, rest))
@@ -91,13 +92,13 @@ pub fn struct_form_at(alloc: Global, at: Cursor<'_>) -> Result<(Form, Cursor<'_>
 
 /// The name of an item that begins with this keyword, and the place behind its parameters.
 #[tactic(auto, unfolding(crate::specs::DeclarationReading::head_at))]
-pub fn head_at(alloc: Global, word: Word, at: Cursor<'_>) -> Result<(String, Cursor<'_>), Stop>
-    ensures { Gives (λ x. (string_bytes x.0, left x.1)) result (head_at word (left at.entry)) }
+pub fn head_at(word: Word, at: Cursor<'_>) -> Result<(Name, Cursor<'_>), Stop>
+    ensures { Gives (λ x. (rc_str_bytes x.0, left x.1)) result (head_at word (left at.entry)) }
 {
     let Some(rest) = behind_word(at, word) else {
         return Err(Stop::Syntax);
     };
-    let (name, rest) = owned_name_at(alloc, rest)?;
+    let (name, rest) = owned_name_at(rest)?;
     match skip_params(rest) {
         Some(rest) => Ok((name, rest)),
         None => Err(Stop::Syntax),

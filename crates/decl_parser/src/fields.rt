@@ -1,5 +1,6 @@
 //! Visibilities, fields and the forms that they make.
-ghost use Rattle.std.specs.Prelude.{◌≡◌, ◌++◌, ◌∷◌, [], map, option_map, string_bytes, true, IfOk, IfErr};
+ghost use Rattle.std.specs.Prelude.{◌≡◌, ◌++◌, ◌∷◌, [], map, option_map, true, IfOk, IfErr};
+ghost use Rattle.std.specs.Rc.{rc_str_bytes};
 ghost use Rattle.decl_syntax.specs.declared.stop.Stop.TheVariants.{Memory};
 ghost use Rattle.decl_syntax.specs.Units.{left, behind, first_passes};
 ghost use Rattle.decl_syntax.specs.Reading.{Gives};
@@ -10,7 +11,7 @@ ghost use Rattle.decl_parser.specs.DeclarationReading.{scope_at, restriction_at,
 use crate::names::owned_name_at;
 use crate::parts::{attributes_at, type_at};
 use crate::runs::{Until, run_at};
-use decl_lexer::{Mark, TokenKind, Word};
+use decl_lexer::{Mark, Name, TokenKind, Word};
 use decl_syntax::{Cursor, Field, Form, Seen, Stop, behind, behind_word, fitted};
 use std::alloc::Global;
 
@@ -86,17 +87,13 @@ pub fn skip_visibility(alloc: Global, at: Cursor<'_>) -> Result<Cursor<'_>, Stop
 
 /// What stands before the type of a field: a name in a brace form, and nothing in a tuple form.
 #[tactic(auto, unfolding(crate::specs::DeclarationReading::label_at))]
-fn label_at(
-    alloc: Global,
-    braced: bool,
-    at: Cursor<'_>,
-) -> Result<(Option<String>, Cursor<'_>), Stop>
-    ensures { Gives (λ x. (option_map string_bytes x.0, left x.1)) result (label_at braced (left at.entry)) }
+fn label_at(braced: bool, at: Cursor<'_>) -> Result<(Option<Name>, Cursor<'_>), Stop>
+    ensures { Gives (λ x. (option_map rc_str_bytes x.0, left x.1)) result (label_at braced (left at.entry)) }
 {
     if !braced {
         return Ok((None, at));
     }
-    let (name, rest) = owned_name_at(alloc, at)?;
+    let (name, rest) = owned_name_at(at)?;
     match behind(rest, Mark::Colon) {
         Some(rest) => Ok((Some(name), rest)),
         None => Err(Stop::Syntax),
@@ -110,7 +107,7 @@ fn field_at(alloc: Global, braced: bool, at: Cursor<'_>) -> Result<(Field, Curso
 {
     let (attrs, rest) = attributes_at(alloc, at)?;
     let rest = skip_visibility(alloc, rest)?;
-    let (name, rest) = label_at(alloc, braced, rest)?;
+    let (name, rest) = label_at(braced, rest)?;
     let (ty, rest) = type_at(alloc, rest)?;
     Ok((Field { name, attrs, ty }, rest))
 }

@@ -1,5 +1,6 @@
 //! A function, from the `(` behind its name on.
-ghost use Rattle.std.specs.Prelude.{◌≡◌, string_bytes};
+ghost use Rattle.std.specs.Prelude.{◌≡◌};
+ghost use Rattle.std.specs.Rc.{rc_str_bytes};
 ghost use Rattle.decl_syntax.specs.Units.{left};
 ghost use Rattle.decl_syntax.specs.Types.{type_view};
 ghost use Rattle.decl_syntax.specs.Reading.{Gives};
@@ -9,7 +10,7 @@ ghost use Rattle.decl_parser.specs.FunctionReading.{parameter_at, returned_at, s
 use crate::arms::arms_at;
 use crate::parts::type_at;
 use crate::runs::{Until, run_at};
-use decl_lexer::{Mark, Word};
+use decl_lexer::{Mark, Name, Word};
 use decl_syntax::{
     Arm, Cursor, Stop, Ty, behind, behind_word, fitted, name_at, skip_mark, skip_word,
 };
@@ -45,8 +46,8 @@ pub fn function_at(alloc: Global, at: Cursor<'_>) -> Result<(Body, Cursor<'_>), 
 
 /// The parameter's name and type, and the place behind its `)`.
 #[tactic(auto, unfolding(crate::specs::FunctionReading::parameter_at))]
-fn parameter_at(alloc: Global, at: Cursor<'_>) -> Result<(&String, Ty, Cursor<'_>), Stop>
-    ensures { Gives (λ x. (record { name = string_bytes x.0.now; type = type_view x.1 }, left x.2)) result
+fn parameter_at(alloc: Global, at: Cursor<'_>) -> Result<(&Name, Ty, Cursor<'_>), Stop>
+    ensures { Gives (λ x. (record { name = rc_str_bytes x.0.now; type = type_view x.1 }, left x.2)) result
         (parameter_at (left at.entry)) }
 {
     let Some(rest) = behind(at, Mark::OpenRound) else {
@@ -79,8 +80,8 @@ fn returned_at(alloc: Global, at: Cursor<'_>) -> Result<Cursor<'_>, Stop>
 
 /// The place of the `*`, if there is one, the name that is matched on, and the place behind it.
 #[tactic(auto, unfolding(crate::specs::FunctionReading::scrutinee_at))]
-fn scrutinee_at(at: Cursor<'_>) -> Result<(Option<u64>, &String, Cursor<'_>), Stop>
-    ensures { Gives (λ x. (record { deref = x.0; name = string_bytes x.1.now }, left x.2)) result
+fn scrutinee_at(at: Cursor<'_>) -> Result<(Option<u64>, &Name, Cursor<'_>), Stop>
+    ensures { Gives (λ x. (record { deref = x.0; name = rc_str_bytes x.1.now }, left x.2)) result
         (scrutinee_at (left at.entry)) }
 {
     let Some(at) = behind_word(at, Word::Match) else {
@@ -101,8 +102,8 @@ fn scrutinee_at(at: Cursor<'_>) -> Result<(Option<u64>, &String, Cursor<'_>), St
 /// The `{` of the function and the head of its match on this name: the place of the `*`, if there is one,
 /// and the place behind the match's `{`.
 #[tactic(auto, unfolding(crate::specs::FunctionReading::head_at))]
-fn head_at<'a>(name: &String, at: Cursor<'a>) -> Result<(Option<u64>, Cursor<'a>), Stop>
-    ensures { Gives (λ x. (x.0, left x.1)) result (head_at (string_bytes name.now) (left at.entry)) }
+fn head_at<'a>(name: &Name, at: Cursor<'a>) -> Result<(Option<u64>, Cursor<'a>), Stop>
+    ensures { Gives (λ x. (x.0, left x.1)) result (head_at (rc_str_bytes name.now) (left at.entry)) }
 {
     let Some(rest) = behind(at, Mark::OpenCurly) else {
         return Err(Stop::Syntax);

@@ -53,7 +53,7 @@ fn kind_at(alloc: Global, at: Cursor<'_>) -> Result<(ItemKind, Cursor<'_>), Stop
 fn enum_at(alloc: Global, at: Cursor<'_>) -> Result<(ItemKind, Cursor<'_>), Stop>
     ensures { Gives (λ x. (kind_view x.0, left x.1)) result (enum_at (left at.entry)) }
 {
-    let (name, rest) = head_at(alloc, Word::Enum, at)?;
+    let (name, rest) = head_at(Word::Enum, at)?;
     let Some(rest) = behind(rest, Mark::OpenCurly) else {
         return Err(Stop::Syntax);
     };
@@ -67,7 +67,7 @@ fn enum_at(alloc: Global, at: Cursor<'_>) -> Result<(ItemKind, Cursor<'_>), Stop
 fn struct_at(alloc: Global, at: Cursor<'_>) -> Result<(ItemKind, Cursor<'_>), Stop>
     ensures { Gives (λ x. (kind_view x.0, left x.1)) result (struct_at (left at.entry)) }
 {
-    let (name, rest) = head_at(alloc, Word::Struct, at)?;
+    let (name, rest) = head_at(Word::Struct, at)?;
     let (form, rest) = struct_form_at(alloc, rest)?;
     Ok((ItemKind::Struct(StructItem { name, form }), rest))
 }
@@ -80,7 +80,7 @@ fn import_at(alloc: Global, at: Cursor<'_>) -> Result<(ItemKind, Cursor<'_>), St
     let Some(rest) = behind_word(at, Word::Use) else {
         return Err(Stop::Syntax);
     };
-    let (owner, rest) = owned_name_at(alloc, rest)?;
+    let (owner, rest) = owned_name_at(rest)?;
     let Some(rest) = behind(rest, Mark::PathSeparator) else {
         return Err(Stop::Syntax);
     };
@@ -96,7 +96,7 @@ fn import_at(alloc: Global, at: Cursor<'_>) -> Result<(ItemKind, Cursor<'_>), St
 fn named_function_at(alloc: Global, at: Cursor<'_>) -> Result<(ItemKind, Cursor<'_>), Stop>
     ensures { Gives (λ x. (kind_view x.0, left x.1)) result (named_function_at (left at.entry)) }
 {
-    let (name, rest) = head_at(alloc, Word::Fn, at)?;
+    let (name, rest) = head_at(Word::Fn, at)?;
     let (body, rest) = function_at(alloc, rest)?;
     let kind = ItemKind::Function(FnItem {
         name,

@@ -10,8 +10,10 @@ use Rattle.decl_syntax.specs.Units.{behind, is_mark, is_word, token_at, name_of,
 use Rattle.decl_syntax.specs.Patterns.{LitTree, Shape, Range}
 use Rattle.decl_syntax.specs.Grammar.{only, further}
 use Rattle.decl_syntax.specs.EndGrammar.{names_of, all_names, OneToken, one_token, Segment, IsSegment, a_name, the_crate, the_value, the_parent, the_type, SpellsPath, IsLiteral, a_true, a_false, a_char, a_byte, an_int, a_float, a_text, a_byte_text, a_c_text, IsNegated, negated_int, negated_float, IsEnd, char_end, byte_end, int_end, float_end, SpellsEnd, plain_end, negative_end, path_end, begins_end, IsRangeMark, two_dots, dots_equal, SpellsRange, both_ends, low_end, high_end}
-use Rattle.decl_syntax.specs.EndReading.{segment_of, segments_at, literal_of, negated_of, end_of, end_at, range_mark_of, range_behind, range_at}
-use Rattle.decl_syntax.specs.Reading.{◌>>=◌}
+use Rattle.decl_syntax.specs.declared.stop.Stop.{Stop}
+use Rattle.decl_syntax.specs.declared.stop.Stop.TheVariants as stops
+use Rattle.decl_syntax.specs.EndReading.{segment_of, segments_at, path_tree_at, literal_of, negated_of, end_of, end_at, range_mark_of, range_behind, range_at}
+use Rattle.decl_syntax.specs.Reading.{◌>>=◌, Fails}
 use Rattle.decl_syntax.proofs.ListLemmas.{Shrinks}
 use Rattle.decl_syntax.proofs.Joined.{some_is, bind_some, either_some, given, behind_some, token_some, Joined, read_shrinks, parts}
 
@@ -273,3 +275,9 @@ all_push (x ∷ front) s = ap (λ b. x.is_name && b) (all_push front s) ∙ asso
 pub gathered : (front : List Segment) (s : Segment) (old new : List (List ℕ)) (plain : Bool) → names_of front ≡ old → all_names front ≡ plain → new ≡ old ++ s.text ∷ []
     → (names_of (front ++ s ∷ []) ≡ new) × (all_names (front ++ s ∷ []) ≡ (plain && s.is_name))
 gathered front s old new plain e f g = (names_push front s ∙ ap (λ ys. ys ++ s.text ∷ []) e ∙ sym g, all_push front s ∙ ap (λ b. b && s.is_name) f)
+
+-- where its parts are not read, neither is a path
+pub path_fails : (e : Stop) (ts : List Placed) → Fails e (segments_at ts) → Fails e (path_tree_at ts)
+unfolding path_tree_at
+path_fails stops.Memory ts f = tt
+path_fails stops.Syntax ts f = rw f refl

@@ -1,5 +1,6 @@
 -- A function by itself, and what callers see of one.
-use Rattle.std.specs.Prelude.{ℕ, List, Option, map, string_bytes}
+use Rattle.std.specs.Prelude.{ℕ, List, Option, map}
+use Rattle.std.specs.Rc.{rc_str_bytes}
 use Rattle.decl_syntax.specs.declared.items.FnItem as declared_function
 use Rattle.decl_syntax.specs.Types.{TypeTree, type_view}
 use Rattle.decl_syntax.specs.Items.{ArmTree, arm_view}
@@ -13,4 +14,4 @@ pub record FunctionTree : Type 0 where
 
 -- a function
 abbrev pub function_view : declared_function.FnItem → FunctionTree
-function_view f = record { name = string_bytes f.name; param = type_view f.param; deref = f.deref; arms = map arm_view f.arms.items }
+function_view f = record { name = rc_str_bytes f.name; param = type_view f.param; deref = f.deref; arms = map arm_view f.arms.items }

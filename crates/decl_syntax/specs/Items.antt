@@ -1,5 +1,6 @@
 -- Written items, without where they lie in memory (Rust Reference, Items).
-use Rattle.std.specs.Prelude.{ℕ, Bool, List, Option, string_bytes, map, option_map}
+use Rattle.std.specs.Prelude.{ℕ, Bool, List, Option, map, option_map}
+use Rattle.std.specs.Rc.{rc_str_bytes}
 use Rattle.decl_syntax.specs.Types.{TypeTree, type_view}
 use Rattle.decl_syntax.specs.Patterns.{AttrTree, attr_view, PatternTree, pattern_view}
 use Rattle.decl_syntax.specs.declared.items.File as declared_file
@@ -52,7 +53,7 @@ pub record ItemTree : Type 0 where
 
 -- what a caller sees of each
 abbrev pub field_view : declared_field.Field → FieldItem
-field_view f = record { name = option_map string_bytes f.name; attrs = map attr_view f.attrs.items; type = type_view f.ty }
+field_view f = record { name = option_map rc_str_bytes f.name; attrs = map attr_view f.attrs.items; type = type_view f.ty }
 
 abbrev pub form_view : Form → FormTree
 form_view forms.Unit = Unit
@@ -60,16 +61,16 @@ form_view (forms.Tuple fields) = Tuple (map field_view fields.items)
 form_view (forms.Brace fields) = Brace (map field_view fields.items)
 
 abbrev pub variant_view : declared_variant.Variant → VariantTree
-variant_view v = record { name = string_bytes v.name; attrs = map attr_view v.attrs.items; form = form_view v.form }
+variant_view v = record { name = rc_str_bytes v.name; attrs = map attr_view v.attrs.items; form = form_view v.form }
 
 abbrev pub arm_view : declared_arm.Arm → ArmTree
 arm_view a = record { attrs = map attr_view a.attrs.items; pattern = pattern_view a.pat; guarded = a.guarded }
 
 abbrev pub kind_view : ItemKind → KindTree
-kind_view (kinds.Enum e) = Enum (string_bytes e.name) (map variant_view e.variants.items)
-kind_view (kinds.Struct s) = Struct (string_bytes s.name) (form_view s.form)
-kind_view (kinds.Import u) = Import (string_bytes u.owner) (option_map (λ names. map string_bytes names.items) u.names)
-kind_view (kinds.Function f) = Function (string_bytes f.name) (type_view f.param) f.deref (map arm_view f.arms.items)
+kind_view (kinds.Enum e) = Enum (rc_str_bytes e.name) (map variant_view e.variants.items)
+kind_view (kinds.Struct s) = Struct (rc_str_bytes s.name) (form_view s.form)
+kind_view (kinds.Import u) = Import (rc_str_bytes u.owner) (option_map (λ names. map rc_str_bytes names.items) u.names)
+kind_view (kinds.Function f) = Function (rc_str_bytes f.name) (type_view f.param) f.deref (map arm_view f.arms.items)
 
 abbrev pub item_view : declared_item.Item → ItemTree
 item_view i = record { from = i.from; attrs = map attr_view i.attrs.items; kind = kind_view i.kind }

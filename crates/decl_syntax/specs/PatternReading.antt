@@ -1,5 +1,6 @@
 -- No meaning: a reading of patterns from left to right, which laws join to the grammar.
-use Rattle.std.specs.Prelude.{ℕ, zero, suc, Bool, true, false, ◌||◌, List, [], ◌∷◌, length, ◌-◌, Option, Some, None, string_bytes, if◌then◌else◌}
+use Rattle.std.specs.Prelude.{ℕ, zero, suc, Bool, true, false, ◌||◌, List, [], ◌∷◌, length, ◌-◌, Option, Some, None, if◌then◌else◌}
+use Rattle.std.specs.Rc.{rc_str_bytes}
 use Rattle.decl_lexer.specs.declared.marks.Mark.{Mark}
 use Rattle.decl_lexer.specs.declared.marks.Mark.TheVariants as marks
 use Rattle.decl_lexer.specs.declared.words.Word.TheVariants as words
@@ -16,7 +17,7 @@ use Rattle.decl_syntax.specs.Reading.{◌>>=◌, either, Read, list_at, parts_at
 
 -- what a caller sees of a binding, and the tokens behind it
 abbrev pub binding_view : declared.Binding → Binding × List Placed
-binding_view b = (record { by_ref = b.by_ref; mutable = b.mutable; name = string_bytes b.name.now }, left b.rest)
+binding_view b = (record { by_ref = b.by_ref; mutable = b.mutable; name = rc_str_bytes b.name.now }, left b.rest)
 
 -- `ref`, `mut` and a name
 unfoldable pub binding_at : List Placed → Read Binding

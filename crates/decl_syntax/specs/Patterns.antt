@@ -1,5 +1,6 @@
 -- Written patterns, without where they lie in memory (Rust Reference, Patterns).
 use Rattle.std.specs.Prelude.{ℕ, zero, suc, Bool, true, false, ◌&&◌, List, [], ◌∷◌, Option, Some, None, string_bytes, map, option_map}
+use Rattle.std.specs.Rc.{rc_str_bytes}
 use Rattle.decl_syntax.specs.declared.tree.Path as declared_path
 use Rattle.decl_syntax.specs.declared.tree.Lit.{Lit}
 use Rattle.decl_syntax.specs.declared.tree.Lit.TheVariants as lits
@@ -18,7 +19,7 @@ pub record PathTree : Type 0 where
 
 -- what a caller sees of a path
 abbrev pub path_view : declared_path.Path → PathTree
-path_view p = record { names = map string_bytes p.names.items; plain = p.plain }
+path_view p = record { names = map rc_str_bytes p.names.items; plain = p.plain }
 
 -- a literal or the end of a range
 pub data LitTree : Type 0 where
@@ -46,7 +47,7 @@ pub record AttrTree : Type 0 where
 
 -- what a caller sees of it
 abbrev pub attr_view : declared_attr.Attr → AttrTree
-attr_view a = record { from = a.from; word = string_bytes a.word }
+attr_view a = record { from = a.from; word = rc_str_bytes a.word }
 
 -- a pattern with its place, its forms, and lists of patterns and of fields
 mutual
@@ -105,8 +106,8 @@ abbrev pub shape_step : PatKind-F Shape FieldTree PatternTree → Shape
 shape_step open_kind.Wild = Wild
 shape_step open_kind.Rest = Rest
 shape_step (open_kind.Lit l) = Literal (lit_view l)
-shape_step (open_kind.Name text) = Name (string_bytes text)
-shape_step (open_kind.Bind name by_ref mutable sub) = bind_shape (string_bytes name) by_ref mutable (option_map (λ b. b.value) sub)
+shape_step (open_kind.Name text) = Name (rc_str_bytes text)
+shape_step (open_kind.Bind name by_ref mutable sub) = bind_shape (rc_str_bytes name) by_ref mutable (option_map (λ b. b.value) sub)
 shape_step (open_kind.Path path) = Path (path_view path)
 shape_step (open_kind.TupleForm path items) = TupleForm (path_view path.value) (patterns_from items.items)
 shape_step (open_kind.Brace path fields rest) = Brace (path_view path.value) (fields_from fields.items) rest
@@ -123,7 +124,7 @@ pattern_step p = At p.from p.kind
 
 -- the same of a field
 abbrev pub field_step : FieldPat-F Shape FieldTree PatternTree → FieldTree
-field_step f = record { name = string_bytes f.name; short = f.short; attrs = map attr_view f.attrs.items; pattern = f.pat }
+field_step f = record { name = rc_str_bytes f.name; short = f.short; attrs = map attr_view f.attrs.items; pattern = f.pat }
 
 -- what a caller sees of a pattern
 abbrev pub pattern_view : Pat → PatternTree

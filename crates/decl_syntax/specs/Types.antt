@@ -1,5 +1,6 @@
 -- Written types, without where they lie in memory (Rust Reference, Types).
 use Rattle.std.specs.Prelude.{ℕ, Bool, List, [], ◌∷◌, Option, string_bytes}
+use Rattle.std.specs.Rc.{rc_str_bytes}
 use Rattle.decl_syntax.specs.declared.ty.Ty.{Ty}
 use Rattle.decl_syntax.specs.declared.ty.Ty.TheOpen as open_ty
 use Rattle.decl_syntax.specs.declared.ty.Ty.TheOpen.{Ty-F}
@@ -31,7 +32,7 @@ type_step (open_ty.Tuple parts) = Tuple (types_from parts.items)
 type_step (open_ty.Point mutable inner) = Point mutable inner.value
 type_step (open_ty.Slice item) = Slice item.value
 type_step (open_ty.Array item size) = Array item.value size.value.len (string_bytes size.value.suffix)
-type_step (open_ty.Named name args) = Named (string_bytes name) (types_from args.items)
+type_step (open_ty.Named name args) = Named (rc_str_bytes name) (types_from args.items)
 
 -- what a caller sees of a type
 abbrev pub type_view : Ty → TypeTree

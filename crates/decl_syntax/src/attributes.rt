@@ -1,5 +1,6 @@
 //! Attributes.
-ghost use Rattle.std.specs.Prelude.{◌≡◌, map, option_map, string_bytes, reverse, Some, IfOk, IfErr};
+ghost use Rattle.std.specs.Prelude.{◌≡◌, map, option_map, reverse, Some, IfOk, IfErr};
+ghost use Rattle.std.specs.Rc.{rc_str_bytes};
 ghost use Rattle.decl_lexer.specs.Begins.{Marked};
 ghost use Rattle.decl_syntax.specs.Units.{left, unit_view, name_of};
 ghost use Rattle.decl_syntax.specs.Patterns.{attr_view};
@@ -11,7 +12,7 @@ ghost use Rattle.decl_syntax.specs.RunReading.{word_at, attribute_at, attributes
 use crate::cursor::{Cursor, Seen, Unit, behind};
 use crate::stop::Stop;
 use crate::tree::Attr;
-use decl_lexer::{Mark, TokenKind};
+use decl_lexer::{Mark, Name, TokenKind};
 use std::alloc::Global;
 
 /// Reads the attributes behind a place, one after the other, and gives the place behind them. Where one of
@@ -83,9 +84,9 @@ pub fn track(opened: &mut Vec<Mark>, unit: Unit<'_>) -> Result<bool, Stop>
 }
 
 /// A word, or else the name that a token is.
-fn first_word<'a>(word: Option<&'a String>, unit: Unit<'a>) -> Option<&'a String>
-    ensures { option_map (λ s. string_bytes s.now) result
-        ≡ or_else (option_map (λ s. string_bytes s.now) word.entry) (name_of (unit_view unit.entry).lexeme) }
+fn first_word<'a>(word: Option<&'a Name>, unit: Unit<'a>) -> Option<&'a Name>
+    ensures { option_map (λ s. rc_str_bytes s.now) result
+        ≡ or_else (option_map (λ s. rc_str_bytes s.now) word.entry) (name_of (unit_view unit.entry).lexeme) }
 {
     if let Some(word) = word {
         return Some(word);
@@ -97,8 +98,8 @@ fn first_word<'a>(word: Option<&'a String>, unit: Unit<'a>) -> Option<&'a String
 }
 
 /// The first name of a run, and the place behind the run.
-fn word_at(alloc: Global, at: Cursor<'_>) -> Result<(Option<&String>, Cursor<'_>), Stop>
-    ensures { Gives (λ x. (option_map (λ s. string_bytes s.now) x.0, left x.1)) result (word_at (left at.entry)) }
+fn word_at(alloc: Global, at: Cursor<'_>) -> Result<(Option<&Name>, Cursor<'_>), Stop>
+    ensures { Gives (λ x. (option_map (λ s. rc_str_bytes s.now) x.0, left x.1)) result (word_at (left at.entry)) }
 {
     let mut opened = Vec::new(alloc);
     let mut word = None;
@@ -121,12 +122,12 @@ fn word_at(alloc: Global, at: Cursor<'_>) -> Result<(Option<&String>, Cursor<'_>
 }
 
 /// A text, or an empty one.
-fn text_of(alloc: Global, word: Option<&String>) -> Result<String, Stop>
-    ensures { Gives string_bytes result (Some (text_of (option_map (λ s. string_bytes s.now) word.entry))) }
+fn text_of(alloc: Global, word: Option<&Name>) -> Result<Name, Stop>
+    ensures { Gives rc_str_bytes result (Some (text_of (option_map (λ s. rc_str_bytes s.now) word.entry))) }
 {
     match word {
-        Some(text) => Ok(String::from_str(alloc, text.as_str())?),
-        None => Ok(String::new(alloc)),
+        Some(text) => Ok(text.clone()?),
+        None => Ok(Name::from_str(alloc, "")?),
     }
 }
 

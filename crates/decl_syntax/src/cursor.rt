@@ -1,11 +1,12 @@
 //! A place in a list of tokens, and one step from there.
-ghost use Rattle.std.specs.Prelude.{◌≡◌, ◌∷◌, [], MatchOption, option_map, string_bytes};
+ghost use Rattle.std.specs.Prelude.{◌≡◌, ◌∷◌, [], MatchOption, option_map};
+ghost use Rattle.std.specs.Rc.{rc_str_bytes};
 ghost use Rattle.decl_lexer.specs.Stored.{tokens_view, rest_view, first_is};
 ghost use Rattle.decl_lexer.specs.Begins.{Marked, mark_of, keyword_of, name_of};
 ghost use Rattle.decl_lexer.specs.Views.{lexeme_view};
 ghost use Rattle.decl_syntax.specs.Units.{units, left, unit_view, doubled_mark, mark_seen, behind, is_mark, is_word, is_lifetime, token_at, flag_at, integer_of, from_of};
 
-use decl_lexer::{Mark, Rest, TokenKind, Tokens, Word};
+use decl_lexer::{Mark, Name, Rest, TokenKind, Tokens, Word};
 
 /// The second mark of a token `&&` or `>>`, which ends at byte `to` and begins one byte before.
 #[derive(Clone, Copy, Debug)]
@@ -208,8 +209,8 @@ pub fn behind_lifetime(at: Cursor<'_>) -> Option<Cursor<'_>>
 
 /// The text of the name behind the place, and the place behind it.
 #[tactic(auto, unfolding(crate::specs::Units::left, crate::specs::Units::units))]
-pub fn name_at(at: Cursor<'_>) -> Option<(&String, Cursor<'_>)>
-    ensures { option_map (λ p. (string_bytes p.0.now, left p.1)) result ≡ token_at name_of (left at.entry) }
+pub fn name_at(at: Cursor<'_>) -> Option<(&Name, Cursor<'_>)>
+    ensures { option_map (λ p. (rc_str_bytes p.0.now, left p.1)) result ≡ token_at name_of (left at.entry) }
 {
     if at.pending.is_some() {
         return None;

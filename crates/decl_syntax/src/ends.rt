@@ -1,5 +1,6 @@
 //! Literals, paths, the ends of ranges, and ranges.
 ghost use Rattle.std.specs.Prelude.{◌≡◌, [], Some, option_map, string_bytes};
+ghost use Rattle.std.specs.Rc.{rc_str_bytes};
 ghost use Rattle.decl_syntax.specs.Units.{left, token_at, first_passes};
 ghost use Rattle.decl_syntax.specs.Patterns.{Int, Range, lit_view, path_view, shape_view};
 ghost use Rattle.decl_syntax.specs.Reading.{Gives};
@@ -10,7 +11,7 @@ use crate::cursor::{Cursor, Seen, behind, name_at};
 use crate::lists::fitted;
 use crate::stop::Stop;
 use crate::tree::{IntLit, Lit, PatKind, Path, RangePat};
-use decl_lexer::{IntToken, Mark, TokenKind, Word};
+use decl_lexer::{IntToken, Mark, Name, TokenKind, Word};
 use std::alloc::Global;
 
 /// A decimal integer below 2^64 without a suffix.
@@ -114,6 +115,19 @@ fn segment_at(at: Cursor<'_>) -> Option<(&str, bool, Cursor<'_>)>
     }
 }
 
+/// A part of a path, which shares its text with the token where it is a name.
+fn owned_segment_at(alloc: Global, at: Cursor<'_>) -> Result<(Name, bool, Cursor<'_>), Stop>
+    ensures { Gives (λ p. (segment_view (rc_str_bytes p.0) p.1, left p.2)) result (token_at segment_of (left at.entry)) }
+{
+    if let Some((text, rest)) = name_at(at) {
+        return Ok((text.clone()?, true, rest));
+    }
+    match segment_at(at) {
+        Some((text, is_name, rest)) => Ok((Name::from_str(alloc, text)?, is_name, rest)),
+        None => Err(Stop::Syntax),
+    }
+}
+
 /// A path, and the place behind it.
 pub fn path_at(alloc: Global, at: Cursor<'_>) -> Result<(Path, Cursor<'_>), Stop>
     ensures { Gives (λ x. (path_view x.0, left x.1)) result (path_tree_at (left at.entry)) }
@@ -122,10 +136,8 @@ pub fn path_at(alloc: Global, at: Cursor<'_>) -> Result<(Path, Cursor<'_>), Stop
     let mut plain = true;
     let mut rest = at;
     'parts: loop {
-        let Some((text, is_name, after)) = segment_at(rest) else {
-            return Err(Stop::Syntax);
-        };
-        names.push(String::from_str(alloc, text)?)?;
+        let (name, is_name, after) = owned_segment_at(alloc, rest)?;
+        names.push(name)?;
         plain &= is_name;
         match behind(after, Mark::PathSeparator) {
             Some(behind) => rest = behind,

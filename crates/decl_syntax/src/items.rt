@@ -1,6 +1,7 @@
 //! The trees of items as they are written.
 use crate::tree::{Attr, Pat};
 use crate::ty::Ty;
+use decl_lexer::Name;
 
 /// A file: its items in order, without the attributes `#![..]` at its start.
 #[derive(Debug, Drop)]
@@ -30,14 +31,14 @@ pub enum ItemKind {
 /// An enum, with its variants in order.
 #[derive(Debug, Drop)]
 pub struct EnumItem {
-    pub name: String,
+    pub name: Name,
     pub variants: Vec<Variant>,
 }
 
 /// A variant; what stands behind its `=` leaves no trace.
 #[derive(Debug, Drop)]
 pub struct Variant {
-    pub name: String,
+    pub name: Name,
     pub attrs: Vec<Attr>,
     pub form: Form,
 }
@@ -45,7 +46,7 @@ pub struct Variant {
 /// A struct.
 #[derive(Debug, Drop)]
 pub struct StructItem {
-    pub name: String,
+    pub name: Name,
     pub form: Form,
 }
 
@@ -60,7 +61,7 @@ pub enum Form {
 /// A field. It has a name exactly in a brace form.
 #[derive(Debug, Drop)]
 pub struct Field {
-    pub name: Option<String>,
+    pub name: Option<Name>,
     pub attrs: Vec<Attr>,
     pub ty: Ty,
 }
@@ -68,15 +69,15 @@ pub struct Field {
 /// `use OWNER::{..};` with the names in order, or `use OWNER::*;` with none.
 #[derive(Debug, Drop)]
 pub struct UseItem {
-    pub owner: String,
-    pub names: Option<Vec<String>>,
+    pub owner: Name,
+    pub names: Option<Vec<Name>>,
 }
 
 /// A function whose body is one match on its one parameter, of type `param`. `deref` is the byte offset of the `*` in
 /// `match *x`. What the function returns leaves no trace.
 #[derive(Debug, Drop)]
 pub struct FnItem {
-    pub name: String,
+    pub name: Name,
     pub param: Ty,
     pub deref: Option<u64>,
     pub arms: Vec<Arm>,

@@ -1,5 +1,6 @@
 //! Patterns as they are written.
-ghost use Rattle.std.specs.Prelude.{◌≡◌, ◌-◌, ◌++◌, ◌∷◌, [], map, string_bytes, option_map, Some, IfOk, IfErr};
+ghost use Rattle.std.specs.Prelude.{◌≡◌, ◌-◌, ◌++◌, ◌∷◌, [], map, option_map, Some, IfOk, IfErr};
+ghost use Rattle.std.specs.Rc.{rc_str_bytes};
 ghost use Rattle.decl_syntax.specs.declared.stop.Stop.TheVariants.{Memory};
 ghost use Rattle.decl_syntax.specs.Units.{left, unit_view};
 ghost use Rattle.decl_syntax.specs.Patterns.{pattern_view, shape_view, path_view, field_view, Bind, BindAs, Tuple, more, none};
@@ -17,7 +18,7 @@ use crate::levels::fits;
 use crate::lists::fitted;
 use crate::stop::Stop;
 use crate::tree::{FieldPat, Pat, PatKind, Path};
-use decl_lexer::{Mark, TokenKind, Word};
+use decl_lexer::{Mark, Name, TokenKind, Word};
 use std::alloc::Global;
 
 /// Reads the pattern behind a place, of at most 64 levels, and gives the place behind it. Where there
@@ -49,7 +50,7 @@ fn pattern_at(alloc: Global, at: Cursor<'_>) -> Result<(Pat, Cursor<'_>), Stop>
 struct Binding<'a> {
     by_ref: bool,
     mutable: bool,
-    name: &'a String,
+    name: &'a Name,
     rest: Cursor<'a>,
 }
 
@@ -112,33 +113,28 @@ fn rest_at(at: Cursor<'_>) -> Option<(Pat, Cursor<'_>)>
 }
 
 /// The digits of a number, where they are all of its token's bytes.
-fn number_name(
-    alloc: Global,
-    value: Option<u128>,
-    decimal: bool,
-    width: u64,
-) -> Result<String, Stop>
-    ensures { Gives string_bytes result (number_name value decimal width) }
+fn number_name(alloc: Global, value: Option<u128>, decimal: bool, width: u64) -> Result<Name, Stop>
+    ensures { Gives rc_str_bytes result (number_name value decimal width) }
 {
     let Some(number) = value else {
         return Err(Stop::Syntax);
     };
     let digits = number.to_string(alloc)?;
     if decimal && digits.len() as u64 == width {
-        Ok(digits)
+        Ok(Name::from_string(digits)?)
     } else {
         Err(Stop::Syntax)
     }
 }
 
 /// The name of a field that a token of so many bytes is.
-fn field_name(alloc: Global, unit: Unit<'_>) -> Result<String, Stop>
-    ensures { Gives string_bytes result
+fn field_name(alloc: Global, unit: Unit<'_>) -> Result<Name, Stop>
+    ensures { Gives rc_str_bytes result
         (field_name (unit_view unit.entry).lexeme ((unit_view unit.entry).to - (unit_view unit.entry).from)) }
 {
     let width = unit.to.saturating_sub(unit.from);
     match unit.kind {
-        Seen::Other(TokenKind::Name { text, .. }) => Ok(String::from_str(alloc, text.as_str())?),
+        Seen::Other(TokenKind::Name { text, .. }) => Ok(text.clone()?),
         Seen::Other(TokenKind::Small(value)) => {
             number_name(alloc, Some(value as u128), true, width)
         }
@@ -149,8 +145,8 @@ fn field_name(alloc: Global, unit: Unit<'_>) -> Result<String, Stop>
 
 /// The name of a field and `:`.
 #[tactic(auto, unfolding(crate::specs::PatternReading::label_at))]
-fn label_at(alloc: Global, at: Cursor<'_>) -> Result<(String, Cursor<'_>), Stop>
-    ensures { Gives (λ x. (string_bytes x.0, left x.1)) result (label_at (left at.entry)) }
+fn label_at(alloc: Global, at: Cursor<'_>) -> Result<(Name, Cursor<'_>), Stop>
+    ensures { Gives (λ x. (rc_str_bytes x.0, left x.1)) result (label_at (left at.entry)) }
 {
     let Some((first, rest)) = at.next() else {
         return Err(Stop::Syntax);
@@ -165,9 +161,9 @@ fn label_at(alloc: Global, at: Cursor<'_>) -> Result<(String, Cursor<'_>), Stop>
 /// A binding at a pattern.
 fn bind_as(alloc: Global, found: Binding<'_>, sub: Pat) -> Result<PatKind, Stop>
     ensures { Gives shape_view result
-        (Some (BindAs (string_bytes found.entry.name.now) found.entry.by_ref found.entry.mutable (pattern_view sub))) }
+        (Some (BindAs (rc_str_bytes found.entry.name.now) found.entry.by_ref found.entry.mutable (pattern_view sub))) }
 {
-    let name = String::from_str(alloc, found.name.as_str())?;
+    let name = found.name.clone()?;
     let sub = Some(Box::new(alloc, sub)?);
     let (by_ref, mutable) = (found.by_ref, found.mutable);
     Ok(PatKind::Bind {
@@ -179,11 +175,11 @@ fn bind_as(alloc: Global, found: Binding<'_>, sub: Pat) -> Result<PatKind, Stop>
 }
 
 /// A binding with `ref` or `mut` alone.
-fn bind(alloc: Global, found: Binding<'_>) -> Result<PatKind, Stop>
+fn bind(found: Binding<'_>) -> Result<PatKind, Stop>
     ensures { Gives shape_view result
-        (Some (Bind (string_bytes found.entry.name.now) found.entry.by_ref found.entry.mutable)) }
+        (Some (Bind (rc_str_bytes found.entry.name.now) found.entry.by_ref found.entry.mutable)) }
 {
-    let name = String::from_str(alloc, found.name.as_str())?;
+    let name = found.name.clone()?;
     let sub = None;
     let (by_ref, mutable) = (found.by_ref, found.mutable);
     Ok(PatKind::Bind {
@@ -240,7 +236,7 @@ fn plain_at(alloc: Global, levels: u32, at: Cursor<'_>) -> Result<(PatKind, Curs
         return Ok((kind, rest));
     }
     if let Some(found) = marked_at(at) {
-        let kind = bind(alloc, found)?;
+        let kind = bind(found)?;
         return Ok((kind, found.rest));
     }
     unbound_at(alloc, levels - 1, at)
@@ -337,9 +333,9 @@ fn field_at(alloc: Global, levels: u32, at: Cursor<'_>) -> Result<(FieldPat, Cur
         return Err(Stop::Syntax);
     };
     let from = rest.from();
-    let kind = bind(alloc, found)?;
+    let kind = bind(found)?;
     let pat = Pat { from, kind };
-    let name = String::from_str(alloc, found.name.as_str())?;
+    let name = found.name.clone()?;
     let field = FieldPat {
         name,
         short: true,

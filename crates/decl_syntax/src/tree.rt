@@ -1,9 +1,10 @@
 //! The trees of patterns as they are written.
+use decl_lexer::Name;
 
 /// A path as it is written. It is plain where each part is a name; `crate`, `self`, `super` and `Self` are none.
 #[derive(Debug, Drop)]
 pub struct Path {
-    pub names: Vec<String>,
+    pub names: Vec<Name>,
     pub plain: bool,
 }
 
@@ -42,7 +43,7 @@ pub struct RangePat {
 #[derive(Debug, Drop)]
 pub struct Attr {
     pub from: u64,
-    pub word: String,
+    pub word: Name,
 }
 
 /// A pattern, and the byte offset of its first token; a leading `|` does not count.
@@ -57,7 +58,7 @@ pub struct Pat {
 #[cycle(pattern)]
 #[derive(Debug, Drop)]
 pub struct FieldPat {
-    pub name: String,
+    pub name: Name,
     /// Whether it was written without a label (`x`, `ref mut x`), so that its name is a binding and is not looked up.
     pub short: bool,
     pub attrs: Vec<Attr>,
@@ -73,10 +74,10 @@ pub enum PatKind {
     Rest,
     Lit(Lit),
     /// A name alone, which may be a path or a binding.
-    Name(String),
+    Name(Name),
     /// A binding by `ref`, `mut` or `@`, or a field's shorthand.
     Bind {
-        name: String,
+        name: Name,
         by_ref: bool,
         mutable: bool,
         sub: Option<Box<Pat>>,

@@ -1,5 +1,6 @@
 //! Types as they are written.
-ghost use Rattle.std.specs.Prelude.{◌≡◌, map, string_bytes, option_map, ◌++◌, ◌∷◌, [], IfOk, IfErr};
+ghost use Rattle.std.specs.Prelude.{◌≡◌, map, option_map, ◌++◌, ◌∷◌, [], IfOk, IfErr};
+ghost use Rattle.std.specs.Rc.{rc_str_bytes};
 ghost use Rattle.decl_syntax.specs.declared.stop.Stop.TheVariants.{Memory};
 ghost use Rattle.decl_syntax.specs.TypeGrammar.{somes, SpellsType};
 ghost use Rattle.decl_syntax.specs.Units.{left};
@@ -14,7 +15,7 @@ use crate::cursor::{
 };
 use crate::lists::fitted;
 use crate::stop::Stop;
-use decl_lexer::{Mark, Word};
+use decl_lexer::{Mark, Name, Word};
 use std::alloc::Global;
 
 /// The length of an array as it is written: `len` is `None` from 2^128 on, `suffix` is the one that is written at it, or
@@ -30,21 +31,12 @@ pub struct ArraySize {
 pub enum Ty {
     Never,
     Tuple(Vec<Ty>),
-    Point {
-        mutable: bool,
-        inner: Box<Ty>,
-    },
+    Point { mutable: bool, inner: Box<Ty> },
     Slice(Box<Ty>),
     /// The length stands behind a box, since it is much larger than the others and rare.
-    Array {
-        item: Box<Ty>,
-        size: Box<ArraySize>,
-    },
+    Array { item: Box<Ty>, size: Box<ArraySize> },
     /// A name with its type arguments.
-    Named {
-        name: String,
-        args: Vec<Ty>,
-    },
+    Named { name: Name, args: Vec<Ty> },
 }
 
 /// Reads the type behind a place, of at most 64 levels, and gives the place behind it. Where there is
@@ -145,13 +137,13 @@ fn point_type(alloc: Global, levels: u32, at: Cursor<'_>) -> Result<(Ty, Cursor<
 fn named_type<'a>(
     alloc: Global,
     levels: u32,
-    name: &String,
+    name: &Name,
     at: Cursor<'a>,
 ) -> Result<(Ty, Cursor<'a>), Stop>
     ensures { Gives (λ x. (type_view x.0, left x.1)) result
-        (named_type (type_at levels) (string_bytes name.now) (left at.entry)) }
+        (named_type (type_at levels) (rc_str_bytes name.now) (left at.entry)) }
 {
-    let name = String::from_str(alloc, name.as_str())?;
+    let name = name.clone()?;
     match behind(at, Mark::Less) {
         Some(rest) => {
             let (args, rest) = type_args(alloc, levels, rest)?;

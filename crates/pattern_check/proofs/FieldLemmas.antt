@@ -1,6 +1,7 @@
 -- Names of fields that are among others, and what a path finds.
 use Rattle.std.proofs.Common.{◌≡◌, ℕ, zero, suc, IfOk, Result, Ok, Err, ◌+◌, ◌<◌, ◌≤◌, add-one, Bool, true, false, not, ◌&&◌, ◌||◌, List, [], ◌∷◌, map, length, drop, get_or, Option, Some, None, refl, sym, ap, ◌∙◌, rules, arith}
-use Rattle.std.specs.Prelude.{position, is_none, is_some, option_map, string_bytes, nat_le}
+use Rattle.std.specs.Rc.{rc_str_bytes}
+use Rattle.std.specs.Prelude.{position, is_none, is_some, option_map, nat_le}
 use Rattle.std.specs.Str.{bytes_eq}
 use Rattle.std.proofs.Math.Seq.{drop-cons}
 use Rattle.std.proofs.lemmas.Bool.Decides.{nat_tests}
@@ -35,7 +36,7 @@ absent_is name (n ∷ ns) = by (bytes_eq name n) refl (absent_is name ns)
         let among : not (is_among name ns) ≡ not (is_among name (n ∷ ns)) = rw e refl in
         ap (λ (o : Option ℕ). is_none o) (position_skip (λ m. bytes_eq name m) n ns e) ∙ (later (position (λ m. bytes_eq name m) ns) ∙ (ih ∙ among))
 
-name_of_view : (f : FieldPat) → (field_view f).name ≡ string_bytes f.name
+name_of_view : (f : FieldPat) → (field_view f).name ≡ rc_str_bytes f.name
 name_of_view f = search (rules, the_lemmas)
 
 -- the names of these fields
@@ -44,7 +45,7 @@ names_of fs = written_names (fields_from (map field_view fs))
 
 -- whether one of the fields from here on is absent
 pub absent_from : (those : List (List ℕ)) (fs : List FieldPat) (i : ℕ) (f : FieldPat) → i < length fs → f ≡ get_or fs i f →
-    some_absent (names_of (drop i fs)) those ≡ (not (is_among (string_bytes f.name) those) || some_absent (names_of (drop (i + 1) fs)) those)
+    some_absent (names_of (drop i fs)) those ≡ (not (is_among (rc_str_bytes f.name) those) || some_absent (names_of (drop (i + 1) fs)) those)
 absent_from those fs i f lt e = rw (drop-cons fs i f, add-one, ← e, name_of_view f) refl
 
 pub not_not : (b : Bool) → not (not b) ≡ b

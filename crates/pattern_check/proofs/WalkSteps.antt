@@ -1,5 +1,6 @@
 -- The steps of a walk over the nodes of patterns.
-use Rattle.std.proofs.Common.{◌≡◌, ℕ, ◌+◌, ◌<◌, ◌≤◌, add-one, Bool, true, false, List, [], ◌∷◌, ◌++◌, map, length, take, drop, get_or, string_bytes, Option, Some, None, refl, sym, ap, ◌∙◌, append_assoc, rules}
+use Rattle.std.proofs.Common.{◌≡◌, ℕ, ◌+◌, ◌<◌, ◌≤◌, add-one, Bool, true, false, List, [], ◌∷◌, ◌++◌, map, length, take, drop, get_or, Option, Some, None, refl, sym, ap, ◌∙◌, append_assoc, rules}
+use Rattle.std.specs.Rc.{rc_str_bytes}
 use Rattle.std.specs.Prelude.{is_some}
 use Rattle.std.proofs.Math.Seq.{drop-cons, take-suc}
 use Rattle.std.proofs.lemmas.List.{append-nil, take_all}
@@ -151,7 +152,7 @@ module _ (s : Setting) (before : List (List ℕ)) (items : List Pat) (i : ℕ) (
         (item_nodes s (before ++ names_of_all s (list_of (take (i + 1) items))) t count m (list_of (drop (i + 1) items))) r some h
         ∙ sym here_items
 
-pub field_name_is : (f : FieldPat) → (field_view f).name ≡ string_bytes f.name
+pub field_name_is : (f : FieldPat) → (field_view f).name ≡ rc_str_bytes f.name
 field_name_is f = search (rules, the_lemmas)
 
 -- the fields of a list

@@ -1,5 +1,7 @@
 -- The forms of patterns as their variants show them.
-use Rattle.std.proofs.Common.{◌≡◌, Bool, map, Option, Some, None, option_map, string_bytes, Vec, Global, String, rules}
+use Rattle.std.proofs.Common.{◌≡◌, Bool, map, Option, Some, None, option_map, Vec, Global, rules}
+use Rattle.std.specs.Rc.{rc_str_bytes}
+use Rattle.std.specs.declared.rc.RcStr.{RcStr}
 use Rattle.std.specs.Global.{Box}
 use Rattle.decl_syntax.specs.declared.tree.Path as declared_path
 use Rattle.decl_syntax.specs.declared.tree.Lit.{Lit}
@@ -19,11 +21,11 @@ shape_rest = search (rules, the_lemmas)
 pub shape_lit : (l : Lit) → shape_view (kinds.Lit l) ≡ Literal (lit_view l)
 shape_lit l = search (rules, the_lemmas)
 
-pub shape_name : (name : String Global) → shape_view (kinds.Name name) ≡ Name (string_bytes name)
+pub shape_name : (name : RcStr Global) → shape_view (kinds.Name name) ≡ Name (rc_str_bytes name)
 shape_name name = search (rules, the_lemmas)
 
-pub shape_bind : (name : String Global) (by_ref mutable : Bool) (sub : Option (Box Pat)) →
-    shape_view (kinds.Bind name by_ref mutable sub) ≡ bind_shape (string_bytes name) by_ref mutable
+pub shape_bind : (name : RcStr Global) (by_ref mutable : Bool) (sub : Option (Box Pat)) →
+    shape_view (kinds.Bind name by_ref mutable sub) ≡ bind_shape (rc_str_bytes name) by_ref mutable
     (option_map (λ b. pattern_view b.value) sub)
 shape_bind name by_ref mutable None = search (rules, the_lemmas)
 shape_bind name by_ref mutable (Some b) = search (rules, the_lemmas)

@@ -1,5 +1,6 @@
 -- The written fields of a brace form in a walk, field by field.
-use Rattle.std.proofs.Common.{◌≡◌, ℕ, ◌+◌, suc, ◌<◌, add-one, false, List, [], ◌∷◌, ◌++◌, map, length, drop, get_or, string_bytes, sym, ap, subst, ◌∙◌, rules}
+use Rattle.std.proofs.Common.{◌≡◌, ℕ, ◌+◌, suc, ◌<◌, add-one, false, List, [], ◌∷◌, ◌++◌, map, length, drop, get_or, sym, ap, subst, ◌∙◌, rules}
+use Rattle.std.specs.Rc.{rc_str_bytes}
 use Rattle.std.proofs.Math.Seq.{drop-cons}
 use Rattle.match_model.specs.declared.Mode.{Mode}
 use Rattle.match_model.specs.Types.{MType}
@@ -27,7 +28,7 @@ abbrev pub field_list : List FieldPat → FieldTrees
 field_list fields = fields_from (map field_view fields)
 
 field_at : (f : FieldPat) → field_view f ≡ record {
-  name = string_bytes f.name;
+  name = rc_str_bytes f.name;
   short = f.short;
   attrs =
       (field_view f).attrs;
@@ -36,7 +37,7 @@ field_at : (f : FieldPat) → field_view f ≡ record {
 field_at f = search (rules, the_lemmas)
 
 fields_here : (all : List FieldPat) (i : ℕ) (f : FieldPat) → i < length all → f ≡ get_or all i f →
-    field_list (drop i all) ≡ and_field (string_bytes f.name) f.short (field_view f).attrs (pattern_view f.pat)
+    field_list (drop i all) ≡ and_field (rc_str_bytes f.name) f.short (field_view f).attrs (pattern_view f.pat)
     (field_list (drop (i + 1) all))
 fields_here all i f lt e =
     rw (drop-cons all i f, add-one, ← e)
@@ -57,7 +58,7 @@ pub field_pushed : (table : TypeTable) (t : MType) (m : Mode) (k : ℕ) (all : L
     (f : FieldPat) (written pushed : List (ℕ × DePat TyId))
     (new : DePat TyId) (u : MType) → i < length all → f ≡ get_or all i f →
     (is_tuple t ≡ false → number ≡ field_number (names_of_variant (type_variant (table_program table) t k))
-    (string_bytes f.name)) →
+    (rc_str_bytes f.name)) →
     pushed ≡ written ++ (number, new) ∷ [] → u ≡ types_of_parts (table_program table) t k number →
     PatternShown table u m (pattern_view f.pat) new →
     FieldsLeft table t m k (field_list all) (field_list (drop i all)) written → FieldsLeft table t m k
@@ -67,11 +68,11 @@ field_pushed table t m k all i number f written pushed new u lt at place push ty
     let before : FieldsFit s types names (field_list (drop i all)) × (given_fields (table_type table) written ++
     built_fields s types names m (field_list (drop i all)) ≡ built_fields s types names m (field_list all))
     = h s types names is same tuple named fit in
-    let here : Fits s (types (field_number names (string_bytes f.name))) (pattern_view f.pat) × FieldsFit s types
+    let here : Fits s (types (field_number names (rc_str_bytes f.name))) (pattern_view f.pat) × FieldsFit s types
     names (field_list (drop (i + 1) all))
     = subst (λ xs. FieldsFit s types names xs) (fields_here all i f lt at) before.0 in
-    let it : field_number names (string_bytes f.name) ≡ number = sym (place tuple
-    ∙ ap (λ ns. field_number ns (string_bytes f.name)) named) in
+    let it : field_number names (rc_str_bytes f.name) ≡ number = sym (place tuple
+    ∙ ap (λ ns. field_number ns (rc_str_bytes f.name)) named) in
     let value : plain table new ≡ built s (types number) m (pattern_view f.pat)
     = shown_at table (types number) u m (pattern_view f.pat) new made (type ∙ same number) s is
     (subst (λ n. Fits s (types n) (pattern_view f.pat)) it here.0) in

@@ -1,3 +1,4 @@
+pub mod NameMapLemmas
 pub mod Places
 pub mod ItemTests
 pub mod WrittenLemmas

@@ -4,6 +4,7 @@ pub mod TypeRules
 pub mod Imports
 pub mod NameRules
 pub mod Attributes
+pub mod NameMaps
 pub mod Views
 pub mod Rules
 pub mod Finding

@@ -1,17 +1,19 @@
 -- What callers see of meanings and of the names of a file.
 use Rattle.std.specs.Prelude.{◌≡◌, ℕ, Bool, true, false, List, map, position, Option, Some, None, option_map}
+use Rattle.std.specs.Rc.{rc_str_bytes}
+use Rattle.std.specs.declared.rc.RcStr.{RcStr}
 use Rattle.std.specs.Global.{Global, Box}
-use Rattle.std.specs.Prelude.{String, string_bytes}
 use denote.Ref.{Bor}
 use Rattle.std.specs.declared.hash.FoldHasher.{FoldHasher}
 use Rattle.std.specs.declared.hash.BuildHasherDefault.{BuildHasherDefault}
-use Rattle.indexmap.specs.IndexMap.{IndexMap, get_by_text}
+use Rattle.indexmap.specs.IndexMap.{IndexMap}
+use Rattle.type_names.specs.NameMaps.{get_by_name}
 use Rattle.match_model.specs.declared.IntKind.TheVariants as ints
 use Rattle.match_model.specs.Types.{MOwner, DeclaredItem, OptionOwner, ResultOwner, MOpaque, StringName, F32Name, F64Name, BoxName, VecName, RcName, ArcName, MType, BoolType, CharType, StrType, NeverType, IntType}
 use Rattle.decl_syntax.specs.Items.{VariantTree, ItemTree}
 use Rattle.type_names.specs.declared.names.Names as declared_names
 use Rattle.type_names.specs.declared.name_rules.Taken as declared_taken
-use Rattle.indexmap.specs.IndexSet.{contains_text}
+use Rattle.type_names.specs.NameMaps.{contains_name}
 use Rattle.type_names.specs.NameRules.{is_among}
 use Rattle.type_names.specs.declared.meanings.Base.{Base}
 use Rattle.type_names.specs.declared.meanings.Base.TheVariants as bases
@@ -69,11 +71,11 @@ owner_view owners.Result = ResultOwner
 
 -- a map from names to places in a list
 abbrev pub PlaceMap : Type 0
-PlaceMap = IndexMap (String Global) ℕ (BuildHasherDefault FoldHasher)
+PlaceMap = IndexMap (RcStr Global) ℕ (BuildHasherDefault FoldHasher)
 
 -- the text that may be there
-abbrev pub text_of : Option (Bor (String Global)) → Option (List ℕ)
-text_of o = option_map (λ s. string_bytes s.now) o
+abbrev pub text_of : Option (Bor (RcStr Global)) → Option (List ℕ)
+text_of o = option_map (λ s. rc_str_bytes s.now) o
 
 -- No meaning: the place that a name has, or else this place where the name is the same.
 abbrev pub first_place : Option ℕ → (same : Bool) → ℕ → Option ℕ
@@ -92,16 +94,16 @@ variant_at variants name = position (λ v. is_name name (Some v.name)) variants
 -- No meaning: the places of names by a map that may be there.
 abbrev pub places_of : Option (Box PlaceMap) → (name : List ℕ) → Option ℕ
 places_of None = λ name. None
-places_of (Some places) = get_by_text places.value
+places_of (Some places) = get_by_name places.value
 
 -- the names are those of the items
 pub record AreNames (items : List ItemTree) (names : declared_names.Names) : Type 0 where
-  pub declared : get_by_text names.declared ≡ declared_at items
+  pub declared : get_by_name names.declared ≡ declared_at items
   pub variants : map places_of names.variants.items ≡ map (λ i. variant_at (kind_variants i.kind)) items
 
 -- what names mean as types, by the look-ups
 abbrev pub means_in : declared_names.Names → Means
-means_in names name = first_of_two (option_map ItemName (get_by_text names.declared name)) (built_in name)
+means_in names name = first_of_two (option_map ItemName (get_by_name names.declared name)) (built_in name)
 
 -- No meaning: the name is one of these.
 abbrev pub among : List (List ℕ) → List ℕ → Bool
@@ -109,9 +111,9 @@ among names q = is_among q names
 
 -- No meaning: these names are in the sets.
 pub record AreTaken (types functions values : List (List ℕ)) (taken : declared_taken.Taken) : Type 0 where
-  pub types_are : contains_text taken.types ≡ among types
-  pub functions_are : contains_text taken.functions ≡ among functions
-  pub values_are : contains_text taken.values ≡ among values
+  pub types_are : contains_name taken.types ≡ among types
+  pub functions_are : contains_name taken.functions ≡ among functions
+  pub values_are : contains_name taken.values ≡ among values
 
 -- No meaning: the place of a name by the maps of an item that may be there.
 abbrev pub place_in : Option (Option (Box PlaceMap)) → (name : List ℕ) → Option ℕ

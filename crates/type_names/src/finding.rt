@@ -1,5 +1,6 @@
 //! The names that structs and imports of a file give to patterns, and what a path finds by them.
-ghost use Rattle.std.specs.Prelude.{◌≡◌, ℕ, List, [], ◌∷◌, map, slice_get, string_bytes, option_map, IfOk, OnOk, if◌then◌else◌};
+ghost use Rattle.std.specs.Prelude.{◌≡◌, ℕ, List, [], ◌∷◌, map, slice_get, option_map, IfOk, OnOk, if◌then◌else◌};
+ghost use Rattle.std.specs.Rc.{rc_str_bytes};
 ghost use Rattle.std.specs.Str.{bytes_eq};
 ghost use Rattle.decl_syntax.specs.Items.{ItemTree, item_view, kind_view, variant_view};
 ghost use Rattle.decl_syntax.specs.Patterns.{path_view};
@@ -13,6 +14,7 @@ use crate::imports::{enum_of, variants_of};
 use crate::meanings::{Meaning, Owner};
 use crate::names::Names;
 use crate::targets::{Target, or_else, prelude_variant, with_variant};
+use decl_lexer::Name;
 use decl_syntax::{Item, ItemKind, Path, Variant};
 use indexmap::{IndexMap, IndexSet};
 use no_memory::NoMemory;
@@ -54,9 +56,9 @@ impl Finder {
     }
 
     // What the names of a path find.
-    fn find_parts(&self, names: &Names, parts: &[String]) -> Target
+    fn find_parts(&self, names: &Names, parts: &[Name]) -> Target
         ensures { (items : List ItemTree) → AreNames items names.now → IsFinder items self.now
-            → target_view result ≡ names_find items (map string_bytes parts.now) }
+            → target_view result ≡ names_find items (map rc_str_bytes parts.now) }
     {
         match parts {
             [name] => self.find_name(name),
@@ -161,11 +163,11 @@ fn give_listed(
     targets: &mut IndexMap<String, Target>,
     names: &Names,
     owner: &str,
-    listed: &[String],
+    listed: &[Name],
 ) -> Result<(), NoMemory>
     ensures { (items : List ItemTree) → AreNames items names.now → (q : List ℕ) → OnOk result
         (found_in targets.new q ≡ or_else (found_in targets.old q)
-        (masked (is_among q (map string_bytes listed.now)) (path_variant items owner.now q))) }
+        (masked (is_among q (map rc_str_bytes listed.now)) (path_variant items owner.now q))) }
 {
     for name in listed {
         give(alloc, targets, name, path_variant(names, owner, name))?;

@@ -1,9 +1,10 @@
 //! Rules 10, 11, 12 and 18: names that are taken, and names that no enum or variant has.
-ghost use Rattle.std.specs.Prelude.{◌≡◌, ◌++◌, ◌∷◌, filter, if◌then◌else◌, true, false, not, ◌||◌, List, [], ℕ, length, is_none, map, string_bytes, IfOk, OnOk, option_map};
+ghost use Rattle.std.specs.Prelude.{◌≡◌, ◌++◌, ◌∷◌, filter, if◌then◌else◌, true, false, not, ◌||◌, List, [], ℕ, length, is_none, map, IfOk, OnOk, option_map};
+ghost use Rattle.std.specs.Rc.{rc_str_bytes};
 ghost use Rattle.std.specs.Str.{bytes_eq};
 ghost use Rattle.std.specs.List.{list_any};
 ghost use Rattle.type_names.specs.Written.{field_name};
-ghost use Rattle.indexmap.specs.IndexSet.{contains_text};
+ghost use Rattle.type_names.specs.NameMaps.{contains_name};
 ghost use Rattle.decl_syntax.specs.Items.{item_view, kind_view, form_view, field_view, variant_view};
 ghost use Rattle.type_names.specs.Imports.{enum_of, variant_form, variant_number};
 ghost use Rattle.type_names.specs.NameRules.{is_value_form, listed, has_variant_twice, has_field_twice, form_has_field_twice, is_bad_use, some_unlisted, some_among, repeats, is_taken, taken_names, function_names, value_names};
@@ -13,6 +14,7 @@ ghost use Rattle.type_names.specs.Views.{among, owner_view, AreNames, AreTaken};
 use crate::imports::{enum_of, variant_form};
 use crate::meanings::{FormKind, Owner};
 use crate::names::Names;
+use decl_lexer::Name;
 use decl_syntax::{Field, Form, Item, ItemKind, Variant};
 use indexmap::IndexSet;
 use no_memory::NoMemory;
@@ -22,9 +24,9 @@ use std::alloc::Global;
 /// values.
 #[derive(Debug, Drop)]
 pub struct Taken {
-    types: IndexSet<String>,
-    functions: IndexSet<String>,
-    values: IndexSet<String>,
+    types: IndexSet<Name>,
+    functions: IndexSet<Name>,
+    values: IndexSet<Name>,
 }
 
 impl Taken {
@@ -73,8 +75,8 @@ impl Taken {
 }
 
 // The names that an enum, a struct or a list of imports takes.
-fn taken_names(alloc: Global, kind: &ItemKind) -> Result<Vec<String>, NoMemory>
-    ensures { IfOk result (λ v. map string_bytes v.items ≡ taken_names (kind_view kind.now)) }
+fn taken_names(alloc: Global, kind: &ItemKind) -> Result<Vec<Name>, NoMemory>
+    ensures { IfOk result (λ v. map rc_str_bytes v.items ≡ taken_names (kind_view kind.now)) }
 {
     match kind {
         ItemKind::Enum(e) => one_name(alloc, &e.name),
@@ -85,8 +87,8 @@ fn taken_names(alloc: Global, kind: &ItemKind) -> Result<Vec<String>, NoMemory>
 }
 
 // The name of a function.
-fn function_names(alloc: Global, kind: &ItemKind) -> Result<Vec<String>, NoMemory>
-    ensures { IfOk result (λ v. map string_bytes v.items ≡ function_names (kind_view kind.now)) }
+fn function_names(alloc: Global, kind: &ItemKind) -> Result<Vec<Name>, NoMemory>
+    ensures { IfOk result (λ v. map rc_str_bytes v.items ≡ function_names (kind_view kind.now)) }
 {
     match kind {
         ItemKind::Function(f) => one_name(alloc, &f.name),
@@ -95,8 +97,8 @@ fn function_names(alloc: Global, kind: &ItemKind) -> Result<Vec<String>, NoMemor
 }
 
 // The name alone.
-fn one_name(alloc: Global, name: &String) -> Result<Vec<String>, NoMemory>
-    ensures { IfOk result (λ v. map string_bytes v.items ≡ string_bytes name.now ∷ []) }
+fn one_name(alloc: Global, name: &Name) -> Result<Vec<Name>, NoMemory>
+    ensures { IfOk result (λ v. map rc_str_bytes v.items ≡ rc_str_bytes name.now ∷ []) }
 {
     let mut all = Vec::new(alloc);
     let copy = name.clone()?;
@@ -105,9 +107,9 @@ fn one_name(alloc: Global, name: &String) -> Result<Vec<String>, NoMemory>
 }
 
 // The names that are listed, if any are.
-fn listed_names(alloc: Global, names: &Option<Vec<String>>) -> Result<Vec<String>, NoMemory>
-    ensures { IfOk result (λ v. map string_bytes v.items
-        ≡ listed (option_map (λ l. map string_bytes l.items) names.now)) }
+fn listed_names(alloc: Global, names: &Option<Vec<Name>>) -> Result<Vec<Name>, NoMemory>
+    ensures { IfOk result (λ v. map rc_str_bytes v.items
+        ≡ listed (option_map (λ l. map rc_str_bytes l.items) names.now)) }
 {
     match names {
         Some(names) => copied_names(alloc, names),
@@ -116,8 +118,8 @@ fn listed_names(alloc: Global, names: &Option<Vec<String>>) -> Result<Vec<String
 }
 
 // The same names.
-fn copied_names(alloc: Global, names: &[String]) -> Result<Vec<String>, NoMemory>
-    ensures { IfOk result (λ v. map string_bytes v.items ≡ map string_bytes names.now) }
+fn copied_names(alloc: Global, names: &[Name]) -> Result<Vec<Name>, NoMemory>
+    ensures { IfOk result (λ v. map rc_str_bytes v.items ≡ map rc_str_bytes names.now) }
 {
     let mut all = Vec::new(alloc);
     for name in names {
@@ -133,9 +135,9 @@ fn value_names(
     names: &Names,
     items: &[Item],
     kind: &ItemKind,
-) -> Result<Vec<String>, NoMemory>
+) -> Result<Vec<Name>, NoMemory>
     requires { AreNames (map item_view items.now) names.now }
-    ensures { IfOk result (λ v. map string_bytes v.items ≡ value_names (map item_view items.now) (kind_view kind.now)) }
+    ensures { IfOk result (λ v. map rc_str_bytes v.items ≡ value_names (map item_view items.now) (kind_view kind.now)) }
 {
     match kind {
         ItemKind::Struct(s) => match &s.form {
@@ -156,13 +158,13 @@ fn value_imports(
     names: &Names,
     items: &[Item],
     owner: &str,
-    listed: &[String],
-) -> Result<Vec<String>, NoMemory>
+    listed: &[Name],
+) -> Result<Vec<Name>, NoMemory>
     requires { AreNames (map item_view items.now) names.now }
-    ensures { IfOk result (λ v. map string_bytes v.items
+    ensures { IfOk result (λ v. map rc_str_bytes v.items
         ≡ filter (λ n. is_value_form
         (variant_form (map item_view items.now) (enum_of (map item_view items.now) owner.now) n))
-        (map string_bytes listed.now)) }
+        (map rc_str_bytes listed.now)) }
 {
     let owner = enum_of(names, items, owner);
     let mut all = Vec::new(alloc);
@@ -174,9 +176,9 @@ fn value_imports(
 }
 
 // Adds a name, where it is to be added.
-fn add_if(all: &mut Vec<String>, is_added: bool, name: &String) -> Result<(), NoMemory>
-    ensures { OnOk result (map string_bytes all.new.items
-        ≡ map string_bytes all.old.items ++ (if is_added then string_bytes name.now ∷ [] else [])) }
+fn add_if(all: &mut Vec<Name>, is_added: bool, name: &Name) -> Result<(), NoMemory>
+    ensures { OnOk result (map rc_str_bytes all.new.items
+        ≡ map rc_str_bytes all.old.items ++ (if is_added then rc_str_bytes name.now ∷ [] else [])) }
 {
     if is_added {
         let copy = name.clone()?;
@@ -214,10 +216,10 @@ pub(crate) fn form_of_variant(
 }
 
 // Takes a name, and says whether it was free.
-fn take_name(taken: &mut IndexSet<String>, name: &String) -> Result<bool, NoMemory>
-    ensures free { IfOk result (λ b. b ≡ not (contains_text taken.old (string_bytes name.now))) }
-    ensures taken { OnOk result (contains_text taken.new
-        ≡ (λ q. contains_text taken.old q || bytes_eq q (string_bytes name.now))) }
+fn take_name(taken: &mut IndexSet<Name>, name: &Name) -> Result<bool, NoMemory>
+    ensures free { IfOk result (λ b. b ≡ not (contains_name taken.old (rc_str_bytes name.now))) }
+    ensures taken { OnOk result (contains_name taken.new
+        ≡ (λ q. contains_name taken.old q || bytes_eq q (rc_str_bytes name.now))) }
 {
     if taken.contains(name.as_str()) {
         return Ok(false);
@@ -228,10 +230,10 @@ fn take_name(taken: &mut IndexSet<String>, name: &String) -> Result<bool, NoMemo
 }
 
 // Takes names one after the other, and says whether each was free.
-fn take_names(taken: &mut IndexSet<String>, names: &[String]) -> Result<bool, NoMemory>
-    ensures { (before : List (List ℕ)) → contains_text taken.old ≡ among before →
-        let all = map string_bytes names.now in IfOk result (λ b. (b ≡ not (repeats before all))
-        × (b ≡ true → contains_text taken.new ≡ among (before ++ all))) }
+fn take_names(taken: &mut IndexSet<Name>, names: &[Name]) -> Result<bool, NoMemory>
+    ensures { (before : List (List ℕ)) → contains_name taken.old ≡ among before →
+        let all = map rc_str_bytes names.now in IfOk result (λ b. (b ≡ not (repeats before all))
+        × (b ≡ true → contains_name taken.new ≡ among (before ++ all))) }
 {
     for name in names {
         if !take_name(taken, name)? {
@@ -242,9 +244,9 @@ fn take_names(taken: &mut IndexSet<String>, names: &[String]) -> Result<bool, No
 }
 
 // Whether one of the names is taken.
-fn some_taken(taken: &IndexSet<String>, names: &[String]) -> bool
-    ensures { (before : List (List ℕ)) → contains_text taken.now ≡ among before
-        → result ≡ some_among (map string_bytes names.now) before }
+fn some_taken(taken: &IndexSet<Name>, names: &[Name]) -> bool
+    ensures { (before : List (List ℕ)) → contains_name taken.now ≡ among before
+        → result ≡ some_among (map rc_str_bytes names.now) before }
 {
     for name in names {
         if taken.contains(name.as_str()) {
@@ -255,9 +257,9 @@ fn some_taken(taken: &IndexSet<String>, names: &[String]) -> bool
 }
 
 // Adds names, those that are there as well.
-fn add_names(taken: &mut IndexSet<String>, names: &[String]) -> Result<(), NoMemory>
-    ensures { (before : List (List ℕ)) → contains_text taken.old ≡ among before
-        → OnOk result (contains_text taken.new ≡ among (before ++ map string_bytes names.now)) }
+fn add_names(taken: &mut IndexSet<Name>, names: &[Name]) -> Result<(), NoMemory>
+    ensures { (before : List (List ℕ)) → contains_name taken.old ≡ among before
+        → OnOk result (contains_name taken.new ≡ among (before ++ map rc_str_bytes names.now)) }
 {
     for name in names {
         let _ = take_name(taken, name)?;
@@ -284,8 +286,8 @@ pub fn first_name_twice(
 }
 
 // Whether two of the names are equal.
-fn has_repeats(alloc: Global, names: &[String]) -> Result<bool, NoMemory>
-    ensures { IfOk result (λ b. b ≡ repeats [] (map string_bytes names.now)) }
+fn has_repeats(alloc: Global, names: &[Name]) -> Result<bool, NoMemory>
+    ensures { IfOk result (λ b. b ≡ repeats [] (map rc_str_bytes names.now)) }
 {
     let mut taken = IndexSet::new(alloc);
     let all_free = take_names(&mut taken, names)?;
@@ -353,8 +355,8 @@ fn form_repeats(alloc: Global, form: &Form) -> Result<bool, NoMemory>
 }
 
 // The names of the fields.
-fn field_names(alloc: Global, fields: &[Field]) -> Result<Vec<String>, NoMemory>
-    ensures { IfOk result (λ v. map string_bytes v.items ≡ map (λ f. field_name f.name) (map field_view fields.now)) }
+fn field_names(alloc: Global, fields: &[Field]) -> Result<Vec<Name>, NoMemory>
+    ensures { IfOk result (λ v. map rc_str_bytes v.items ≡ map (λ f. field_name f.name) (map field_view fields.now)) }
 {
     let mut all = Vec::new(alloc);
     for field in fields {
@@ -365,15 +367,15 @@ fn field_names(alloc: Global, fields: &[Field]) -> Result<Vec<String>, NoMemory>
 }
 
 /// The name of a field; without one it is empty.
-pub fn field_name(alloc: Global, field: &Field) -> Result<String, NoMemory>
-    ensures { IfOk result (λ s. string_bytes s ≡ field_name (field_view field.now).name) }
+pub fn field_name(alloc: Global, field: &Field) -> Result<Name, NoMemory>
+    ensures { IfOk result (λ s. rc_str_bytes s ≡ field_name (field_view field.now).name) }
 {
     match &field.name {
         Some(name) => {
             let copy = name.clone()?;
             Ok(copy)
         }
-        None => Ok(String::new(alloc)),
+        None => Ok(Name::from_str(alloc, "")?),
     }
 }
 
@@ -392,10 +394,10 @@ pub(crate) fn is_bad_use(names: &Names, items: &[Item], kind: &ItemKind) -> bool
 }
 
 // Whether one of the names that may be listed is no variant of the enum.
-fn lists_another(names: &Names, items: &[Item], owner: Owner, listed: &Option<Vec<String>>) -> bool
+fn lists_another(names: &Names, items: &[Item], owner: Owner, listed: &Option<Vec<Name>>) -> bool
     requires { AreNames (map item_view items.now) names.now }
     ensures { result ≡ some_unlisted (map item_view items.now) (Some (owner_view owner)) (option_map
-        (λ l. map string_bytes l.items) listed.now) }
+        (λ l. map rc_str_bytes l.items) listed.now) }
 {
     match listed {
         Some(listed) => some_is_another(names, items, owner, listed),
@@ -404,10 +406,10 @@ fn lists_another(names: &Names, items: &[Item], owner: Owner, listed: &Option<Ve
 }
 
 // Whether one of the names is no variant of the enum.
-fn some_is_another(names: &Names, items: &[Item], owner: Owner, listed: &[String]) -> bool
+fn some_is_another(names: &Names, items: &[Item], owner: Owner, listed: &[Name]) -> bool
     requires { AreNames (map item_view items.now) names.now }
     ensures { result ≡ list_any (λ n. is_none (variant_number (map item_view items.now) (owner_view owner) n))
-        (map string_bytes listed.now) }
+        (map rc_str_bytes listed.now) }
 {
     for name in listed {
         if is_another(names, items, owner, name) {

@@ -1,12 +1,13 @@
 //! The enums and structs of a file by name, and the variants of each enum by name.
 ghost use Rattle.std.specs.Prelude.{◌≡◌, ℕ, map, OnOk, IfOk, option_map};
-ghost use Rattle.indexmap.specs.IndexMap.{get_by_text};
+ghost use Rattle.type_names.specs.NameMaps.{get_by_name};
 ghost use Rattle.decl_syntax.specs.Items.{item_view, kind_view, variant_view, file_view};
 ghost use Rattle.type_names.specs.Meanings.{declared_name, declared_at};
 ghost use Rattle.type_names.specs.Imports.{kind_variants};
 ghost use Rattle.type_names.specs.Views.{meaning_view, means_in, text_of, with_place, variant_at, places_of, AreNames};
 
 use crate::meanings::{Meaning, built_in};
+use decl_lexer::Name;
 use decl_syntax::{File, Item, ItemKind, Variant};
 use indexmap::IndexMap;
 use no_memory::NoMemory;
@@ -17,8 +18,8 @@ use std::alloc::Global;
 /// an enum stands behind a box.
 #[derive(Debug, Drop)]
 pub struct Names {
-    pub(crate) declared: IndexMap<String, usize>,
-    pub(crate) variants: Vec<Option<Box<IndexMap<String, usize>>>>,
+    pub(crate) declared: IndexMap<Name, usize>,
+    pub(crate) variants: Vec<Option<Box<IndexMap<Name, usize>>>>,
 }
 
 impl Names {
@@ -43,8 +44,8 @@ impl Names {
 }
 
 // The enums and structs by name.
-fn declared_places(alloc: Global, items: &[Item]) -> Result<IndexMap<String, usize>, NoMemory>
-    ensures { IfOk result (λ places. get_by_text places ≡ declared_at (map item_view items.now)) }
+fn declared_places(alloc: Global, items: &[Item]) -> Result<IndexMap<Name, usize>, NoMemory>
+    ensures { IfOk result (λ places. get_by_name places ≡ declared_at (map item_view items.now)) }
 {
     let mut places = IndexMap::new(alloc);
     for (i, item) in items.iter().enumerate() {
@@ -54,7 +55,7 @@ fn declared_places(alloc: Global, items: &[Item]) -> Result<IndexMap<String, usi
 }
 
 // The name that an item declares as a type.
-fn declared_name(kind: &ItemKind) -> Option<&String>
+fn declared_name(kind: &ItemKind) -> Option<&Name>
     ensures { text_of result ≡ declared_name (kind_view kind.now) }
 {
     match kind {
@@ -66,13 +67,9 @@ fn declared_name(kind: &ItemKind) -> Option<&String>
 }
 
 // Notes that a name stands at a place, unless it stands at an earlier one.
-fn note(
-    places: &mut IndexMap<String, usize>,
-    name: Option<&String>,
-    at: usize,
-) -> Result<(), NoMemory>
-    ensures { OnOk result (get_by_text places.new
-        ≡ with_place (get_by_text places.old) (text_of name.entry) at) }
+fn note(places: &mut IndexMap<Name, usize>, name: Option<&Name>, at: usize) -> Result<(), NoMemory>
+    ensures { OnOk result (get_by_name places.new
+        ≡ with_place (get_by_name places.old) (text_of name.entry) at) }
 {
     let Some(text) = name else {
         return Ok(());
@@ -89,7 +86,7 @@ fn note(
 fn all_variant_places(
     alloc: Global,
     items: &[Item],
-) -> Result<Vec<Option<Box<IndexMap<String, usize>>>>, NoMemory>
+) -> Result<Vec<Option<Box<IndexMap<Name, usize>>>>, NoMemory>
     ensures { IfOk result (λ all. map places_of all.items
         ≡ map (λ i. variant_at (kind_variants i.kind)) (map item_view items.now)) }
 {
@@ -105,7 +102,7 @@ fn all_variant_places(
 fn item_variant_places(
     alloc: Global,
     kind: &ItemKind,
-) -> Result<Option<Box<IndexMap<String, usize>>>, NoMemory>
+) -> Result<Option<Box<IndexMap<Name, usize>>>, NoMemory>
     ensures { IfOk result (λ places. places_of places ≡ variant_at (kind_variants (kind_view kind.now))) }
 {
     match kind {
@@ -120,16 +117,16 @@ fn item_variant_places(
 // The map behind a box.
 fn boxed(
     alloc: Global,
-    places: IndexMap<String, usize>,
-) -> Result<Option<Box<IndexMap<String, usize>>>, NoMemory>
-    ensures { IfOk result (λ all. places_of all ≡ get_by_text places) }
+    places: IndexMap<Name, usize>,
+) -> Result<Option<Box<IndexMap<Name, usize>>>, NoMemory>
+    ensures { IfOk result (λ all. places_of all ≡ get_by_name places) }
 {
     Ok(Some(Box::new(alloc, places)?))
 }
 
 // The variants by name.
-fn variant_places(alloc: Global, variants: &[Variant]) -> Result<IndexMap<String, usize>, NoMemory>
-    ensures { IfOk result (λ places. get_by_text places ≡ variant_at (map variant_view variants.now)) }
+fn variant_places(alloc: Global, variants: &[Variant]) -> Result<IndexMap<Name, usize>, NoMemory>
+    ensures { IfOk result (λ places. get_by_name places ≡ variant_at (map variant_view variants.now)) }
 {
     let mut places = IndexMap::new(alloc);
     for (i, variant) in variants.iter().enumerate() {

@@ -1,6 +1,7 @@
 -- Entries whose types are numbers of nodes that grow.
 use Rattle.std.proofs.Common.{◌≡◌, ℕ, ◌+◌, ◌<◌, ◌≤◌, Bool, true, false, ◌&&◌, List, [], ◌∷◌, ◌++◌, map, length, Some, None, refl, sym, ap, ◌∙◌, suc, arith, length-append, take, get_or}
-use Rattle.std.specs.Prelude.{slice_get, nat_lt, string_bytes}
+use Rattle.std.specs.Rc.{rc_str_bytes}
+use Rattle.std.specs.Prelude.{slice_get, nat_lt}
 use Rattle.std.specs.List.{list_all, enumerate_from}
 use Rattle.std.proofs.lemmas.List.{map-append}
 use Rattle.std.proofs.lemmas.Bool.{ltb-true, and_parts}
@@ -62,7 +63,7 @@ type_same old new i more h = ap type_there (types_stay old new i more (ltb-true 
 
 module _ (old new : List Node) (more : Extends old new) where
   pub field_same : (f : FieldEntry) → field_below (length old) f ≡ true → field_entry (types_in new) f ≡ field_entry (types_in old) f
-  field_same f h = ap (λ (t : MType). field (string_bytes f.name) t) (type_same old new f.ty more h)
+  field_same f h = ap (λ (t : MType). field (rc_str_bytes f.name) t) (type_same old new f.ty more h)
     where
       field : List ℕ → MType → MField
       field name t = record { name = name; type = t }
@@ -71,7 +72,7 @@ module _ (old new : List Node) (more : Extends old new) where
   field_still f h = below_longer f.ty (length old) (length new) (longer old new more) h
 
   pub variant_same : (v : VariantEntry) → variant_below (length old) v ≡ true → variant_entry (types_in new) v ≡ variant_entry (types_in old) v
-  variant_same v h = ap (λ (fs : List MField). variant (string_bytes v.name) (form_with v.form fs)) (map_same (field_below (length old)) (field_entry (types_in new)) (field_entry (types_in old)) field_same v.fields.items h)
+  variant_same v h = ap (λ (fs : List MField). variant (rc_str_bytes v.name) (form_with v.form fs)) (map_same (field_below (length old)) (field_entry (types_in new)) (field_entry (types_in old)) field_same v.fields.items h)
     where
       variant : List ℕ → MForm → MVariant
       variant name form = record { name = name; form = form }
@@ -136,7 +137,7 @@ pub map_front_more : {A B C : Type 0} (g : B → C) (f : A → B) (xs : List A) 
 map_front_more g f xs i x lt is = ap (map g) (front_more f xs i x lt is) ∙ map-append g (map f (take i xs)) (f x ∷ [])
 
 -- a variant by its parts
-pub variant_told : (types : List MType) (v : VariantEntry) (name : List ℕ) (names : Means) (form : FormTree) → string_bytes v.name ≡ name → v.form ≡ form_kind form →
+pub variant_told : (types : List MType) (v : VariantEntry) (name : List ℕ) (names : Means) (form : FormTree) → rc_str_bytes v.name ≡ name → v.form ≡ form_kind form →
     map (field_entry types) v.fields.items ≡ form_fields names form → variant_entry types v ≡ variant_named name (form_of names form)
 variant_told types v name names form e f g = rw (e, f, g, form_is names form) refl
 

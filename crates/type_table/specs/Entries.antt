@@ -1,5 +1,6 @@
 -- What the entries of a table say of the items of a file.
-use Rattle.std.specs.Prelude.{ℕ, Bool, true, ◌&&◌, List, [], map, nat_lt, is_some, Option, Some, None, string_bytes}
+use Rattle.std.specs.Prelude.{ℕ, Bool, true, ◌&&◌, List, [], map, nat_lt, is_some, Option, Some, None}
+use Rattle.std.specs.Rc.{rc_str_bytes}
 use Rattle.std.specs.List.{list_all, enumerate_from}
 use Rattle.match_model.specs.Types.{MType, DeclaredItem, NamedType, no_types}
 use Rattle.match_model.specs.Declarations.{MField, MForm, UnitForm, TupleForm, BraceForm, MVariant, MItem, StructItem, EnumItem, OtherItem}
@@ -17,7 +18,7 @@ use Rattle.type_table.specs.Nodes.{type_at}
 
 -- the field
 abbrev pub field_entry : List MType → declared_field.FieldEntry → MField
-field_entry types f = record { name = string_bytes f.name; type = type_at types f.ty }
+field_entry types f = record { name = rc_str_bytes f.name; type = type_at types f.ty }
 
 -- the form with these fields
 abbrev pub form_with : FormKind → List MField → MForm
@@ -27,7 +28,7 @@ form_with kinds.Brace fields = BraceForm fields
 
 -- the variant
 abbrev pub variant_entry : List MType → declared_variant.VariantEntry → MVariant
-variant_entry types v = record { name = string_bytes v.name; form = form_with v.form (map (field_entry types) v.fields.items) }
+variant_entry types v = record { name = rc_str_bytes v.name; form = form_with v.form (map (field_entry types) v.fields.items) }
 
 -- what an item says: what it declares, its own type, and for a function the type of the parameter and whether it writes `match *x`
 pub record Told : Type 0 where
@@ -39,7 +40,7 @@ pub record Told : Type 0 where
 abbrev pub entry_told : List MType → Entry → Told
 entry_told types (entries.Struct id variant) = record { item = StructItem (variant_entry types variant); own = Some (type_at types id); parameter = None }
 entry_told types (entries.Enum id name later variants) =
-    record { item = EnumItem (string_bytes name) later (map (variant_entry types) variants.items); own = Some (type_at types id); parameter = None }
+    record { item = EnumItem (rc_str_bytes name) later (map (variant_entry types) variants.items); own = Some (type_at types id); parameter = None }
 entry_told types (entries.Function param deref) = record { item = OtherItem; own = None; parameter = Some (type_at types param, deref) }
 entry_told types entries.Import = record { item = OtherItem; own = None; parameter = None }
 

@@ -1,5 +1,6 @@
 //! What the items of a file declare, with their types as the numbers of nodes.
-ghost use Rattle.std.specs.Prelude.{◌≡◌, true, map, length, string_bytes, IfOk, OnOk};
+ghost use Rattle.std.specs.Prelude.{◌≡◌, true, map, length, IfOk, OnOk};
+ghost use Rattle.std.specs.Rc.{rc_str_bytes};
 ghost use Rattle.std.specs.List.{list_all, enumerate_from};
 ghost use Rattle.decl_syntax.specs.Items.{field_view, form_view, variant_view, kind_view, item_view};
 ghost use Rattle.type_names.specs.Written.{field_of, form_of, variant_of};
@@ -11,6 +12,7 @@ ghost use Rattle.type_table.specs.Entries.{form_fields, item_told, items_told, f
 
 use crate::nodes::{Head, Node};
 use crate::written::{leaf, type_id};
+use decl_lexer::Name;
 use decl_syntax::{Field, Form, Item, ItemKind, Variant};
 use indexmap::IndexSet;
 use no_memory::NoMemory;
@@ -20,14 +22,14 @@ use type_names::{FormKind, Names, Owner, field_name, form_kind, is_marked};
 /// A field: its name, which is empty in a tuple form, and the number of its type.
 #[derive(Debug, Drop)]
 pub(crate) struct FieldEntry {
-    pub(crate) name: String,
+    pub(crate) name: Name,
     pub(crate) ty: usize,
 }
 
 /// A variant of an enum, or the one of a struct.
 #[derive(Debug, Drop)]
 pub(crate) struct VariantEntry {
-    pub(crate) name: String,
+    pub(crate) name: Name,
     pub(crate) form: FormKind,
     pub(crate) fields: Vec<FieldEntry>,
 }
@@ -42,7 +44,7 @@ pub(crate) enum Entry {
     },
     Enum {
         id: usize,
-        name: String,
+        name: Name,
         later: bool,
         variants: Vec<VariantEntry>,
     },
@@ -147,7 +149,7 @@ fn variant_entry(
     alloc: Global,
     names: &Names,
     nodes: &mut IndexSet<Node>,
-    name: &String,
+    name: &Name,
     form: &Form,
 ) -> Result<VariantEntry, NoMemory>
     requires { AreNodes nodes.old.keys }
@@ -156,7 +158,7 @@ fn variant_entry(
     ensures declared { OnOk result (KeepsNamed names.now nodes.old.keys nodes.new.keys) }
     ensures below { IfOk result (λ v. variant_below (length nodes.new.keys) v ≡ true) }
     ensures variant { IfOk result (λ v. variant_entry (types_in nodes.new.keys) v
-        ≡ variant_named (string_bytes name.now) (form_of (means_in names.now) (form_view form.now))) }
+        ≡ variant_named (rc_str_bytes name.now) (form_of (means_in names.now) (form_view form.now))) }
 {
     let fields = form_entries(alloc, names, nodes, form)?;
     let name = name.clone()?;

@@ -1,5 +1,6 @@
 // A call with ample memory; the tests of `match_top` come to the others.
 use crate::name_value;
+use decl_lexer::Name;
 use decl_syntax::{File, FnItem, Item, ItemKind, Ty};
 use match_model::Width;
 use no_memory::NoMemory;
@@ -11,7 +12,7 @@ use value_syntax::WrittenValue;
 
 fn named(alloc: Global, name: &str) -> Result<Ty, NoMemory> {
     Ok(Ty::Named {
-        name: String::from_str(alloc, name)?,
+        name: Name::from_str(alloc, name)?,
         args: Vec::new(alloc),
     })
 }
@@ -29,7 +30,7 @@ fn source(alloc: Global) -> Result<File, NoMemory> {
         from: 0,
         attrs: Vec::new(alloc),
         kind: ItemKind::Function(FnItem {
-            name: String::from_str(alloc, "f")?,
+            name: Name::from_str(alloc, "f")?,
             param: Ty::Tuple(parts),
             deref: None,
             arms: Vec::new(alloc),

@@ -1,4 +1,5 @@
-use Rattle.std.proofs.Common.{◌≡◌, List, map, string_bytes, length}
+use Rattle.std.proofs.Common.{◌≡◌, List, map, length}
+use Rattle.std.specs.Rc.{rc_str_bytes}
 use Rattle.decl_lexer.specs.declared.marks.Mark.TheVariants as marks
 use Rattle.decl_syntax.specs.Units.{left, token_at}
 use Rattle.decl_syntax.specs.Reading.{parts_at}
@@ -10,7 +11,7 @@ use Rattle.decl_syntax.proofs.ends.path_at.Given as goal
 
 abbrev pub invariant-parts : goal.invariant-parts
 invariant-parts l =
-    (front : List Segment) × (names_of front ≡ map string_bytes l.names.items) × (all_names front ≡ l.plain)
+    (front : List Segment) × (names_of front ≡ map rc_str_bytes l.names.items) × (all_names front ≡ l.plain)
     × (with_front front (parts_at marks.PathSeparator (token_at segment_of) (left l.rest)) ≡ segments_at (left l.at))
 
 abbrev pub decreases-parts : goal.decreases-parts

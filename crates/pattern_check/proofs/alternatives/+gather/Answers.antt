@@ -1,4 +1,5 @@
-use Rattle.std.proofs.Common.{◌≡◌, ℕ, suc, ◌+◌, ◌-◌, ◌<◌, ◌≤◌, Bool, true, false, if◌then◌else◌, List, [], ◌∷◌, ◌++◌, ◌||◌, ◌^◌, take, drop, get_or, length, string_bytes, option_map, Option, None, refl, sym, ap, subst, ◌∙◌, arith}
+use Rattle.std.proofs.Common.{◌≡◌, ℕ, suc, ◌+◌, ◌-◌, ◌<◌, ◌≤◌, Bool, true, false, if◌then◌else◌, List, [], ◌∷◌, ◌++◌, ◌||◌, ◌^◌, take, drop, get_or, length, option_map, Option, None, refl, sym, ap, subst, ◌∙◌, arith}
+use Rattle.std.specs.Rc.{rc_str_bytes}
 use Rattle.std.proofs.lemmas.List.{length-drop, take_all}
 use Rattle.match_model.specs.Types.{MType}
 use Rattle.match_model.specs.RustTypes.{inner_type}
@@ -128,7 +129,7 @@ gather_within-returns-in-Path t c =
 pub gather_within-returns-in-None : goal.gather_within-returns-in-None
 gather_within-returns-in-None t c =
     let shape = ap shape_view c.in-Bind.is ∙ (shape_bind c.in-Bind.name c.in-Bind.by_ref c.in-Bind.mutable c.in-Bind.sub
-    ∙ ap (λ o. bind_shape (string_bytes c.in-Bind.name) c.in-Bind.by_ref c.in-Bind.mutable (option_map (λ b. pattern_view b.value) o)) c.in-None.is) in
+    ∙ ap (λ o. bind_shape (rc_str_bytes c.in-Bind.name) c.in-Bind.by_ref c.in-Bind.mutable (option_map (λ b. pattern_view b.value) o)) c.in-None.is) in
     let table = c.args.table.now in
     let old = bounds_view table c.args.bounds.now.keys in
     let pl = place (table_type table c.args.here.ty) c.args.here.mode in
@@ -140,12 +141,12 @@ gather_within-returns-in-None t c =
 pub gather_within-returns-in-Some : goal.gather_within-returns-in-Some
 gather_within-returns-in-Some t c =
     let shape = ap shape_view c.in-Bind.is ∙ (shape_bind c.in-Bind.name c.in-Bind.by_ref c.in-Bind.mutable c.in-Bind.sub
-    ∙ ap (λ o. bind_shape (string_bytes c.in-Bind.name) c.in-Bind.by_ref c.in-Bind.mutable (option_map (λ b. pattern_view b.value) o)) c.in-Some.is) in
+    ∙ ap (λ o. bind_shape (rc_str_bytes c.in-Bind.name) c.in-Bind.by_ref c.in-Bind.mutable (option_map (λ b. pattern_view b.value) o)) c.in-Some.is) in
     let table = c.args.table.now in
     let old = bounds_view table c.args.bounds.now.keys in
     let new = bounds_view table c.gather.new.bounds.keys in
     let pl = place (table_type table c.args.here.ty) c.args.here.mode in
-    let name = string_bytes c.in-Bind.name in
+    let name = rc_str_bytes c.in-Bind.name in
     record {
       held = c.gather.ensures.held;
       told = if_ok c.gather.result _ _
@@ -403,7 +404,7 @@ gather_fields-loop-field-preserved t c =
           let here = nodes s st b (place (types (field_number names (patterns.field_view f).name)) m) q in
           let after = field_nodes s (before ++ names_of_fields s (fields_from (fields_of (take (i + 1) fields)))) types m names (fields_from (fields_of (drop (i + 1) fields))) in
           let type : table_type table c.field_type.result ≡ types (field_number names (patterns.field_view f).name)
-          = c.field_type.ensures.is plain ∙ ap (λ (n : List ℕ). types (field_number names n)) (c.deref.ensures ∙ sym (field_name_is f)) in
+          = c.field_type.ensures.is plain ∙ ap (λ (n : List ℕ). types (field_number names n)) (c.deref.ensures.value ∙ sym (field_name_is f)) in
           let told : first_in node_rules s here ≡ None → Told s cur new c.in_ok-next.next here
           = subst (λ (v : MType). first_in node_rules s (nodes s st b (place v m) q) ≡ None → Told s cur new c.in_ok-next.next (nodes s st b (place v m) q)) type (c.in_ok-next.ensures.told st s b is) in
           subst (λ (o : Option NodeFault). Sofar s old new o (field_nodes s before types m names (fields_from (fields_of fields))) after) (sym c.earlier-found.ensures)

@@ -108,7 +108,7 @@ returns-in-Or c =
 pub returns-in-Name : goal.returns-in-Name
 returns-in-Name c =
     let n = c.deref.result.now in
-    let shape = ap shape_view c.in-Name.is ∙ (shape_name c.in-Name.name ∙ ap (λ (m : List ℕ). Name m) (sym c.deref.ensures)) in
+    let shape = ap shape_view c.in-Name.is ∙ (shape_name c.in-Name.name ∙ ap (λ (m : List ℕ). Name m) (sym c.deref.ensures.value)) in
     record {
       twice = if_ok c.bind_bare.result _ _
           (λ b h s at standing p before is holds.
@@ -122,7 +122,7 @@ returns-in-Bind c =
     let n = c.deref-in-Bind.result.now in
     let sub = option_map (λ b. pattern_view b.value) c.in-Bind.sub in
     let shape = ap shape_view c.in-Bind.is ∙ (shape_bind c.in-Bind.name c.in-Bind.by_ref c.in-Bind.mutable c.in-Bind.sub
-    ∙ ap (λ (m : List ℕ). bind_shape m c.in-Bind.by_ref c.in-Bind.mutable sub) (sym c.deref-in-Bind.ensures)) in
+    ∙ ap (λ (m : List ℕ). bind_shape m c.in-Bind.by_ref c.in-Bind.mutable sub) (sym c.deref-in-Bind.ensures.value)) in
     record {
       twice = if_ok c.bind.result _ _
           (λ b h s at standing p before is holds. rw shape (h ∙ (holds n ∙ written_twice n c.in-Bind.by_ref c.in-Bind.mutable sub s at standing p before)))

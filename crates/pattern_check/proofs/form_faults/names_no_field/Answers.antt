@@ -1,4 +1,5 @@
-use Rattle.std.proofs.Common.{◌≡◌, ℕ, not, ◌+◌, Option, List, ap, sym, ◌∙◌, ◌||◌, Bool, string_bytes, drop, arith}
+use Rattle.std.proofs.Common.{◌≡◌, ℕ, not, ◌+◌, Option, List, ap, sym, ◌∙◌, ◌||◌, Bool, drop, arith}
+use Rattle.std.specs.Rc.{rc_str_bytes}
 use Rattle.std.specs.Prelude.{position, is_none}
 use Rattle.std.specs.Str.{bytes_eq}
 use Rattle.decl_syntax.specs.declared.tree.FieldPat.{FieldPat}
@@ -12,10 +13,10 @@ use Rattle.pattern_check.proofs.form_faults.names_no_field.Goals as goal
 pub loop-field-preserved : goal.loop-field-preserved
 loop-field-preserved c =
     let names = field_names (type_variant (table_program c.args.table.now) (table_type c.args.table.now c.args.ty) c.args.variant) in
-    let n = string_bytes c.field-item.result.name in
+    let n = rc_str_bytes c.field-item.result.name in
     let later = some_absent (names_of (drop (c.loop-field.field-index + 1) c.args.fields.now)) names in
     let here : not (is_among n names) ≡ c.is_none.result
-    = sym (absent_is n names) ∙ (ap (λ (o : Option ℕ). is_none o) (ap (λ (q : List ℕ). position (λ m. bytes_eq q m) names) (sym c.deref.ensures) ∙ sym c.field_named.ensures) ∙ (ap not c.is_none.ensures ∙ not_not c.is_none.result)) in
+    = sym (absent_is n names) ∙ (ap (λ (o : Option ℕ). is_none o) (ap (λ (q : List ℕ). position (λ m. bytes_eq q m) names) (sym c.deref.ensures.value) ∙ sym c.field_named.ensures) ∙ (ap not c.is_none.ensures ∙ not_not c.is_none.result)) in
     sym (absent_from names c.args.fields.now c.loop-field.field-index c.field-item.result (omega arith) c.field-item.is
     ∙ ap (λ (b : Bool). b || later) (here ∙ c.if-is_none.false))
     ∙ c.loop-field.invariant
@@ -23,10 +24,10 @@ loop-field-preserved c =
 pub returns-then-is_none : goal.returns-then-is_none
 returns-then-is_none c =
     let names = field_names (type_variant (table_program c.args.table.now) (table_type c.args.table.now c.args.ty) c.args.variant) in
-    let n = string_bytes c.field-item.result.name in
+    let n = rc_str_bytes c.field-item.result.name in
     let later = some_absent (names_of (drop (c.loop-field.field-index + 1) c.args.fields.now)) names in
     let here : not (is_among n names) ≡ c.is_none.result
-    = sym (absent_is n names) ∙ (ap (λ (o : Option ℕ). is_none o) (ap (λ (q : List ℕ). position (λ m. bytes_eq q m) names) (sym c.deref.ensures) ∙ sym c.field_named.ensures) ∙ (ap not c.is_none.ensures ∙ not_not c.is_none.result)) in
+    = sym (absent_is n names) ∙ (ap (λ (o : Option ℕ). is_none o) (ap (λ (q : List ℕ). position (λ m. bytes_eq q m) names) (sym c.deref.ensures.value) ∙ sym c.field_named.ensures) ∙ (ap not c.is_none.ensures ∙ not_not c.is_none.result)) in
     sym (absent_from names c.args.fields.now c.loop-field.field-index c.field-item.result (omega arith) c.field-item.is
     ∙ ap (λ (b : Bool). b || later) (here ∙ c.if-is_none.true))
     ∙ c.loop-field.invariant

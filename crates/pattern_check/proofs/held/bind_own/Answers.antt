@@ -121,7 +121,7 @@ returns-in-Or c =
 
 pub returns-in-Name : goal.returns-in-Name
 returns-in-Name c =
-    let shape = ap shape_view c.in-Name.is ∙ (shape_name c.in-Name.name ∙ ap (λ (m : List ℕ). Name m) (sym c.deref.ensures)) in
+    let shape = ap shape_view c.in-Name.is ∙ (shape_name c.in-Name.name ∙ ap (λ (m : List ℕ). Name m) (sym c.deref.ensures.value)) in
     record {
       held = c.bind_bare.ensures.held;
       binds = if_ok c.bind_bare.result _ _ (λ r h s at st before is. rw shape (h s is)) c.bind_bare.ensures.binds;
@@ -136,7 +136,7 @@ returns-in-Bind c =
     let m = c.args.here.mode in
     let sub = option_map (λ b. pattern_view b.value) c.in-Bind.sub in
     let shape = ap shape_view c.in-Bind.is ∙ (shape_bind c.in-Bind.name by_ref mutable c.in-Bind.sub
-    ∙ ap (λ (k : List ℕ). bind_shape k by_ref mutable sub) (sym c.deref-in-Bind.ensures)) in
+    ∙ ap (λ (k : List ℕ). bind_shape k by_ref mutable sub) (sym c.deref-in-Bind.ensures.value)) in
     let old = bounds_view table c.args.bounds.now.keys in
     let new = bounds_view table c.bind.new.bounds.keys in
     let t = shortened (table_type table c.args.here.ty) c.args.taken in

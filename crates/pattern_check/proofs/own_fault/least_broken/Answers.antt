@@ -62,7 +62,7 @@ pub returns-in-Name : goal.returns-in-Name
 returns-in-Name c =
     let st = standing_view c.args.standing in
     let t = table_type c.args.table.now c.args.place.ty in
-    let shape = ap shape_view c.in-Name.is ∙ (shape_name c.in-Name.name ∙ ap (λ (n : List ℕ). Name n) (sym c.deref-in-Name.ensures)) in
+    let shape = ap shape_view c.in-Name.is ∙ (shape_name c.in-Name.name ∙ ap (λ (n : List ℕ). Name n) (sym c.deref-in-Name.ensures.value)) in
     subst (λ (sh : Shape). OwnFaultIs c.args.table.now c.args.edition sh st t c.args.place.mode c.args.twice c.name_fault.result) (sym shape)
     (c.name_fault.ensures c.args.edition c.args.place.mode)
 
@@ -70,7 +70,7 @@ pub returns-in-Bind : goal.returns-in-Bind
 returns-in-Bind c =
     let st = standing_view c.args.standing in
     let t = table_type c.args.table.now c.args.place.ty in
-    let shape = ap shape_view c.in-Bind.is ∙ (shape_bind c.in-Bind.name c.in-Bind.by_ref c.in-Bind.mutable c.in-Bind.sub ∙ ap (λ (n : List ℕ). bind_shape n c.in-Bind.by_ref c.in-Bind.mutable (option_map (λ b. pattern_view b.value) c.in-Bind.sub)) (sym c.deref-in-Bind.ensures)) in
+    let shape = ap shape_view c.in-Bind.is ∙ (shape_bind c.in-Bind.name c.in-Bind.by_ref c.in-Bind.mutable c.in-Bind.sub ∙ ap (λ (n : List ℕ). bind_shape n c.in-Bind.by_ref c.in-Bind.mutable (option_map (λ b. pattern_view b.value) c.in-Bind.sub)) (sym c.deref-in-Bind.ensures.value)) in
     subst (λ (sh : Shape). OwnFaultIs c.args.table.now c.args.edition sh st t c.args.place.mode c.args.twice c.binding_fault.result) (sym shape)
     (c.binding_fault.ensures c.in-Bind.by_ref c.in-Bind.mutable (option_map (λ b. pattern_view b.value) c.in-Bind.sub) t c.is_written.ensures)
 

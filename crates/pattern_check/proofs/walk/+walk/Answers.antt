@@ -1,4 +1,5 @@
-use Rattle.std.proofs.Common.{◌≡◌, ℕ, suc, ◌+◌, ◌-◌, ◌<◌, ◌≤◌, true, false, if◌then◌else◌, List, [], ◌++◌, ◌^◌, map, take, drop, get_or, length, string_bytes, option_map, Some, None, Bor, refl, sym, ap, subst, ◌∙◌, arith}
+use Rattle.std.proofs.Common.{◌≡◌, ℕ, suc, ◌+◌, ◌-◌, ◌<◌, ◌≤◌, true, false, if◌then◌else◌, List, [], ◌++◌, ◌^◌, map, take, drop, get_or, length, option_map, Some, None, Bor, refl, sym, ap, subst, ◌∙◌, arith}
+use Rattle.std.specs.Rc.{rc_str_bytes}
 use Rattle.std.specs.Prelude.{is_some}
 use Rattle.match_model.specs.Types.{MType}
 use Rattle.match_model.specs.RustTypes.{inner_type}
@@ -137,7 +138,7 @@ walk_within-returns-in-Path t c =
 pub walk_within-returns-in-None : goal.walk_within-returns-in-None
 walk_within-returns-in-None t c =
     let shape = ap shape_view c.in-Bind.is ∙ (shape_bind c.in-Bind.name c.in-Bind.by_ref c.in-Bind.mutable c.in-Bind.sub
-    ∙ ap (λ o. bind_shape (string_bytes c.in-Bind.name) c.in-Bind.by_ref c.in-Bind.mutable (option_map (λ b. pattern_view b.value) o)) c.in-None.is) in
+    ∙ ap (λ o. bind_shape (rc_str_bytes c.in-Bind.name) c.in-Bind.by_ref c.in-Bind.mutable (option_map (λ b. pattern_view b.value) o)) c.in-None.is) in
     let old = map text_at c.args.names.now.keys in
     record {
       fault = λ s before is ed holds fine. rw shape refl;
@@ -147,7 +148,7 @@ walk_within-returns-in-None t c =
 pub walk_within-returns-in-Some : goal.walk_within-returns-in-Some
 walk_within-returns-in-Some t c =
     let shape = ap shape_view c.in-Bind.is ∙ (shape_bind c.in-Bind.name c.in-Bind.by_ref c.in-Bind.mutable c.in-Bind.sub
-    ∙ ap (λ o. bind_shape (string_bytes c.in-Bind.name) c.in-Bind.by_ref c.in-Bind.mutable (option_map (λ b. pattern_view b.value) o)) c.in-Some.is) in
+    ∙ ap (λ o. bind_shape (rc_str_bytes c.in-Bind.name) c.in-Bind.by_ref c.in-Bind.mutable (option_map (λ b. pattern_view b.value) o)) c.in-Some.is) in
     let ty = table_type c.args.table.now c.args.here.ty in
     let m = c.args.here.mode in
     let old = map text_at c.args.names.now.keys in
@@ -464,7 +465,7 @@ walk_fields-loop-field-preserved t c =
           let told = c.in_ok-fault.ensures.fault s b is ed (holds_adds old cur (names_of_fields s (fields_from (fields_of (take i fields)))) before holds (c.loop-field.invariant.names s is))
           ∙ (ap (λ (st : Standing). first_in node_rules s (nodes s st b (place (table_type c.args.table.now c.field_type.result) m) (pattern_view f.pat))) c.field_standing.ensures
           ∙ ap (λ (v : MType). first_in node_rules s (nodes s (field_standing f.short) b (place v m) (pattern_view f.pat)))
-          (c.field_type.ensures.is plain ∙ ap (λ (n : List ℕ). types (field_number names n)) (c.deref.ensures ∙ sym (field_name_is f)))) in
+          (c.field_type.ensures.is plain ∙ ap (λ (n : List ℕ). types (field_number names n)) (c.deref.ensures.value ∙ sym (field_name_is f)))) in
           c.loop-field.invariant.fault plain s before is ed holds
           ∙ fields_pass s before fields i f lt at types m names (sym none ∙ told);
     }
@@ -491,7 +492,7 @@ walk_fields-returns-then-is_some t c =
           let told = c.in_ok-fault.ensures.fault s b is ed (holds_adds old cur (names_of_fields s (fields_from (fields_of (take i fields)))) before holds (c.loop-field.invariant.names s is))
           ∙ (ap (λ (st : Standing). first_in node_rules s (nodes s st b (place (table_type c.args.table.now c.field_type.result) m) (pattern_view f.pat))) c.field_standing.ensures
           ∙ ap (λ (v : MType). first_in node_rules s (nodes s (field_standing f.short) b (place v m) (pattern_view f.pat)))
-          (c.field_type.ensures.is plain ∙ ap (λ (n : List ℕ). types (field_number names n)) (c.deref.ensures ∙ sym (field_name_is f)))) in
+          (c.field_type.ensures.is plain ∙ ap (λ (n : List ℕ). types (field_number names n)) (c.deref.ensures.value ∙ sym (field_name_is f)))) in
           fields_stop s before fields i f lt at types m names c.in_ok-fault.fault some told
           ∙ sym (c.loop-field.invariant.fault plain s before is ed holds);
       names = λ e. absurd (some_none c.in_ok-fault.fault some e);

@@ -1,4 +1,5 @@
-use Rattle.std.proofs.Common.{◌≡◌, ℕ, suc, ◌+◌, ◌-◌, ◌<◌, ◌≤◌, ◌^◌, true, false, if◌then◌else◌, List, [], ◌++◌, map, drop, get_or, length, string_bytes, option_map, IfOk, Result, sym, ap, subst, ◌∙◌, arith}
+use Rattle.std.proofs.Common.{◌≡◌, ℕ, suc, ◌+◌, ◌-◌, ◌<◌, ◌≤◌, ◌^◌, true, false, if◌then◌else◌, List, [], ◌++◌, map, drop, get_or, length, option_map, IfOk, Result, sym, ap, subst, ◌∙◌, arith}
+use Rattle.std.specs.Rc.{rc_str_bytes}
 use Rattle.std.proofs.lemmas.List.{append-nil}
 use Rattle.match_model.specs.declared.Mode.{Mode}
 use Rattle.match_model.specs.declared.Mode.TheVariants.{Move}
@@ -384,7 +385,7 @@ elaborate_fields-loop-field-preserved t c =
           (table_type c.args.table.now c.part.result) lt at
           (λ plain. c.field_number-number.ensures plain
           ∙ ap (λ (n : List ℕ). field_number (names_of_variant (type_variant (table_program c.args.table.now) u
-          c.args.variant)) n) c.deref.ensures)
+          c.args.variant)) n) c.deref.ensures.value)
           c.in_ok-put_field.ensures c.part.ensures.is c.in_ok-made.ensures.shown c.loop-field.invariant.shown;
     }
 
@@ -579,7 +580,7 @@ elaborate_kind-returns-in-Name t c = record {
   shown = as_shape c.args.table.now (table_type c.args.table.now c.args.here.ty) c.args.here.mode c.args.from
       c.bare_name.result (shape_view c.args.kind.now)
       (Name c.deref-in-Name.result.now)
-      (ap shape_view c.in-Name.is ∙ (shape_name c.in-Name.name ∙ ap Name (sym c.deref-in-Name.ensures)))
+      (ap shape_view c.in-Name.is ∙ (shape_name c.in-Name.name ∙ ap Name (sym c.deref-in-Name.ensures.value)))
       (c.bare_name.ensures.shown c.args.from);
   made = c.bare_name.ensures.made;
 }
@@ -590,10 +591,10 @@ elaborate_kind-returns-in-Some t c = record {
       c.elaborate_bound.result (shape_view c.args.kind.now)
       (BindAs c.deref-in-Some.result.now c.in-Bind.by_ref c.in-Bind.mutable (pattern_view c.deref-in-Some-2.result.now))
       (ap shape_view c.in-Bind.is ∙ (shape_bind c.in-Bind.name c.in-Bind.by_ref c.in-Bind.mutable c.in-Bind.sub
-      ∙ (ap (λ o. bind_shape (string_bytes c.in-Bind.name) c.in-Bind.by_ref c.in-Bind.mutable
+      ∙ (ap (λ o. bind_shape (rc_str_bytes c.in-Bind.name) c.in-Bind.by_ref c.in-Bind.mutable
       (option_map (λ b. pattern_view b.value) o)) c.in-Some.is
       ∙ (ap (λ (n : List ℕ). BindAs n c.in-Bind.by_ref c.in-Bind.mutable (pattern_view c.in-Some.sub.value))
-      (sym c.deref-in-Some.ensures)
+      (sym c.deref-in-Some.ensures.value)
       ∙ ap (λ (q : Pat). BindAs c.deref-in-Some.result.now c.in-Bind.by_ref c.in-Bind.mutable (pattern_view q))
       (sym c.deref-in-Some-2.ensures)))))
       (if_ok c.elaborate_bound.result _ _
@@ -611,9 +612,9 @@ elaborate_kind-returns-in-None t c = record {
       c.binding.result (shape_view c.args.kind.now)
       (Bind c.deref-in-None.result.now c.in-Bind.by_ref c.in-Bind.mutable)
       (ap shape_view c.in-Bind.is ∙ (shape_bind c.in-Bind.name c.in-Bind.by_ref c.in-Bind.mutable c.in-Bind.sub
-      ∙ (ap (λ o. bind_shape (string_bytes c.in-Bind.name) c.in-Bind.by_ref c.in-Bind.mutable
+      ∙ (ap (λ o. bind_shape (rc_str_bytes c.in-Bind.name) c.in-Bind.by_ref c.in-Bind.mutable
       (option_map (λ b. pattern_view b.value) o)) c.in-None.is
-      ∙ ap (λ (n : List ℕ). Bind n c.in-Bind.by_ref c.in-Bind.mutable) (sym c.deref-in-None.ensures))))
+      ∙ ap (λ (n : List ℕ). Bind n c.in-Bind.by_ref c.in-Bind.mutable) (sym c.deref-in-None.ensures.value))))
       (c.binding.ensures.shown c.args.from);
   made = c.binding.ensures.made;
 }

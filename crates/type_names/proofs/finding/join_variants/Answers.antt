@@ -1,4 +1,5 @@
-use Rattle.std.proofs.Common.{◌≡◌, ℕ, List, map, take, string_bytes, sym, ap, ◌∙◌, arith, rules, ◌++◌, ◌∷◌, []}
+use Rattle.std.proofs.Common.{◌≡◌, ℕ, List, map, take, sym, ap, ◌∙◌, arith, rules, ◌++◌, ◌∷◌, []}
+use Rattle.std.specs.Rc.{rc_str_bytes}
 use Rattle.std.proofs.lemmas.List.{map-append}
 use Rattle.decl_syntax.specs.Items.{variant_view, VariantTree}
 use Rattle.type_names.specs.Imports.{variant_number}
@@ -21,7 +22,7 @@ loop-variant-preserved c = λ items are q.
     let found = λ (m : List ℕ). numbered o (variant_number items o m) in
     let front = names_of (map variant_view (take c.loop-variant.variant-index c.args.variants.now)) in
     let n = c.deref.result.now in
-    let same : string_bytes c.variant-item.result.name ≡ n = search rules in
+    let same : rc_str_bytes c.variant-item.result.name ≡ n = search rules in
     let old = found_in c.args.targets.now q in
     let more = ap names_of (front_more variant_view c.args.variants.now c.loop-variant.variant-index c.variant-item.result c.loop-variant-test.true c.variant-item.is)
     ∙ map-append (λ v. v.name) (map variant_view (take c.loop-variant.variant-index c.args.variants.now)) (variant_view c.variant-item.result ∷ [])

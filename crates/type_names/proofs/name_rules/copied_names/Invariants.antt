@@ -1,5 +1,6 @@
-use Rattle.std.proofs.Common.{◌≡◌, map, take, string_bytes}
+use Rattle.std.proofs.Common.{◌≡◌, map, take}
+use Rattle.std.specs.Rc.{rc_str_bytes}
 use Rattle.type_names.proofs.name_rules.copied_names.Given as goal
 
 abbrev pub invariant-loop-name : goal.invariant-loop-name
-invariant-loop-name l = map string_bytes l.all.items ≡ map string_bytes (take l.name-index l.names)
+invariant-loop-name l = map rc_str_bytes l.all.items ≡ map rc_str_bytes (take l.name-index l.names)

@@ -1,8 +1,9 @@
-use Rattle.std.proofs.Common.{◌≡◌, ℕ, List, false, map, take, string_bytes}
-use Rattle.indexmap.specs.IndexSet.{contains_text}
+use Rattle.std.proofs.Common.{◌≡◌, ℕ, List, false, map, take}
+use Rattle.std.specs.Rc.{rc_str_bytes}
+use Rattle.type_names.specs.NameMaps.{contains_name}
 use Rattle.type_names.specs.NameRules.{some_among}
 use Rattle.type_names.specs.Views.{among}
 use Rattle.type_names.proofs.name_rules.some_taken.Given as goal
 
 abbrev pub invariant-loop-name : goal.invariant-loop-name
-invariant-loop-name l = (before : List (List ℕ)) → contains_text l.taken ≡ among before → some_among (map string_bytes (take l.name-index l.names)) before ≡ false
+invariant-loop-name l = (before : List (List ℕ)) → contains_name l.taken ≡ among before → some_among (map rc_str_bytes (take l.name-index l.names)) before ≡ false

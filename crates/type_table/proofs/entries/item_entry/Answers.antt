@@ -1,4 +1,5 @@
-use Rattle.std.proofs.Common.{◌≡◌, map, length, sym, ap, ◌∙◌, rules, string_bytes}
+use Rattle.std.proofs.Common.{◌≡◌, map, length, sym, ap, ◌∙◌, rules}
+use Rattle.std.specs.Rc.{rc_str_bytes}
 use Rattle.std.specs.Prelude.{nat_lt}
 use Rattle.std.specs.List.{list_all}
 use Rattle.match_model.specs.Types.{DeclaredItem, NamedType, no_types}
@@ -27,7 +28,7 @@ returns-in_ok-id-in-Enum-clause-told c =
     let names = means_in c.args.names.now in
     let marked : c.is_marked-later.result ≡ is_marked_by (map attr_view c.args.item.now.attrs.items) = search rules in
     let variants : map (variant_entry (types_in old)) c.in_ok-variants-in-Enum.variants.items ≡ map (variant_of names) (map variant_view c.in-Enum.e.variants.items) = search rules in
-    enum_equal (string_bytes c.in_ok-name-in-Enum.name) (string_bytes c.in-Enum.e.name) c.is_marked-later.result (is_marked_by (map attr_view c.args.item.now.attrs.items))
+    enum_equal (rc_str_bytes c.in_ok-name-in-Enum.name) (rc_str_bytes c.in-Enum.e.name) c.is_marked-later.result (is_marked_by (map attr_view c.args.item.now.attrs.items))
     (map (variant_entry (types_in new)) c.in_ok-variants-in-Enum.variants.items) (map (variant_of names) (map variant_view c.in-Enum.e.variants.items)) _ (NamedType (DeclaredItem c.args.i) no_types)
     (search rules) marked
     (map_same (variant_below (length old)) (variant_entry (types_in new)) (variant_entry (types_in old)) (variant_same old new c.in_ok-id-in-Enum.ensures.extends) c.in_ok-variants-in-Enum.variants.items c.in_ok-variants-in-Enum.ensures.below ∙ variants)
@@ -47,7 +48,7 @@ returns-in_ok-id-in-Struct-clause-told c =
     let old = c.variant_entry.new.nodes.keys in
     let new = c.leaf-in-Struct.new.nodes.keys in
     let names = means_in c.args.names.now in
-    struct_equal (variant_entry (types_in new) c.in_ok-variant-in-Struct.variant) (variant_named (string_bytes c.in-Struct.s.name) (form_of names (form_view c.in-Struct.s.form))) _ (NamedType (DeclaredItem c.args.i) no_types)
+    struct_equal (variant_entry (types_in new) c.in_ok-variant-in-Struct.variant) (variant_named (rc_str_bytes c.in-Struct.s.name) (form_of names (form_view c.in-Struct.s.form))) _ (NamedType (DeclaredItem c.args.i) no_types)
     (variant_same old new c.in_ok-id-in-Struct.ensures.extends c.in_ok-variant-in-Struct.variant c.in_ok-variant-in-Struct.ensures.below ∙ c.in_ok-variant-in-Struct.ensures.variant)
     (ap type_there c.in_ok-id-in-Struct.ensures.type_is)
     ∙ ap (λ (k : ItemKind). kind_told names c.args.i (is_marked_by (map attr_view c.args.item.now.attrs.items)) (kind_view k)) (sym c.in-Struct.is)

@@ -1,4 +1,5 @@
-use Rattle.std.proofs.Common.{◌≡◌, ◌+◌, List, true, map, take, Some, refl, sym, ap, ◌∙◌, rules, subst, string_bytes}
+use Rattle.std.proofs.Common.{◌≡◌, ◌+◌, List, true, map, take, Some, refl, sym, ap, ◌∙◌, rules, subst}
+use Rattle.std.specs.Rc.{rc_str_bytes}
 use Rattle.std.specs.Prelude.{option_map, slice_get, IfOk}
 use Rattle.match_model.specs.Types.{MType, MTypes, TupleType, types_list}
 use Rattle.match_model.specs.Types.{types_of as types_of_list}
@@ -48,7 +49,7 @@ pub type_id-returns-in_ok-ids-in-Named-clause-type_is : goal.type_id-returns-in_
 type_id-returns-in_ok-ids-in-Named-clause-type_is t c =
     let names = means_in c.args.names.now in
     let trees = map type_view c.deref-in-Named-2.result.now in
-    let name = string_bytes c.in-Named.name in
+    let name = rc_str_bytes c.in-Named.name in
     let X : MTypes = types_of names c.arguments_sized.result (types_from trees) in
     let shape : type_view c.args.ty.now ≡ written.Named name (types_from (map type_view c.in-Named.args.items)) = search (rules, the_lemmas) in
     let meant : option_map meaning_view c.meaning.result ≡ names name = search rules in
@@ -89,5 +90,5 @@ type_id-returns-in_ok-id-in-Array-clause-declared t c = ok_keeps c.array_id.resu
 
 pub type_id-returns-in_ok-ids-in-Named-clause-declared : goal.type_id-returns-in_ok-ids-in-Named-clause-declared
 type_id-returns-in_ok-ids-in-Named-clause-declared t c =
-    let meant : option_map meaning_view c.meaning.result ≡ means_in c.args.names.now (string_bytes c.in-Named.name) = search rules in
-    ok_keeps c.named_id.result (keeps_meant (string_bytes c.in-Named.name) meant c.in_ok-ids-in-Named.ensures.declared) c.named_id.ensures.declared
+    let meant : option_map meaning_view c.meaning.result ≡ means_in c.args.names.now (rc_str_bytes c.in-Named.name) = search rules in
+    ok_keeps c.named_id.result (keeps_meant (rc_str_bytes c.in-Named.name) meant c.in_ok-ids-in-Named.ensures.declared) c.named_id.ensures.declared
