@@ -28,6 +28,7 @@ from constructors import over_families, told
 from measuring import OUT, least, write
 from run import FAMILIES
 
+COUNTS = {}
 CRATES = (
     "no_memory", "match_model", "range_split", "slice_split", "pat_context", "pattern_arena", "constructor_sets", "witnesses",
     "pattern_matrix", "distinct_heads", "usefulness", "witness_search",
@@ -126,7 +127,9 @@ def times(program, path):
 def ours(words, name, n):
     """The program's time of judging a match of a family."""
     path = write(f"family_{name}_{n}.matches", told(words.engine, name, n))
-    count = times(words.program, path)
+    if path not in COUNTS:
+        COUNTS[path] = times(words.program, path)
+    count = COUNTS[path]
     return took(words.program, path, count, words.times) / count
 
 
@@ -135,4 +138,4 @@ if __name__ == "__main__":
         build(os.path.abspath(sys.argv[2]))
     else:
         constructors.SHORTEST = SHORTEST
-        sys.exit(over_families("Measures judging alone beside an engine in plain Rust.", FAMILIES, ours, "j", "judge"))
+        sys.exit(over_families("Measures judging alone beside an engine in plain Rust.", FAMILIES, ours, "j", "judge", True))
