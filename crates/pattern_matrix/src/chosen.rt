@@ -64,6 +64,7 @@ impl Chosen {
     }
 
     // The same alternatives. A list is shared with the copy.
+    #[inline(always)]
     pub(crate) fn copied(&self) -> Result<Chosen, NoMemory>
         ensures { IfOk result (λ c. kept_chosen c ≡ kept_chosen self.now) }
     {
@@ -91,6 +92,7 @@ impl Chosen {
     }
 
     // These alternatives, and the others behind them.
+    #[inline(always)]
     pub(crate) fn and_all(&self, alloc: Global, more: &Chosen) -> Result<Chosen, NoMemory>
         ensures { IfOk result (λ c. kept_chosen c ≡ kept_chosen self.now ++ kept_chosen more.now) }
     {

@@ -1,5 +1,5 @@
 // The leaves of each piece, found by halving the range of pieces.
-ghost use Rattle.std.specs.Prelude.{◌≡◌, ◌≤◌, ◌<◌, ◌+◌, ◌-◌, ◌++◌, ◌∷◌, [], length, map, Some, None, IfOk, OnOk, IfSome, IfNone};
+ghost use Rattle.std.specs.Prelude.{◌≡◌, ◌<◌, ◌+◌, ◌-◌, ◌++◌, ◌∷◌, [], length, Some, None, IfOk, OnOk, IfSome, IfNone};
 ghost use Rattle.std.specs.List.{All};
 ghost use Rattle.pattern_matrix.specs.Sparse.{columns_from};
 ghost use Rattle.pattern_matrix.specs.Halving.{span_meets, one_meeting, meeting, leaves_with};

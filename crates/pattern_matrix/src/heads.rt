@@ -70,6 +70,7 @@ impl<'a, T: Copy> HeadPart<'a, T> {
     }
 
     // So many heads of the part, from this one on. They are shared.
+    #[inline(always)]
     #[tactic(auto, using(crate::proofs::HeadParts::parts))]
     fn narrowed(&self, first: usize, count: usize) -> Result<HeadPart<'a, T>, NoMemory>
         requires within { first + count ≤ length (part_heads self.now) }
@@ -82,6 +83,7 @@ impl<'a, T: Copy> HeadPart<'a, T> {
     }
 
     // The same, where one alone stands in the row.
+    #[inline(always)]
     pub(crate) fn some(&self, first: usize, count: usize) -> Result<Heads<'a, T>, NoMemory>
         requires within { first + count ≤ length (part_heads self.now) }
         ensures { IfOk result (λ h. kept_heads h ≡ take count (drop first (part_heads self.now))) }

@@ -5,7 +5,7 @@ ghost use Rattle.match_model.specs.Places.{MStep};
 ghost use Rattle.match_model.specs.Matrices.{expand_rows};
 ghost use Rattle.match_model.specs.Rows.{is_wild_ctor, is_or_ctor};
 ghost use Rattle.pat_context.specs.Views.{plain_ctor};
-ghost use Rattle.pattern_arena.specs.Trees.{tree, placed_ctor};
+ghost use Rattle.pattern_arena.specs.Trees.{tree};
 ghost use Rattle.pattern_matrix.specs.Sparse.{row_views, bare_row, bare_head, leaf_views, head_at};
 ghost use Rattle.pattern_matrix.specs.Views.{plain_heads, plain_rows, plain_leaves, plain_pattern};
 ghost use Rattle.pattern_matrix.specs.ChosenLists.{kept_chosen};

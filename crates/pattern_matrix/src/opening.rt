@@ -1,5 +1,5 @@
 // The rows of a piece, and the rows without a column.
-ghost use Rattle.std.specs.Prelude.{◌≡◌, ◌≢◌, ◌<◌, ◌+◌, ◌-◌, ◌^◌, ◌++◌, ◌∷◌, [], List, ℕ, map, length, cond, true, false, IsTrue, IfOk, OnOk, Some, None, slice_get};
+ghost use Rattle.std.specs.Prelude.{◌≡◌, ◌<◌, ◌+◌, ◌-◌, ◌^◌, ◌++◌, ◌∷◌, [], List, ℕ, map, length, cond, true, IfOk, OnOk, Some, None};
 ghost use Rattle.std.specs.List.{All};
 ghost use Rattle.match_model.specs.Constructors.{MCtor, RowCtor, LongerShape};
 ghost use Rattle.match_model.specs.Places.{MStep};
@@ -76,6 +76,7 @@ fn add_items<'a, T: Copy>(
 }
 
 // Adds the parts that the pattern writes, of so many, at the columns from this number on.
+#[inline(always)]
 #[tactic(auto, using(crate::proofs::Listing::listings))]
 fn add_parts<'a, T: Copy>(
     heads: &mut Vec<Head<'a, T>>,
@@ -98,6 +99,7 @@ fn add_parts<'a, T: Copy>(
 }
 
 // Adds the parts that the leaf's head writes.
+#[inline(always)]
 #[tactic(auto, using(crate::proofs::Listing::leaf_heads))]
 fn add_leaf_parts<'a, T: Copy>(
     heads: &mut Vec<Head<'a, T>>,
@@ -117,6 +119,7 @@ fn add_leaf_parts<'a, T: Copy>(
 
 // The heads with those of so many parts of the leaf's head, at the columns from the first number on, in place of that at
 // the column.
+#[inline(always)]
 fn opened_heads<'a, T: Copy>(
     alloc: Global,
     heads: &Heads<'a, T>,
@@ -140,6 +143,7 @@ fn opened_heads<'a, T: Copy>(
 
 /// The row of the leaf, which is of this row, with the heads of so many parts, at the columns from the first number on, in
 /// place of that at the column. The leaf writes so many parts. The only error is want of memory.
+#[inline(always)]
 pub fn opened_row<'a, T: Copy>(
     alloc: Global,
     row: &Row<'a, T>,
@@ -240,6 +244,7 @@ fn opened_rows<'a, T: Copy>(
 }
 
 /// Tells whether the head of a leaf is a wildcard.
+#[inline(always)]
 #[tactic(auto, using(crate::proofs::Bare::bares))]
 pub fn is_wild_leaf<'a, T: Copy>(head: Option<&'a DePat<'a, T>>) -> bool
     ensures { result ≡ is_wild (plain_pattern head.entry) }
@@ -251,6 +256,7 @@ pub fn is_wild_leaf<'a, T: Copy>(head: Option<&'a DePat<'a, T>>) -> bool
 }
 
 /// The row of the leaf, which is of this row, without its head at the column. The only error is want of memory.
+#[inline(always)]
 pub fn dropped_row<'a, T: Copy>(
     alloc: Global,
     row: &Row<'a, T>,

@@ -1,5 +1,5 @@
 // Which pieces of a column the leaves have.
-ghost use Rattle.std.specs.Prelude.{◌≡◌, ◌<◌, ◌++◌, ◌∷◌, [], length, map, true, false, IfOk, OnOk, Some, None, slice_get, ◌+◌};
+ghost use Rattle.std.specs.Prelude.{◌≡◌, ◌<◌, ◌++◌, ◌∷◌, [], length, true, false, IfOk, OnOk, Some, None, slice_get, ◌+◌};
 ghost use Rattle.std.specs.Option.{option_to_list};
 ghost use Rattle.match_model.specs.Rows.{first_ctor, is_wild, ctor_unless_wild};
 ghost use Rattle.pat_context.specs.Views.{plain_ctor};

@@ -9,6 +9,7 @@ use no_memory::NoMemory;
 use std::alloc::Global;
 
 // How many heads stand before the first one at the column.
+#[inline(always)]
 fn count_before<'a, T: Copy>(heads: &[Head<'a, T>], column: usize) -> usize
     ensures within { result ≤ length heads.now }
     ensures others { without column (plain_heads heads.now) ≡ plain_heads (take result heads.now) ++ without column (plain_heads (drop (result + 1) heads.now)) }
@@ -70,6 +71,7 @@ fn others_of<'a, T: Copy>(
 }
 
 // The heads of the part but those at the column. Where these are the first one, the last one or none, the list is shared.
+#[inline(always)]
 #[tactic(auto, using(crate::proofs::HeadParts::lefts))]
 fn part_without<'a, T: Copy>(
     alloc: Global,
@@ -91,6 +93,7 @@ fn part_without<'a, T: Copy>(
 }
 
 // One head, unless it stands at the column.
+#[inline(always)]
 fn one_without<'a, T: Copy>(one: Head<'a, T>, column: usize) -> Heads<'a, T>
     ensures { plain_heads (kept_heads result) ≡ without column (plain_heads (one.entry ∷ [])) }
 {
@@ -102,6 +105,7 @@ fn one_without<'a, T: Copy>(one: Head<'a, T>, column: usize) -> Heads<'a, T>
 }
 
 // The heads but those at the column.
+#[inline(always)]
 pub(crate) fn heads_without<'a, T: Copy>(
     alloc: Global,
     heads: &Heads<'a, T>,

@@ -8,7 +8,7 @@ ghost use Rattle.pattern_arena.specs.Trees.{placed_subs};
 ghost use Rattle.pattern_matrix.specs.Sparse.{leaves_listed, without};
 ghost use Rattle.usefulness.specs.Done.{are_marked, choices_within};
 ghost use Rattle.pattern_matrix.specs.ChosenLists.{kept_chosen};
-ghost use Rattle.pattern_matrix.specs.Halving.{span_has, span_meets, having, leaves_with};
+ghost use Rattle.pattern_matrix.specs.Halving.{span_has, span_meets, leaves_with};
 ghost use Rattle.pattern_matrix.specs.Parts.{plain_spans, pieces_in};
 ghost use Rattle.pattern_matrix.specs.Views.{plain_heads, plain_row, plain_leaf, plain_pattern};
 ghost use Rattle.usefulness.specs.Marking.{is_marked};

@@ -68,6 +68,7 @@ fn part_columns<'a, C: PatCx>(
 }
 
 // The row of the leaf with the heads of so many parts in place of its head at the column.
+#[inline(always)]
 fn piece_row<'a, T: Copy>(
     alloc: Global,
     a: &Apart<'a, T>,
@@ -93,6 +94,7 @@ fn piece_row<'a, T: Copy>(
 }
 
 // Lists the row of the leaf, opened so. Behind a row that stops all values none is opened.
+#[inline(always)]
 fn list_opened<'a, T: Copy>(
     alloc: Global,
     reached: &mut Reached<'a, T>,

@@ -1,6 +1,6 @@
 // Rows that are listed one by one: what is reached is marked, and what brings nothing new and stops nothing is left out.
-ghost use Rattle.std.specs.Prelude.{◌≡◌, ◌≤◌, ◌<◌, ◌&&◌, ◌++◌, ◌∷◌, [], List, ℕ, Bool, true, false, not, length, drop, take, IfOk, OnOk, IfSome};
-ghost use Rattle.std.specs.List.{All, list_any};
+ghost use Rattle.std.specs.Prelude.{◌≡◌, ◌<◌, ◌&&◌, ◌++◌, ◌∷◌, [], List, ℕ, Bool, true, false, take, IfOk, OnOk, IfSome};
+ghost use Rattle.std.specs.List.{All};
 ghost use Rattle.pattern_matrix.specs.Counting.{Question};
 ghost use Rattle.usefulness.specs.Scope.{Scope};
 ghost use Rattle.usefulness.specs.Frames.{SparseAsked, IsRowIn, AreOpen, numbers, has_heads, subs_of};
@@ -33,6 +33,7 @@ pub(crate) fn room_listed<'a, T: Copy>(
 }
 
 // Marks what the row answers, before which none was kept. It lists no head.
+#[inline(always)]
 fn note<'a, T: Copy>(
     reached: &mut Reached<'a, T>,
     listing: &mut Listing<'a, T>,
@@ -60,6 +61,7 @@ fn note<'a, T: Copy>(
 
 // Keeps the row, which lists a head where it is the first one. It stands for one that was wanted where it is, and is wanted no
 // more only where nothing new is wanted of that.
+#[inline(always)]
 fn keep<'a, T: Copy>(listing: &mut Listing<'a, T>, asked: Asked<'a, T>) -> Result<(), NoMemory>
     requires kept { IsKept listing.old }
     requires start { plain_askeds listing.old.rows.items ≡ [] → has_heads (plain_asked asked).row.heads ≡ true }
@@ -82,6 +84,7 @@ fn keep<'a, T: Copy>(listing: &mut Listing<'a, T>, asked: Asked<'a, T>) -> Resul
 }
 
 // Lists one row more.
+#[inline(always)]
 pub(crate) fn list_row<'a, T: Copy>(
     reached: &mut Reached<'a, T>,
     listing: &mut Listing<'a, T>,

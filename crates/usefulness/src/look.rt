@@ -1,18 +1,15 @@
 // A submatrix that is looked at.
-ghost use Rattle.std.specs.Prelude.{◌≡◌, ◌<◌, ◌∷◌, List, true, length, IfOk, OnOk, IfSome, None, Some, slice_get};
-ghost use Rattle.std.specs.List.{All, Contains};
-ghost use Rattle.match_model.specs.Values.{MValue};
-ghost use Rattle.pat_context.specs.Parts.{AreValues};
+ghost use Rattle.std.specs.Prelude.{◌≡◌, ◌<◌, ◌∷◌, true, length, IfOk, OnOk, None, Some, slice_get};
+ghost use Rattle.std.specs.List.{Contains};
 ghost use Rattle.pattern_matrix.specs.Spreading.{all_apart};
 ghost use Rattle.pattern_matrix.specs.Views.{plain_leaves};
 ghost use Rattle.pattern_matrix.specs.Counting.{Question};
 ghost use Rattle.pattern_matrix.specs.Searching.{IsFit, IsLookedAt, moved};
-ghost use Rattle.usefulness.specs.Frames.{numbers, places, rows_of, IsRowIn};
+ghost use Rattle.usefulness.specs.Frames.{numbers, rows_of};
 ghost use Rattle.usefulness.specs.Told.{IsPinned, AreLighter, IsStep};
 ghost use Rattle.usefulness.specs.Keys.{told_keys};
-ghost use Rattle.usefulness.specs.Listing.{IsListedAs};
 ghost use Rattle.usefulness.specs.Stack.{IsOpened, opened_views};
-ghost use Rattle.usefulness.specs.States.{plain_open, plain_opens, plain_askeds, frame_view, child_views, IsGood, IsListed, is_noted, scope_of};
+ghost use Rattle.usefulness.specs.States.{plain_open, plain_opens, plain_askeds, frame_view, IsGood, is_noted, scope_of};
 
 use crate::children::children;
 use crate::choice::choose;

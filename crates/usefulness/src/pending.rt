@@ -45,6 +45,7 @@ pub(crate) fn next_child<'a, C: PatCx>(
 }
 
 // Adds the column, where something is left of it.
+#[inline(always)]
 fn add_pending<'a, T: Copy>(todo: &mut Vec<Todo<'a, T>>, p: Pending<'a, T>) -> Result<(), NoMemory>
     ensures { OnOk result (todo.new.items ≡ todo.old.items ++ more_of p.entry) }
 {

@@ -20,6 +20,7 @@ use pattern_matrix::{Leaf, dropped_row, is_wild_leaf};
 use std::alloc::Global;
 
 // The row of the leaf, which is a wildcard, without its head at the column.
+#[inline(always)]
 fn wild_row<'a, T: Copy>(
     alloc: Global,
     a: &Apart<'a, T>,
@@ -39,6 +40,7 @@ fn wild_row<'a, T: Copy>(
 }
 
 // Lists the row of the leaf, where that is a wildcard.
+#[inline(always)]
 fn list_wild<'a, T: Copy>(
     alloc: Global,
     reached: &mut Reached<'a, T>,
