@@ -10,8 +10,8 @@ processor time of judging a match k + 1 times less that of judging it once, by k
 the clock runs, and times from 50 microseconds on are judged.
 
 It is built as `rt try` builds, which proves nothing, but by a copy of the toolchain's folder whose compiler first takes out of the module what
-`rt try` put in (the tests that a proof makes needless, and the filling of places that are not written yet), and then compiles at -O3, as `rt run`
-compiles what is proved. The columns and goals are those of run.py.
+`rt try` put in (the tests that a proof makes needless, and the filling of places that are not written yet), puts in that marked functions are to be
+inlined, and then compiles at -O3, as `rt run` compiles what is proved. The columns and goals are those of run.py.
 """
 import os
 import pathlib
@@ -36,14 +36,14 @@ CRATES = (
 READER = ("words", "types", "patterns")
 SHORTEST = 0.00005
 CLANG = """#!/usr/bin/env python3
-import os, subprocess, sys
+import os, pathlib, subprocess, sys
 sys.path.insert(0, "{bench}")
-from untested import untested
+from untested import marked, untested
 words = ["-O3" if word == "-O0" else word for word in sys.argv[1:] if word != "-fsanitize=address"]
 if "module.bc" in words and "-fsanitize=address" in sys.argv:
     subprocess.run(["{tools}/clang", "-S", "-emit-llvm", "-O0", "-x", "ir", "module.bc", "-o", "tested.ll"], check=True)
     with open("tested.ll") as tested, open("module.ll", "w") as module:
-        module.writelines(untested(tested))
+        module.writelines(untested(tested, marked(pathlib.Path("{crates}"))))
     words[words.index("module.bc")] = "module.ll"
 os.execv("{tools}/clang", ["clang"] + words)
 """
@@ -79,7 +79,7 @@ def optimising(folder, target):
     link_all(tools, folder / "toolchain" / "bin", ("clang", "ld.lld"))
     for name, text in (("clang", CLANG), ("ld.lld", LINKER)):
         path = folder / "toolchain" / "bin" / name
-        path.write_text(text.format(tools=tools, target=target, bench=HERE.parent))
+        path.write_text(text.format(tools=tools, target=target, bench=HERE.parent, crates=ROOT / "crates"))
         path.chmod(0o755)
     return folder / "bin" / "rt"
 
