@@ -31,7 +31,7 @@ from run import FAMILIES
 COUNTS = {}
 CRATES = (
     "no_memory", "match_model", "range_split", "slice_split", "pat_context", "pattern_arena", "constructor_sets", "witnesses",
-    "pattern_matrix", "distinct_heads", "usefulness", "witness_search",
+    "pattern_matrix", "usefulness", "witness_search",
 )
 READER = ("words", "types", "patterns")
 SHORTEST = 0.00005

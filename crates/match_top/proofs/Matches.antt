@@ -19,7 +19,7 @@ use Rattle.match_model.specs.Unreachable.{Entry}
 use Rattle.pattern_arena.specs.declared.matches.CheckedMatch.{CheckedMatch}
 use Rattle.pattern_arena.specs.Trees.{plain_arm, plain_match}
 use Rattle.pattern_elaboration.specs.Arms.{IsMatchMade}
-use Rattle.overlap_laws.specs.Laws.{OverlapsOfTableMatch}
+use Rattle.pattern_laws.specs.OverlapLaws.{OverlapsOfTableMatch}
 use Rattle.pattern_laws.proofs.ParsedSound.{every_of}
 use Rattle.pattern_laws.specs.JudgedLaws.{by_offset}
 use Rattle.pattern_laws.specs.ParsedLaws.{ParsedArmsAreSound}

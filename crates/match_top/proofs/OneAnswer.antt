@@ -12,7 +12,7 @@ use Rattle.match_model.specs.declared.Width.{Width}
 use Rattle.type_table.specs.Faults.{BreaksNone, IsFirstFault}
 use Rattle.match_model.specs.Unreachable.{Entry}
 use Rattle.match_model.specs.Witness.{MWitness}
-use Rattle.overlap_laws.specs.Laws.{OverlapListOnIsOne}
+use Rattle.pattern_laws.specs.OverlapLaws.{OverlapListOnIsOne}
 use Rattle.pattern_laws.specs.JudgedLaws.{VerdictIsOne}
 use Rattle.pattern_laws.specs.TreeLaws.{TreeOnIsOne}
 use Rattle.pattern_rules.specs.FirstFault.{PatternFault, AnswerIsOne}

@@ -7,7 +7,7 @@ use Rattle.decl_parser.specs.FileGrammar.{IsFile}
 use Rattle.decl_syntax.specs.Functions.{FunctionTree}
 use Rattle.decl_syntax.specs.Items.{ArmTree, ItemTree, KindTree, Enum, Struct, Import, Function}
 use Rattle.decl_syntax.specs.Units.{units}
-use Rattle.overlap_laws.specs.Laws.{SomeOverlaps}
+use Rattle.pattern_laws.specs.OverlapLaws.{SomeOverlaps}
 use Rattle.pattern_laws.specs.JudgedLaws.{SomeVerdict}
 use Rattle.pattern_laws.specs.ParsedLaws.{FilesAreSound, ParsedFunctionsAreSpelled}
 use Rattle.pattern_laws.specs.TableLaws.{IsSoundFile}

@@ -7,7 +7,7 @@ use Rattle.decl_syntax.specs.Functions.{FunctionTree}
 use Rattle.decl_syntax.specs.Items.{ItemTree, file_view}
 use Rattle.decl_syntax.specs.Units.{units}
 use Rattle.match_model.specs.ArenaPatterns.{MDeMatch}
-use Rattle.overlap_laws.specs.Laws.{IsOverlapListOn}
+use Rattle.pattern_laws.specs.OverlapLaws.{IsOverlapListOn}
 use Rattle.pattern_laws.specs.JudgedLaws.{by_offset}
 use Rattle.pattern_laws.specs.TableLaws.{IsTableMatch}
 use Rattle.pattern_laws.specs.TreeLaws.{IsTreeOn}

@@ -12,7 +12,7 @@ use Rattle.pattern_rules.specs.Faults as patterns
 use Rattle.pattern_rules.specs.Faults.{IsFirstPatternFault, scrutinee_type}
 use Rattle.pattern_rules.specs.Settings.{Setting, program}
 use Rattle.pattern_rules.specs.Verdicts.{IsVerdictOn}
-use Rattle.overlap_laws.specs.Laws.{IsOverlapListOn}
+use Rattle.pattern_laws.specs.OverlapLaws.{IsOverlapListOn}
 use Rattle.pattern_laws.specs.TreeLaws.{IsTreeOn}
 use Rattle.tree_text.specs.Trees.{NodeTree}
 use Rattle.witness_names.specs.Named.{named_witness}

@@ -17,11 +17,11 @@ ghost use Rattle.match_top.specs.Reporting.{AreOverlapsFor, IsFineFunction, IsMa
 use crate::source::Source;
 use decl_syntax::FnItem;
 use no_memory::NoMemory;
-use overlap_laws::laws::overlaps_of_table_match;
 use pattern_arena::laws::matches_are_made;
 use pattern_arena::{CheckedMatch, Placer};
 use pattern_elaboration::top::elaborate;
 use pattern_laws::laws::{judged_table_match, parsed_arms_are_sound, table_match_is_well_typed};
+use pattern_laws::overlap_laws::overlaps_of_table_match;
 use pattern_lints::overlaps;
 use rust_context::RustCx;
 use rust_context::laws::context_is_the_tables;

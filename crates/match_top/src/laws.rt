@@ -5,10 +5,10 @@ ghost use Rattle.match_top.specs.Laws.{EntriesAreWithoutTrees, AnswersAreWithout
 
 use decl_lexer::{one_fault as one_lexing_fault, one_token_list, tokens_or_fault};
 use decl_parser::{file_or_fault, one_fault, one_file};
-use overlap_laws::laws::{overlap_list_is_one, some_overlaps};
 use pattern_laws::laws::{
     files_are_sound, parsed_functions_are_spelled, some_verdict, tree_is_one, verdict_is_one,
 };
+use pattern_laws::overlap_laws::{overlap_list_is_one, some_overlaps};
 use pattern_rules::laws::{answer_is_one, walk_tells};
 use value_syntax::one_written;
 

@@ -62,3 +62,8 @@ pub mod MovedMatches
 pub mod MovedUids
 pub mod EngineTrees
 pub mod TableTrees
+pub mod Candidates
+pub mod SameSpans
+pub mod SomeList
+pub mod SomeOverlaps
+pub mod Written

@@ -5,3 +5,4 @@ pub mod TableLaws
 pub mod ParsedLaws
 pub mod NumberedMatch
 pub mod TreeLaws
+pub mod OverlapLaws

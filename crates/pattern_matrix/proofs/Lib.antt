@@ -56,3 +56,7 @@ pub mod WantedHeads
 pub mod WantedViews
 pub mod Opens
 pub mod Listed
+pub mod Members
+pub mod SameHeads
+pub mod Keeping
+pub mod SomeListed

@@ -20,3 +20,4 @@ pub mod Wanted
 pub mod Typing
 pub mod Opens
 pub mod ListedSteps
+pub mod Distinct

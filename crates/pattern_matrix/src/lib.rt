@@ -8,7 +8,9 @@
 mod chosen;
 mod columns;
 pub mod cover_laws;
+mod distinct;
 mod first;
+mod found;
 mod halving;
 mod heads;
 pub mod laws;
@@ -25,6 +27,7 @@ mod without;
 pub use chosen::Chosen;
 pub use columns::open_columns;
 pub use first::first_rows;
+pub use found::{are_wild, leaf_pieces, split_leaves};
 pub use halving::{Part, PieceLeaves, all_parts, meeting, next_piece};
 pub use heads::{HeadPart, Heads};
 pub use leaves::{add_leaves, leaves_at};

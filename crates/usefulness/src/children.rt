@@ -16,11 +16,10 @@ ghost use Rattle.usefulness.specs.States.{IsApart, apart_leaves, apart_place, ap
 use crate::frames::{Apart, Opened, Pending, Reached};
 use crate::wild::wild_child;
 use constructor_sets::{PresentPieces, Span};
-use distinct_heads::{are_wild, leaf_pieces};
 use no_memory::NoMemory;
 use pat_context::PatCx;
 use pattern_arena::CheckedArm;
-use pattern_matrix::{Part, leaf_spans};
+use pattern_matrix::{Part, are_wild, leaf_pieces, leaf_spans};
 use std::alloc::Global;
 
 // The numbers below the count, ascending.

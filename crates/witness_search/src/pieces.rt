@@ -11,10 +11,9 @@ ghost use Rattle.witnesses.specs.Views.{plain_names};
 ghost use Rattle.witness_search.specs.Found.{as_present};
 
 use constructor_sets::{Piece, PieceState};
-use distinct_heads::split_leaves;
 use no_memory::NoMemory;
 use pat_context::{Ctor, PatCx};
-use pattern_matrix::{Column, Leaf};
+use pattern_matrix::{Column, Leaf, split_leaves};
 use std::alloc::Global;
 
 // The texts that the pieces name.

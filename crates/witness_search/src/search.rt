@@ -30,11 +30,10 @@ use crate::opened::{Opened, put_back, take_first};
 use crate::rows::{has_bare, unguarded_rows};
 use crate::stacks::{add_stacks, one_of_any, with_anys, wrap_all, wrapped_copies};
 use constructor_sets::{Piece, PieceState, PresentPieces};
-use distinct_heads::{are_wild, leaf_pieces};
 use no_memory::NoMemory;
 use pat_context::{Ctor, PatCx, count_parts};
 use pattern_arena::CheckedArm;
-use pattern_matrix::{Row, all_parts};
+use pattern_matrix::{Row, all_parts, are_wild, leaf_pieces};
 use std::alloc::Global;
 use witnesses::Stack;
 

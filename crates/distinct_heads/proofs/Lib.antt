@@ -1,4 +1,0 @@
-pub mod Members
-pub mod SameHeads
-pub mod Keeping
-pub mod Leaves

@@ -1,5 +1,0 @@
-use Rattle.overlap_laws.proofs.Written.{one_list}
-use Rattle.overlap_laws.proofs.laws.overlap_list_is_one.Goals as goal
-
-pub returns : goal.returns
-returns c = one_list
