@@ -5,6 +5,7 @@ pub mod RowSteps
 pub mod Parts
 pub mod InColumn
 pub mod TakenApart
+pub mod ByColumn
 pub mod Beginning
 pub mod KeysInOrder
 pub mod Putting

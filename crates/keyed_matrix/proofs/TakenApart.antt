@@ -3,7 +3,7 @@ use denote.Bor.{Bor}
 use Rattle.std.proofs.Common.{◌≡◌, ◌<◌, ℕ, zero, suc, Bool, true, false, List, [], ◌∷◌, ◌++◌, map, drop, length, nat_lt, refl, ap, sym, ◌∙◌, arith, Option, Some, None, slice_get, cond}
 use Rattle.std.specs.List.{flat_map, cons_option}
 use Rattle.std.specs.Option.{option_to_list}
-use Rattle.std.proofs.lemmas.Option.{slice_get_within}
+use Rattle.std.proofs.lemmas.Option.{slice_get_within, get_or_from_slice_get}
 use Rattle.match_model.specs.ArenaPatterns.{MBound, MDePat, de_pat, uid_of}
 use Rattle.match_model.specs.Constructors.{MCtor}
 use Rattle.match_model.specs.Lowering.{ctors_at}
@@ -15,11 +15,13 @@ use Rattle.pattern_arena.specs.declared.pattern.DePat.{DePat, out-DePat}
 use Rattle.pattern_arena.specs.Trees.{tree, placed_ctor, placed_subs, plain_bound}
 use Rattle.pattern_arena.proofs.TreeFacts.{tree_out}
 use Rattle.keyed_matrix.specs.Choosing.{choice_after, choices_after, choices_of_each, ctors_chosen, ctors_of_each}
-use Rattle.keyed_matrix.specs.Steps.{row_at, chosen_rows, row_ctors}
+use Rattle.keyed_matrix.specs.InColumns.{head_ctors}
+use Rattle.keyed_matrix.specs.Steps.{row_at, put_at, chosen_one, chosen_rows, row_ctors}
 use Rattle.keyed_matrix.specs.Views.{plain_heads, plain_row}
 use Rattle.keyed_matrix.specs.declared.rows.KeyedRow.{KeyedRow}
 use Rattle.keyed_matrix.proofs.ChoiceByChoice.{choices-other, choices-or, after-nothing}
 use Rattle.keyed_matrix.proofs.InColumn.{heads-from}
+use Rattle.keyed_matrix.proofs.Replaced.{map-map, replacements-of}
 use Rattle.keyed_matrix.proofs.RowSteps.{row-one, row-chosen}
 
 one-ctor : (o : Option MCtor) → cons_option o [] ≡ option_to_list o
@@ -102,6 +104,24 @@ module _ {T : Type 0} where
   some-ctors row i p e =
       ap (ctors_at i) (row-chosen [] i row p e)
       ∙ chosen-ctors [] i (plain_row row) (choices_of (tree p.now)) (slice_get_within (plain_heads row.heads.items) i (Some (tree p.now)) e)
+
+  -- the same for any row: those of its head
+  pub row-ctors : (i : ℕ) (r : MRow T) (h : Head T) → slice_get r.heads i ≡ Some h → row_ctors i r ≡ head_ctors h
+  row-ctors i r None e =
+      let within = slice_get_within r.heads i None e in
+      ap (λ ys. ctors_at i (map (row_replaced [] r) ys))
+      (replacements-of expand_head i r.heads None within
+      ∙ ap (λ x. map (put_at i r.heads) (expand_head x)) (get_or_from_slice_get r.heads i None None e))
+      ∙ ap (λ hs. cons_option (first_ctor hs) []) (drop-replaced i r.heads None within)
+  row-ctors i r (Some p) e =
+      let within = slice_get_within r.heads i (Some p) e in
+      ap (λ ys. ctors_at i (map (row_replaced [] r) ys))
+      (replacements-of expand_head i r.heads (Some p) within
+      ∙ ap (λ x. map (put_at i r.heads) (expand_head x)) (get_or_from_slice_get r.heads i (Some p) (Some p) e)
+      ∙ map-map (put_at i r.heads) chosen_one (λ c. put_at i r.heads (chosen_one c)) (choices_of p) (λ c. refl))
+      ∙ ap (ctors_at i) (map-map (row_replaced [] r) (λ c. put_at i r.heads (chosen_one c))
+      (λ c. row_replaced [] r (put_at i r.heads (chosen_one c))) (choices_of p) (λ c. refl))
+      ∙ chosen-ctors [] i r (choices_of p) within
 
   -- ---- rows
 

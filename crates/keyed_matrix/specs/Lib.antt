@@ -1,6 +1,7 @@
 pub mod Views
 pub mod Choosing
 pub mod Steps
+pub mod InColumns
 pub mod Columns
 pub mod First
 pub mod KeyLists

@@ -51,8 +51,8 @@ fn run_of<'a, T: Copy>(heads: &[HeadRun<'a, T>], i: usize) -> (usize, usize)
     (0, 0)
 }
 
-/// The head of the row in the column with this number, from 0, at which the row has a head; none where a wildcard stands that
-/// no pattern wrote. It takes no memory.
+/// The pattern of the row in the column with this number, from 0; none where a wildcard stands that no pattern wrote. The row
+/// has a head in the column. The runs before it are walked over. It takes no memory.
 pub fn head_at<'a, T: Copy>(row: &KeyedRow<'a, T>, i: usize) -> Option<&'a DePat<'a, T>>
     requires { i < length (plain_row row.now).heads }
     ensures { slice_get (plain_row row.now).heads i ≡ Some (plain_head result) }
@@ -105,7 +105,7 @@ pub fn add_wilds<'a, T: Copy>(all: &mut Vec<HeadRun<'a, T>>, count: usize) -> Re
     }
 }
 
-// Adds these heads.
+// Adds the heads of a run. Wildcards are joined to those that stand last.
 #[tactic(auto, using(crate::proofs::HeadRuns::head_runs))]
 fn add_run<'a, T: Copy>(all: &mut Vec<HeadRun<'a, T>>, one: &HeadRun<'a, T>) -> Result<(), NoMemory>
     ensures { OnOk result (plain_heads all.new.items ≡ plain_heads all.old.items ++ plain_run one.now) }
@@ -119,7 +119,7 @@ fn add_run<'a, T: Copy>(all: &mut Vec<HeadRun<'a, T>>, one: &HeadRun<'a, T>) -> 
     }
 }
 
-// Adds all of the heads; the first of them are joined to the last.
+// Adds all of the heads. Wildcards that stand first are joined to those that stand last; the other runs stay as they are.
 fn add_rest<'a, T: Copy>(
     all: &mut Vec<HeadRun<'a, T>>,
     heads: &[HeadRun<'a, T>],

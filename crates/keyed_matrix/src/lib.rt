@@ -12,6 +12,7 @@
 //! The notions are those of Maranget 2008 (rows, specialisation, default matrices).
 #![tactic(auto)]
 
+mod by_column;
 mod choices;
 mod columns;
 mod decisions;
@@ -25,6 +26,7 @@ mod rows;
 mod steps;
 mod taken_apart;
 
+pub use by_column::column_ctors;
 pub use columns::{dropped_columns, piece_columns};
 pub use decisions::{Decisions, decisions_of};
 pub use first::{first_column, first_rows};

@@ -19,7 +19,7 @@ pub struct KeyedColumn<'a, T: Copy> {
     pub validity: Validity,
 }
 
-/// Heads that stand side by side in a row.
+/// A run: heads that stand side by side in a row.
 #[derive(Clone, Copy)]
 pub enum HeadRun<'a, T: Copy> {
     /// So many wildcards that no pattern wrote.
@@ -31,7 +31,7 @@ pub enum HeadRun<'a, T: Copy> {
 /// A row of a matrix.
 #[derive(Drop)]
 pub struct KeyedRow<'a, T: Copy> {
-    /// A head for each column, in order.
+    /// The heads as runs, which together are one for each column, in order.
     pub heads: Vec<HeadRun<'a, T>>,
     /// The number of the arm, from 0.
     pub arm: u32,

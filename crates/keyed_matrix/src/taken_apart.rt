@@ -80,7 +80,7 @@ fn add_row_ctors<'a, T: Copy>(
 }
 
 // Adds the constructors of what stands in place of the pattern when or-patterns are taken apart.
-fn add_pat_ctors<'a, T: Copy>(
+pub(crate) fn add_pat_ctors<'a, T: Copy>(
     ctors: &mut Vec<Ctor<'a>>,
     p: &'a DePat<'a, T>,
 ) -> Result<(), NoMemory>
