@@ -38,6 +38,7 @@ mod Blanks
 pub mod Marks
 pub mod Open
 pub mod RunTests
+mod HeadNames
 pub mod Shown
 pub mod ThinHeads
 pub mod ThinGood

@@ -1,22 +1,18 @@
 -- What is asked and made of heads that stand side by side.
-use Rattle.std.proofs.Common.{◌≡◌, ◌<◌, ◌≤◌, ℕ, zero, suc, ◌+◌, Bool, true, false, ◌&&◌, List, [], ◌∷◌, ◌++◌, map, take, drop, length, get_or, replicate, Some, None, refl, sym, ap, ◌∙◌, arith, subst, slice_get, append_assoc, append-nil}
-use Rattle.std.specs.List.{All, list_all}
-use Rattle.std.proofs.lemmas.List.{drop_all, length-append, length-map, map-append}
-use Rattle.std.proofs.lemmas.List.Folds.{list_all-append}
-use Rattle.match_model.specs.DecisionTrees.{all_head_binds}
-use Rattle.match_model.specs.Matrices.{MRow, head_binds}
+use Rattle.std.proofs.Common.{◌≡◌, ◌<◌, ◌≤◌, ℕ, zero, suc, ◌+◌, Bool, true, false, ◌&&◌, ◌||◌, List, [], ◌∷◌, ◌++◌, map, take, drop, length, get_or, replicate, Some, None, refl, sym, ap, ◌∙◌, arith, subst}
+use Rattle.std.specs.List.{All, list_all, list_any}
+use Rattle.std.proofs.lemmas.List.{length-append, length-map, map-append}
+use Rattle.std.proofs.lemmas.List.Folds.{list_all-append, list_any-append}
+use Rattle.match_model.specs.Matrices.{MRow}
 use Rattle.match_model.specs.Rows.{Head, is_wild, wildcards}
-use Rattle.match_model.specs.Trees.{MBind}
-use Rattle.pat_context.specs.Views.{plain_place}
-use Rattle.keyed_matrix.specs.declared.rows.KeyedColumn.{KeyedColumn}
 use Rattle.keyed_matrix.specs.declared.rows.HeadRun.{HeadRun}
 use Rattle.keyed_matrix.specs.declared.rows.KeyedRow.{KeyedRow}
-use Rattle.keyed_matrix.specs.Views.{plain_run, plain_heads, plain_row, plain_rows, plain_columns}
+use Rattle.keyed_matrix.specs.Views.{plain_run, plain_heads, plain_row, plain_rows}
 use Rattle.keyed_matrix.proofs.Replaced.{get-map}
 use Rattle.keyed_matrix.proofs.HeadRuns.{runs-from, runs-until, none-from}
 use Rattle.decision_tree.specs.Cutting.{open_count}
 use Rattle.decision_tree.specs.Known.{head_uid}
-use Rattle.decision_tree.specs.Thin.{thin_head}
+use Rattle.decision_tree.specs.Thin.{is_blank_head, thin_head}
 use Rattle.decision_tree.specs.WildColumns.{marked, marked_from, all_marked}
 use Rattle.decision_tree.proofs.Marks.{marked-behind, all-more}
 use Rattle.decision_tree.proofs.Open.{open-append}
@@ -61,6 +57,22 @@ module _ {T : Type 0} where
     wild-not whole h w =
         sym (ap (λ b. b && list_all is_wild (plain_heads (drop (k + 1) xs))) w) ∙ sym wild-from ∙ h
 
+    -- one that passes a test stands among the heads from a place on, or among those behind it
+    any-from : (p : Head T → Bool) → list_any p (plain_heads (drop k xs))
+        ≡ (list_any p (plain_run x) || list_any p (plain_heads (drop (k + 1) xs)))
+    any-from p =
+        ap (list_any p) (runs-from xs k x l e) ∙ list_any-append p (plain_run x) (plain_heads (drop (k + 1) xs))
+
+    pub any-on : (p : Head T → Bool) (whole : Bool) → list_any p (plain_heads (drop k xs)) ≡ whole →
+        list_any p (plain_run x) ≡ false → list_any p (plain_heads (drop (k + 1) xs)) ≡ whole
+    any-on p whole h w =
+        sym (ap (λ b. b || list_any p (plain_heads (drop (k + 1) xs))) w) ∙ sym (any-from p) ∙ h
+
+    pub any-found : (p : Head T → Bool) (whole : Bool) → list_any p (plain_heads (drop k xs)) ≡ whole →
+        list_any p (plain_run x) ≡ true → true ≡ whole
+    any-found p whole h w =
+        sym (ap (λ b. b || list_any p (plain_heads (drop (k + 1) xs))) w) ∙ sym (any-from p) ∙ h
+
     pub open-on : (count one whole : ℕ) → count + open_count (plain_heads (drop k xs)) ≡ whole →
         one ≡ open_count (plain_run x) → (count + one) + open_count (plain_heads (drop (k + 1) xs)) ≡ whole
     open-on count one whole h o =
@@ -75,13 +87,6 @@ module _ {T : Type 0} where
         n ∙ ap (λ us. us ++ map f (plain_run x)) h
         ∙ sym (map-append f (plain_heads (take k xs)) (plain_run x))
         ∙ ap (map f) (sym (runs-until xs k x l e))
-
-    -- heads that stay as they are
-    pub same-on : (f : Head T → Head T) → map f (plain_heads (take k xs)) ≡ plain_heads (take k xs) →
-        map f (plain_run x) ≡ plain_run x → map f (plain_heads (take (k + 1) xs)) ≡ plain_heads (take (k + 1) xs)
-    same-on f h w =
-        sym (mapped-on f (plain_heads (take k xs)) (plain_heads (take (k + 1) xs)) (sym h)
-        (runs-until xs k x l e ∙ ap (λ hs. plain_heads (take k xs) ++ hs) (sym w)))
 
     pub at-on : (at : ℕ) → at ≡ length (plain_heads (take k xs)) →
         at + length (plain_run x) ≡ length (plain_heads (take (k + 1) xs))
@@ -100,6 +105,10 @@ module _ {T : Type 0} where
   pub wild-end : (xs : List (HeadRun T)) (k : ℕ) (whole : Bool) → length xs ≤ k →
       list_all is_wild (plain_heads (drop k xs)) ≡ whole → true ≡ whole
   wild-end xs k whole l h = ap (list_all is_wild) (sym (none-from xs k l)) ∙ h
+
+  pub any-end : (p : Head T → Bool) (xs : List (HeadRun T)) (k : ℕ) (whole : Bool) → length xs ≤ k →
+      list_any p (plain_heads (drop k xs)) ≡ whole → false ≡ whole
+  any-end p xs k whole l h = ap (list_any p) (sym (none-from xs k l)) ∙ h
 
   pub open-end : (xs : List (HeadRun T)) (k count whole : ℕ) → length xs ≤ k →
       count + open_count (plain_heads (drop k xs)) ≡ whole → count ≡ whole
@@ -140,41 +149,6 @@ module _ {T : Type 0} where
       n ∙ ap (λ ms. marked ms (plain_row r).heads) m ∙ sym (all-more bs (plain_rows (take k rows)) (plain_row r))
       ∙ ap (all_marked bs) (sym (rows-until rows k r l e))
 
-  -- the names of the next column
-  pub binds-on : (columns : List (KeyedColumn T)) (hs : List (Head T)) (i : ℕ) (c : KeyedColumn T) (h : Head T) →
-      i < length columns → c ≡ get_or columns i c → slice_get hs i ≡ Some h →
-      all_head_binds (plain_columns (drop i columns)) (drop i hs)
-      ≡ head_binds (plain_place c.place.now) h
-      ++ all_head_binds (plain_columns (drop (i + 1) columns)) (drop (i + 1) hs)
-  binds-on [] hs i c h l e g = absurd (omega (arith, l))
-  binds-on (x ∷ columns) [] i c h l e g = cc
-  binds-on (x ∷ columns) (y ∷ hs) zero c h l e g =
-      λ k. head_binds (plain_place (sym e k).place.now) (some-is y h g k) ++ all_head_binds (plain_columns columns) hs
-  binds-on (x ∷ columns) (y ∷ hs) (suc i) c h l e g =
-      binds-on columns hs i c h (omega (arith, l)) e g
-      ∙ ap (λ j. head_binds (plain_place c.place.now) h
-      ++ all_head_binds (plain_columns (drop j (x ∷ columns))) (drop j (y ∷ hs))) (sym (after i))
-
-  pub binds-more : (columns : List (KeyedColumn T)) (hs : List (Head T)) (i : ℕ) (c : KeyedColumn T) (h : Head T)
-      (all new whole : List MBind) → i < length columns → c ≡ get_or columns i c → slice_get hs i ≡ Some h →
-      all ++ all_head_binds (plain_columns (drop i columns)) (drop i hs) ≡ whole →
-      new ≡ all ++ head_binds (plain_place c.place.now) h →
-      new ++ all_head_binds (plain_columns (drop (i + 1) columns)) (drop (i + 1) hs) ≡ whole
-  binds-more columns hs i c h all new whole l e g w n =
-      let rest = all_head_binds (plain_columns (drop (i + 1) columns)) (drop (i + 1) hs) in
-      ap (λ bs. bs ++ rest) n ∙ append_assoc all (head_binds (plain_place c.place.now) h) rest
-      ∙ ap (λ bs. all ++ bs) (sym (binds-on columns hs i c h l e g)) ∙ w
-
-  pub binds-end : (columns : List (KeyedColumn T)) (hs : List (Head T)) (i : ℕ) (all whole : List MBind) →
-      length columns ≤ i → all ++ all_head_binds (plain_columns (drop i columns)) (drop i hs) ≡ whole → all ≡ whole
-  binds-end columns hs i all whole l w =
-      sym (append-nil all) ∙ ap (λ bs. all ++ bs) (sym (none (drop i hs)))
-      ∙ ap (λ cs. all ++ all_head_binds (plain_columns cs) (drop i hs)) (sym (drop_all i columns l)) ∙ w
-    where
-      none : (hs : List (Head T)) → all_head_binds [] hs ≡ []
-      none [] = refl
-      none (h ∷ hs) = refl
-
 pub one-wild : {T : Type 0} (h : Head T) → list_all is_wild (h ∷ []) ≡ is_wild h
 one-wild h = go (is_wild h)
   where
@@ -182,4 +156,15 @@ one-wild h = go (is_wild h)
     go true = refl
     go false = refl
 
-pub ruleset run_tests = (wilds-wild, one-wild, open-wilds, wild-uids, thin-wilds)
+pub blank-wilds : (T : Type 0) (n : ℕ) → list_any is_blank_head (wildcards {T = T} n) ≡ false
+blank-wilds T zero = refl
+blank-wilds T (suc n) = blank-wilds T n
+
+pub one-blank : {T : Type 0} (h : Head T) → list_any is_blank_head (h ∷ []) ≡ is_blank_head h
+one-blank h = go (is_blank_head h)
+  where
+    go : (b : Bool) → (b || false) ≡ b
+    go true = refl
+    go false = refl
+
+pub ruleset run_tests = (wilds-wild, one-wild, open-wilds, wild-uids, thin-wilds, blank-wilds, one-blank)

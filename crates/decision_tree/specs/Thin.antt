@@ -10,6 +10,11 @@ abbrev pub is_blank : {T : Type 0} → MDePat T → Bool
 is_blank (de_pat WildCtor t uid at no_de_pats []) = true
 is_blank _ = false
 
+-- the head is such a pattern
+abbrev pub is_blank_head : {T : Type 0} → Head T → Bool
+is_blank_head None = false
+is_blank_head (Some p) = is_blank p
+
 -- the head, or none where it is such a wildcard
 abbrev pub thin_head : {T : Type 0} → Head T → Head T
 thin_head None = None

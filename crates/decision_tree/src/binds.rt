@@ -2,18 +2,18 @@
 ghost use Rattle.std.specs.Ordering.{is_lt};
 ghost use Rattle.std.specs.String.{string_bytes};
 ghost use Rattle.match_model.specs.Texts.{compare_texts};
-ghost use Rattle.std.specs.Prelude.{◌≡◌, ◌++◌, ◌∷◌, [], length, map, IfOk, OnOk};
+ghost use Rattle.std.specs.Prelude.{◌≡◌, ◌≤◌, ◌+◌, ◌++◌, ◌∷◌, [], Some, drop, length, map, IfOk, OnOk};
 ghost use Rattle.match_model.specs.DecisionTrees.{all_head_binds, by_name, row_binds};
 ghost use Rattle.match_model.specs.Matrices.{bind_at, head_binds};
 ghost use Rattle.match_model.specs.Ways.{put_by};
 ghost use Rattle.pat_context.specs.Places.{steps_of};
 ghost use Rattle.pat_context.specs.Views.{plain_place};
-ghost use Rattle.pattern_arena.specs.Trees.{plain_bound, plain_part};
-ghost use Rattle.keyed_matrix.specs.Views.{plain_caught, plain_columns, plain_head, plain_row};
+ghost use Rattle.pattern_arena.specs.Trees.{tree, plain_bound, plain_part};
+ghost use Rattle.keyed_matrix.specs.Views.{plain_caught, plain_columns, plain_run, plain_heads, plain_row};
 ghost use Rattle.tree_eval.specs.Nodes.{plain_bind};
 ghost use Rattle.decision_tree.specs.Places.{part_place};
 
-use keyed_matrix::{Caught, KeyedColumn, KeyedRow, head_at};
+use keyed_matrix::{Caught, HeadRun, KeyedColumn, KeyedRow, size_of};
 use no_memory::NoMemory;
 use pat_context::{Place, Step};
 use pattern_arena::{Bound, DePat, Part};
@@ -63,20 +63,17 @@ fn add_bound<'a>(
     Ok(())
 }
 
-// Adds the names that the head binds by itself.
-fn add_head<'a, T: Copy>(
+// Adds the names that the pattern binds by itself, at the place.
+fn add_own<'a, T: Copy>(
     alloc: Global,
     all: &mut Vec<Bind>,
     steps: &[Step],
-    head: &Option<&'a DePat<'a, T>>,
+    pat: &DePat<'a, T>,
 ) -> Result<(), NoMemory>
     ensures { OnOk result (map plain_bind all.new.items ≡ map plain_bind all.old.items
-        ++ head_binds (plain_place steps.now) (plain_head head.now)) }
+        ++ head_binds (plain_place steps.now) (Some (tree pat.now))) }
 {
-    match head {
-        None => Ok(()),
-        Some(p) => add_bounds(alloc, all, steps, p.binds),
-    }
+    add_bounds(alloc, all, steps, pat.binds)
 }
 
 // Adds the names, which are bound at the place.
@@ -110,17 +107,36 @@ fn add_heads<'a, T: Copy>(
     alloc: Global,
     all: &mut Vec<Bind>,
     columns: &[KeyedColumn<'a, T>],
-    row: &KeyedRow<'a, T>,
+    heads: &[HeadRun<'a, T>],
 ) -> Result<(), NoMemory>
-    requires { length columns.now ≡ length (plain_row row.now).heads }
+    requires { length columns.now ≡ length (plain_heads heads.now) }
     ensures { OnOk result (map plain_bind all.new.items ≡ map plain_bind all.old.items
-        ++ all_head_binds (plain_columns columns.now) (plain_row row.now).heads) }
+        ++ all_head_binds (plain_columns columns.now) (plain_heads heads.now)) }
 {
-    for i in 0..columns.len() {
-        let head = head_at(row, i);
-        add_head(alloc, all, columns[i].place, &head)?;
+    let mut at = 0;
+    for one in heads {
+        add_run(alloc, all, columns, at, one)?;
+        at += size_of(one);
     }
     Ok(())
+}
+
+// The same for heads side by side, of which the first stands in the column with the number.
+fn add_run<'a, T: Copy>(
+    alloc: Global,
+    all: &mut Vec<Bind>,
+    columns: &[KeyedColumn<'a, T>],
+    at: usize,
+    one: &HeadRun<'a, T>,
+) -> Result<(), NoMemory>
+    requires { at + length (plain_run one.now) ≤ length columns.now }
+    ensures { OnOk result (map plain_bind all.new.items ≡ map plain_bind all.old.items
+        ++ all_head_binds (drop at (plain_columns columns.now)) (plain_run one.now)) }
+{
+    match one {
+        HeadRun::Wilds(_count) => Ok(()),
+        HeadRun::Written(p) => add_own(alloc, all, columns[at].place, *p),
+    }
 }
 
 // Tells whether the first name is less, byte by byte.
@@ -172,6 +188,6 @@ pub(crate) fn row_binds<'a, T: Copy>(
 {
     let mut all = Vec::new(alloc);
     add_caught(alloc, &mut all, &row.caught)?;
-    add_heads(alloc, &mut all, columns, row)?;
+    add_heads(alloc, &mut all, columns, &row.heads)?;
     ascending(alloc, all)
 }

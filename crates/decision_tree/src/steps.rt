@@ -91,8 +91,8 @@ pub(crate) fn entered<'a, C: PatCx>(
     over_parts(alloc, arena, cx, decisions, m, i, piece, rows)
 }
 
-// The same, where the rows that have the piece are among those with these numbers, or the first of them alone is, and it is
-// taken.
+// The same, of the rows with these numbers alone. Either each row that has the piece is among them, or of these rows the first
+// alone is, and it is taken, so that no rule looks at the others.
 pub(crate) fn entered_among<'a, C: PatCx>(
     alloc: Global,
     arena: &'a Bump<Global>,

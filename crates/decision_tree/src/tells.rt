@@ -1,7 +1,6 @@
 // What tells a matrix from the others of a match.
 ghost use Rattle.std.specs.Prelude.{◌≡◌, ◌+◌, ◌++◌, ◌∷◌, [], true, map, IfOk, IfSome, OnOk};
 ghost use Rattle.std.specs.List.{flat_map};
-ghost use Rattle.match_model.specs.Matrices.{bind_at};
 ghost use Rattle.keyed_matrix.specs.Views.{plain_caught, plain_columns, plain_run, plain_heads, plain_row};
 ghost use Rattle.keyed_matrix.specs.Views.{plain_rows};
 ghost use Rattle.decision_tree.specs.Known.{head_uid, known_column, known_row, known_matrix};
@@ -85,7 +84,8 @@ fn add_uid(all: &mut Vec<KnownHeads>, uid: Option<u64>) -> Result<(), NoMemory>
     }
 }
 
-// Adds the heads side by side, by the uids of their patterns.
+// Adds the heads of a run, by the uids of their patterns. A pattern is joined to those that stand last, where it goes on with
+// their uids; wildcards are joined to none, since a row lists those side by side as one run.
 #[tactic(auto, using(crate::proofs::RunTests::run_tests))]
 fn add_run<'a, T: Copy>(all: &mut Vec<KnownHeads>, one: &HeadRun<'a, T>) -> Result<(), NoMemory>
     ensures { OnOk result (flat_map plain_known_heads all.new.items

@@ -1,9 +1,10 @@
 // Wildcards that bind nothing go: no rule tells them from wildcards that no pattern wrote, so the tree is the same, and
 // none of their patterns is looked at again.
-ghost use Rattle.std.specs.Prelude.{◌≡◌, ◌++◌, false, map, Some, IfOk, OnOk};
+ghost use Rattle.std.specs.Prelude.{◌≡◌, ◌++◌, map, IfOk, OnOk};
+ghost use Rattle.std.specs.List.{list_any};
 ghost use Rattle.pattern_arena.specs.Trees.{tree};
 ghost use Rattle.keyed_matrix.specs.Views.{plain_run, plain_heads, plain_row, plain_rows};
-ghost use Rattle.decision_tree.specs.Thin.{is_blank, thin_head, thin_row, thin_rows};
+ghost use Rattle.decision_tree.specs.Thin.{is_blank, is_blank_head, thin_head, thin_row, thin_rows};
 
 use keyed_matrix::{HeadRun, KeyedRow, add_wilds};
 use no_memory::NoMemory;
@@ -21,10 +22,10 @@ fn is_blank<'a, T: Copy>(pat: &DePat<'a, T>) -> bool
     }
 }
 
-// Tells whether such a wildcard may stand among the heads side by side.
+// Tells whether such a wildcard stands among the heads side by side.
 #[tactic(auto, using(crate::proofs::RunTests::run_tests))]
 fn has_blank<'a, T: Copy>(one: &HeadRun<'a, T>) -> bool
-    ensures { result ≡ false → map thin_head (plain_run one.now) ≡ plain_run one.now }
+    ensures { result ≡ list_any is_blank_head (plain_run one.now) }
 {
     match one {
         HeadRun::Wilds(_count) => false,
@@ -32,9 +33,9 @@ fn has_blank<'a, T: Copy>(one: &HeadRun<'a, T>) -> bool
     }
 }
 
-// Tells whether such a wildcard may stand among the heads.
+// Tells whether such a wildcard stands among the heads.
 fn have_blank<'a, T: Copy>(heads: &[HeadRun<'a, T>]) -> bool
-    ensures { result ≡ false → map thin_head (plain_heads heads.now) ≡ plain_heads heads.now }
+    ensures { result ≡ list_any is_blank_head (plain_heads heads.now) }
 {
     for one in heads {
         if has_blank(one) {
