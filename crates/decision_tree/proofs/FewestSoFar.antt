@@ -1,5 +1,5 @@
 -- The place with the fewest branches, of the columns that were gone through.
-use Rattle.std.proofs.Common.{◌≡◌, ◌<◌, ◌≤◌, ◌⊎◌, inl, inr, ℕ, zero, suc, ◌+◌, Bool, true, false, ◌&&◌, List, [], ◌∷◌, length, drop, get_or, nat_lt, cond, Option, Some, None, slice_get, refl, sym, ap, ◌∙◌, subst, arith, IsTrue, true≢false}
+use Rattle.std.proofs.Common.{◌≡◌, ◌<◌, ◌≤◌, ◌⊎◌, inl, inr, ℕ, zero, suc, ◌+◌, Bool, true, false, not, ◌&&◌, List, [], ◌∷◌, map, length, drop, get_or, nat_lt, cond, Option, Some, None, slice_get, refl, sym, ap, ◌∙◌, subst, arith, IsTrue, true≢false}
 use Rattle.std.specs.List.{list_all}
 use Rattle.std.proofs.lemmas.List.{length-map}
 use Rattle.std.proofs.lemmas.Bool.{cases_lt}
@@ -15,8 +15,14 @@ use Rattle.match_model.specs.WellTyped.{AreHeadsTyped}
 use Rattle.keyed_matrix.specs.Views.{plain_column, plain_columns, plain_heads, plain_row, plain_rows}
 use Rattle.keyed_matrix.specs.declared.rows.KeyedColumn.{KeyedColumn}
 use Rattle.keyed_matrix.specs.declared.rows.KeyedRow.{KeyedRow}
+use Rattle.keyed_matrix.specs.declared.rows.HeadRun.{HeadRun}
+use Rattle.keyed_matrix.specs.InColumns.{ctors_in}
+use Rattle.pat_context.specs.Views.{plain_ctor}
+use Rattle.pat_context.specs.declared.ctor.Ctor.{Ctor}
+use Rattle.std.specs.Global.{Vec}
 use Rattle.tree_laws.proofs.FewestPlaces.{fewest-of}
 use Rattle.decision_tree.proofs.TypedRows.{as-many}
+use Rattle.decision_tree.specs.Asked.{asks}
 use Rattle.decision_tree.specs.Matrices.{fewer}
 
 below-or-at : (j i : ℕ) → j < i + 1 → (j < i) ⊎ (j ≡ i)
@@ -34,32 +40,33 @@ unfolding asked-by
 not-asked-wild true e = refl
 not-asked-wild false e = absurd (true≢false e)
 
-module _ {T : Type 0} where
-  starts-at : (hs : List (Head T)) (i : ℕ) (h : Head T) → slice_get hs i ≡ Some h → starts_wild (drop i hs) ≡ is_wild h
-  starts-at [] i h e = cc
-  starts-at (x ∷ hs) zero h e = ap is_wild (some-is x h e)
-  starts-at (x ∷ hs) (suc i) h e = starts-at hs i h e
+by-not : (w : Bool) → asked-by w ≡ not w
+unfolding asked-by
+by-not true = refl
+by-not false = refl
 
+module _ {T : Type 0} where
   starts-past : (hs : List (Head T)) (i : ℕ) → length hs ≤ i → starts_wild (drop i hs) ≡ true
   starts-past [] zero l = refl
   starts-past [] (suc i) l = refl
   starts-past (x ∷ hs) zero l = absurd (omega (arith, l))
   starts-past (x ∷ hs) (suc i) l = starts-past hs i (omega (arith, l))
 
-  -- a row's head is asked where it is no wildcard
-  pub asked-at : (r : MRow T) (rows : List (MRow T)) (i : ℕ) (h : Head T) → slice_get r.heads i ≡ Some h →
-      is_wild h ≡ false → IsTrue (is_asked i (r ∷ rows))
-  unfolding asked-by
-  asked-at r rows i h e w = ap asked-by (starts-at r.heads i h e ∙ w)
-
-  pub not-asked-at : (r : MRow T) (rows : List (MRow T)) (i : ℕ) (h : Head T) → slice_get r.heads i ≡ Some h →
-      is_wild h ≡ true → is_asked i (r ∷ rows) ≡ false
-  unfolding asked-by
-  not-asked-at r rows i h e w = ap asked-by (starts-at r.heads i h e ∙ w)
-
   not-asked-past : (r : MRow T) (rows : List (MRow T)) (i : ℕ) → length r.heads ≤ i → is_asked i (r ∷ rows) ≡ false
   unfolding asked-by
   not-asked-past r rows i l = ap asked-by (starts-past r.heads i l)
+
+  -- the mark of a column says whether it is asked
+  mark-at : (hs : List (Head T)) (i : ℕ) (b : Bool) → i < length hs → b ≡ get_or (map asks hs) i b →
+      asked-by (starts_wild (drop i hs)) ≡ b
+  mark-at [] i b l e = absurd (omega (arith, l))
+  mark-at (h ∷ hs) zero b l e = by-not (is_wild h) ∙ sym e
+  mark-at (h ∷ hs) (suc i) b l e = mark-at hs i b (omega (arith, l)) e
+
+  pub asked-mark : (r : MRow T) (rows : List (MRow T)) (i : ℕ) (b : Bool) → i < length r.heads →
+      b ≡ get_or (map asks r.heads) i b → is_asked i (r ∷ rows) ≡ b
+  unfolding asked-by
+  asked-mark r rows i b l e = mark-at r.heads i b l e
 
   -- no number past the heads is asked
   asked-within : (r : MRow T) (rows : List (MRow T)) (i : ℕ) → IsTrue (is_asked i (r ∷ rows)) → i < length r.heads
@@ -227,3 +234,26 @@ pub first-heads : {T : Type 0} (cx : Context T) (columns : List (KeyedColumn T))
 first-heads cx columns [] d l t = absurd (omega (arith, l))
 first-heads cx columns (r ∷ rows) d l t =
     sym (length-map columns plain_column) ∙ as-many cx (plain_columns columns) (plain_heads r.heads.items) t.0
+
+-- a mark for each column is made of its runs
+pub as-many-marks : {T : Type 0} (cx : Context T) (columns : List (KeyedColumn T)) (rows : List (KeyedRow T))
+    (d : KeyedRow T) → 0 < length rows → Every (λ r. AreHeadsTyped cx (plain_columns columns) r.heads) (plain_rows rows) →
+    (runs : List (HeadRun T)) → runs ≡ (get_or rows 0 d).heads.items →
+    (marks : List Bool) → marks ≡ map asks (plain_heads runs) → length marks ≡ length columns
+as-many-marks cx columns rows d l t runs same marks made =
+    ap length made ∙ length-map (plain_heads runs) asks ∙ ap (λ hs. length (plain_heads hs)) same
+    ∙ sym (first-heads cx columns rows d l t)
+
+-- a mark that is read there stands there
+pub mark-there : (bs : List Bool) (i : ℕ) (b : Bool) → i < length bs → b ≡ get_or bs i b → b ≡ true →
+    slice_get bs i ≡ Some true
+mark-there [] i b l e t = absurd (omega (arith, l))
+mark-there (x ∷ bs) zero b l e t = ap Some (sym e ∙ t)
+mark-there (x ∷ bs) (suc i) b l e t = mark-there bs i b (omega (arith, l)) e t
+
+-- the constructors in the list that is read there
+pub list-there : (lists : List (Vec Ctor)) (i : ℕ) (x : Vec Ctor) → i < length lists → x ≡ get_or lists i x →
+    map plain_ctor x.items ≡ ctors_in lists i
+list-there [] i x l e = absurd (omega (arith, l))
+list-there (y ∷ lists) zero x l e = ap (λ (v : Vec Ctor). map plain_ctor v.items) e
+list-there (y ∷ lists) (suc i) x l e = list-there lists i x (omega (arith, l)) e

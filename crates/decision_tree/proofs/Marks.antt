@@ -1,9 +1,17 @@
--- Columns in which every row is wild keep their marks.
-use Rattle.std.proofs.Common.{◌≡◌, ◌<◌, ℕ, zero, suc, Bool, true, false, ◌&&◌, List, [], ◌∷◌, ◌++◌, drop, length, replicate, set, Some, None, slice_get, refl, sym, ap, ◌∙◌, arith}
+-- Marks of columns that stay where heads are wild.
+use Rattle.std.proofs.Common.{◌≡◌, ◌<◌, ℕ, zero, suc, ◌+◌, Bool, true, false, ◌&&◌, List, [], ◌∷◌, ◌++◌, take, drop, length, get_or, replicate, set, Some, None, slice_get, refl, sym, ap, ◌∙◌, arith}
+use Rattle.std.specs.List.{list_all}
+use Rattle.std.proofs.lemmas.List.{length-replicate, length-set}
+use Rattle.std.proofs.lemmas.List.Folds.{list_all-append}
 use Rattle.match_model.specs.Lowering.{all_wild_at}
 use Rattle.match_model.specs.Matrices.{MRow}
-use Rattle.match_model.specs.Rows.{Head, is_wild, starts_wild}
-use Rattle.decision_tree.specs.WildColumns.{marked, marked_from, all_marked}
+use Rattle.match_model.specs.Rows.{Head, is_wild, starts_wild, wildcards}
+use Rattle.keyed_matrix.specs.declared.rows.HeadRun.{HeadRun}
+use Rattle.keyed_matrix.specs.declared.rows.KeyedRow.{KeyedRow}
+use Rattle.keyed_matrix.specs.Views.{plain_run, plain_heads, plain_row, plain_rows}
+use Rattle.keyed_matrix.proofs.HeadRuns.{runs-until}
+use Rattle.decision_tree.specs.WildColumns.{StayWhereWild, AreWildMarks}
+use Rattle.decision_tree.proofs.RunTests.{rows-until}
 
 and-true : (b : Bool) → (b && true) ≡ b
 and-true true = refl
@@ -25,78 +33,96 @@ all-true zero i l = absurd (omega (arith, l))
 all-true (suc n) zero l = refl
 all-true (suc n) (suc i) l = all-true n i (omega (arith, l))
 
-pub unmarked : (T : Type 0) (bs : List Bool) → marked {T = T} bs [] ≡ bs
-unmarked T [] = refl
-unmarked T (b ∷ bs) = refl
-
 starts-none : (T : Type 0) (i : ℕ) → true ≡ starts_wild {T = T} (drop i [])
 starts-none T zero = refl
 starts-none T (suc i) = refl
 
-only-wilds : (T : Type 0) (n : ℕ) (bs : List Bool) → marked {T = T} bs (replicate n None) ≡ bs
-only-wilds T zero [] = refl
-only-wilds T (suc n) [] = refl
-only-wilds T zero (b ∷ bs) = refl
-only-wilds T (suc n) (b ∷ bs) = λ k. and-true b k ∷ only-wilds T n bs k
+-- wildcards are wild, behind others too
+starts-wilds : (T : Type 0) (n i : ℕ) → starts_wild {T = T} (drop i (wildcards n)) ≡ true
+starts-wilds T zero i = sym (starts-none T i)
+starts-wilds T (suc n) zero = refl
+starts-wilds T (suc n) (suc i) = starts-wilds T n i
 
--- wildcards take no mark off
-pub marked-wilds : (T : Type 0) (at n : ℕ) (bs : List Bool) → marked_from {T = T} at bs (replicate n None) ≡ bs
-marked-wilds T zero n bs = only-wilds T n bs
-marked-wilds T (suc at) n [] = refl
-marked-wilds T (suc at) n (b ∷ bs) = ap (λ l. b ∷ l) (marked-wilds T at n bs)
+wilds-behind : (T : Type 0) (at n i : ℕ) → starts_wild {T = T} (drop i (wildcards at ++ wildcards n)) ≡ true
+wilds-behind T zero n i = starts-wilds T n i
+wilds-behind T (suc at) n zero = refl
+wilds-behind T (suc at) n (suc i) = wilds-behind T at n i
 
 module _ {T : Type 0} where
-  -- heads behind others
-  pub marked-behind : (bs : List Bool) (xs ys : List (Head T)) →
-      marked bs (xs ++ ys) ≡ marked_from (length xs) (marked bs xs) ys
-  marked-behind [] [] ys = refl
-  marked-behind [] (x ∷ xs) ys = refl
-  marked-behind (b ∷ bs) [] ys = refl
-  marked-behind (b ∷ bs) (x ∷ xs) ys = ap (λ l. (b && is_wild x) ∷ l) (marked-behind bs xs ys)
+  wild-behind : (at i : ℕ) (h : Head T) → is_wild h ≡ true → starts_wild (drop i (wildcards at ++ h ∷ [])) ≡ true
+  wild-behind zero zero h w = w
+  wild-behind zero (suc i) h w = sym (starts-none T i)
+  wild-behind (suc at) zero h w = refl
+  wild-behind (suc at) (suc i) h w = wild-behind at i h w
 
-  pub marked-wild : (at : ℕ) (bs : List Bool) (h : Head T) → is_wild h ≡ true → marked_from at bs (h ∷ []) ≡ bs
-  marked-wild zero [] h w = refl
-  marked-wild zero (b ∷ bs) h w = λ k. (ap (λ v. b && v) w ∙ and-true b) k ∷ unmarked T bs k
-  marked-wild (suc at) [] h w = refl
-  marked-wild (suc at) (b ∷ bs) h w = ap (λ l. b ∷ l) (marked-wild at bs h w)
+  -- where all are wild the marks stay
+  all-stay : (at : ℕ) (hs : List (Head T)) (bs : List Bool) →
+      ((i : ℕ) → starts_wild (drop i (wildcards at ++ hs)) ≡ true) → StayWhereWild at hs bs bs
+  all-stay at hs bs w = record {
+    long = refl;
+    marks = λ i b e. e ∙ ap Some (sym (ap (λ v. b && v) (w i) ∙ and-true b));
+  }
+
+  pub wilds-stay : (at n : ℕ) (bs : List Bool) → StayWhereWild {T = T} at (wildcards n) bs bs
+  wilds-stay at n bs = all-stay at (wildcards n) bs (wilds-behind T at n)
+
+  pub wild-stays : (at : ℕ) (bs : List Bool) (h : Head T) → is_wild h ≡ true → StayWhereWild at (h ∷ []) bs bs
+  wild-stays at bs h w = all-stay at (h ∷ []) bs (λ i. wild-behind at i h w)
+
+  pub none-stay : (bs : List Bool) → StayWhereWild {T = T} 0 [] bs bs
+  none-stay bs = all-stay 0 [] bs (λ i. sym (starts-none T i))
 
   -- another head takes its mark off
-  pub marked-open : (at : ℕ) (bs : List Bool) (h : Head T) → at < length bs → is_wild h ≡ false →
-      marked_from at bs (h ∷ []) ≡ set bs at false
-  marked-open at [] h l w = absurd (omega (arith, l))
-  marked-open zero (b ∷ bs) h l w = λ k. (ap (λ v. b && v) w ∙ and-false b) k ∷ unmarked T bs k
-  marked-open (suc at) (b ∷ bs) h l w = ap (λ l. b ∷ l) (marked-open at bs h (omega (arith, l)) w)
+  one-off : (at : ℕ) (bs : List Bool) (h : Head T) → at < length bs → is_wild h ≡ false → (i : ℕ) (b : Bool) →
+      slice_get bs i ≡ Some b → slice_get (set bs at false) i ≡ Some (b && starts_wild (drop i (wildcards at ++ h ∷ [])))
+  one-off at [] h l w i b e = absurd (omega (arith, l))
+  one-off zero (x ∷ bs) h l w zero b e = ap Some (sym (ap (λ v. b && v) w ∙ and-false b))
+  one-off zero (x ∷ bs) h l w (suc i) b e =
+      e ∙ ap Some (sym (and-true b) ∙ ap (λ v. b && v) (starts-none T i))
+  one-off (suc at) (x ∷ bs) h l w zero b e = e ∙ ap Some (sym (and-true b))
+  one-off (suc at) (x ∷ bs) h l w (suc i) b e = one-off at bs h (omega (arith, l)) w i b e
 
-  pub marked-long : (bs : List Bool) (hs : List (Head T)) → length (marked bs hs) ≡ length bs
-  marked-long [] hs = refl
-  marked-long (b ∷ bs) [] = refl
-  marked-long (b ∷ bs) (h ∷ hs) = ap suc (marked-long bs hs)
+  pub open-off : (at : ℕ) (bs : List Bool) (h : Head T) → at < length bs → is_wild h ≡ false →
+      StayWhereWild at (h ∷ []) bs (set bs at false)
+  open-off at bs h l w = record { long = length-set bs at false; marks = one-off at bs h l w }
 
-  -- the mark of a column says whether it is wild
-  row-mark : (bs : List Bool) (hs : List (Head T)) (i : ℕ) (b : Bool) → slice_get bs i ≡ Some b →
-      slice_get (marked bs hs) i ≡ Some (b && starts_wild (drop i hs))
-  row-mark [] hs i b e = cc
-  row-mark (x ∷ bs) [] i b e = e ∙ ap Some (sym (and-true b) ∙ ap (λ v. b && v) (starts-none T i))
-  row-mark (x ∷ bs) (h ∷ hs) zero b e = ap (λ v. Some (v && is_wild h)) (same-get x b e)
-  row-mark (x ∷ bs) (h ∷ hs) (suc i) b e = row-mark bs hs i b e
+  -- heads behind others
+  behind-others : (xs ys : List (Head T)) (i : ℕ) →
+      (starts_wild (drop i xs) && starts_wild (drop i (wildcards (length xs) ++ ys))) ≡ starts_wild (drop i (xs ++ ys))
+  behind-others [] ys i = ap (λ v. v && starts_wild (drop i ys)) (sym (starts-none T i))
+  behind-others (x ∷ xs) ys zero = and-true (is_wild x)
+  behind-others (x ∷ xs) ys (suc i) = behind-others xs ys i
 
-  rows-mark : (rows : List (MRow T)) (bs : List Bool) (i : ℕ) (b : Bool) → slice_get bs i ≡ Some b →
-      slice_get (all_marked bs rows) i ≡ Some (b && all_wild_at i rows)
-  rows-mark [] bs i b e = e ∙ ap Some (sym (and-true b))
-  rows-mark (r ∷ rows) bs i b e =
-      rows-mark rows (marked bs r.heads) i (b && starts_wild (drop i r.heads)) (row-mark bs r.heads i b e)
-      ∙ ap Some (and-assoc b (starts_wild (drop i r.heads)) (all_wild_at i rows))
+  pub stay-next : (xs : List (HeadRun T)) (k : ℕ) (x : HeadRun T) → k < length xs → x ≡ get_or xs k x →
+      (old now new : List Bool) (at : ℕ) → at ≡ length (plain_heads (take k xs)) →
+      StayWhereWild 0 (plain_heads (take k xs)) old now → StayWhereWild at (plain_run x) now new →
+      StayWhereWild 0 (plain_heads (take (k + 1) xs)) old new
+  stay-next xs k x l e old now new at a before here = record {
+    long = here.long ∙ before.long;
+    marks =
+        λ i b m. here.marks i (b && starts_wild (drop i hs)) (before.marks i b m)
+        ∙ ap Some (and-assoc b (starts_wild (drop i hs)) (starts_wild (drop i (wildcards at ++ plain_run x)))
+        ∙ ap (λ v. b && v)
+        (ap (λ n. starts_wild (drop i hs) && starts_wild (drop i (wildcards n ++ plain_run x))) a
+        ∙ behind-others hs (plain_run x) i
+        ∙ ap (λ ys. starts_wild (drop i ys)) (sym (runs-until xs k x l e))));
+  }
+    where
+      hs : List (Head T)
+      hs = plain_heads (take k xs)
 
-  pub column-mark : (rows : List (MRow T)) (n i : ℕ) → i < n →
-      slice_get (all_marked (replicate n true) rows) i ≡ Some (all_wild_at i rows)
-  column-mark rows n i l = rows-mark rows (replicate n true) i true (all-true n i l)
+  -- the marks of no row, and of one row more
+  pub marks-begun : (count : ℕ) → AreWildMarks {T = T} count [] (replicate count true)
+  marks-begun count = record { long = length-replicate count true; are = λ i l. all-true count i l }
 
-  -- one row more
-  pub all-more : (bs : List Bool) (rows : List (MRow T)) (r : MRow T) →
-      all_marked bs (rows ++ r ∷ []) ≡ marked (all_marked bs rows) r.heads
-  all-more bs [] r = refl
-  all-more bs (x ∷ rows) r = all-more (marked bs x.heads) rows r
-
-  pub all-long : (bs : List Bool) (rows : List (MRow T)) → length (all_marked bs rows) ≡ length bs
-  all-long bs [] = refl
-  all-long bs (r ∷ rows) = all-long (marked bs r.heads) rows ∙ marked-long bs r.heads
+  pub marks-next : (rows : List (KeyedRow T)) (k : ℕ) (r : KeyedRow T) → k < length rows → r ≡ get_or rows k r →
+      (count : ℕ) (now new : List Bool) → AreWildMarks count (plain_rows (take k rows)) now →
+      StayWhereWild 0 (plain_row r).heads now new → AreWildMarks count (plain_rows (take (k + 1) rows)) new
+  marks-next rows k r l e count now new before here = record {
+    long = here.long ∙ before.long;
+    are =
+        λ i w. here.marks i (all_wild_at i (plain_rows (take k rows))) (before.are i w)
+        ∙ ap Some (sym (ap (all_wild_at i) (rows-until rows k r l e)
+        ∙ list_all-append (λ (x : MRow T). starts_wild (drop i x.heads)) (plain_rows (take k rows)) (plain_row r ∷ [])
+        ∙ ap (λ b. all_wild_at i (plain_rows (take k rows)) && b) (and-true (starts_wild (drop i (plain_row r).heads)))));
+  }

@@ -10,11 +10,10 @@ use Rattle.keyed_matrix.specs.declared.rows.KeyedRow.{KeyedRow}
 use Rattle.keyed_matrix.specs.Views.{plain_run, plain_heads, plain_row, plain_rows}
 use Rattle.keyed_matrix.proofs.Replaced.{get-map}
 use Rattle.keyed_matrix.proofs.HeadRuns.{runs-from, runs-until, none-from}
+use Rattle.decision_tree.specs.Asked.{asks}
 use Rattle.decision_tree.specs.Cutting.{open_count}
 use Rattle.decision_tree.specs.Known.{head_uid}
 use Rattle.decision_tree.specs.Thin.{is_blank_head, thin_head}
-use Rattle.decision_tree.specs.WildColumns.{marked, marked_from, all_marked}
-use Rattle.decision_tree.proofs.Marks.{marked-behind, all-more}
 use Rattle.decision_tree.proofs.Open.{open-append}
 
 some-is : {A : Type 0} (x y : A) → Some x ≡ Some y → x ≡ y
@@ -94,14 +93,6 @@ module _ {T : Type 0} where
         let s = ap length (runs-until xs k x l e) ∙ length-append (plain_heads (take k xs)) (plain_run x) in
         omega (arith, s, h)
 
-    pub marks-on : (bs marks new : List Bool) (at : ℕ) → at ≡ length (plain_heads (take k xs)) →
-        marks ≡ marked bs (plain_heads (take k xs)) → new ≡ marked_from at marks (plain_run x) →
-        new ≡ marked bs (plain_heads (take (k + 1) xs))
-    marks-on bs marks new at a m n =
-        n ∙ (λ i. marked_from (a i) (m i) (plain_run x))
-        ∙ sym (marked-behind bs (plain_heads (take k xs)) (plain_run x))
-        ∙ ap (marked bs) (sym (runs-until xs k x l e))
-
   pub wild-end : (xs : List (HeadRun T)) (k : ℕ) (whole : Bool) → length xs ≤ k →
       list_all is_wild (plain_heads (drop k xs)) ≡ whole → true ≡ whole
   wild-end xs k whole l h = ap (list_all is_wild) (sym (none-from xs k l)) ∙ h
@@ -142,12 +133,10 @@ module _ {T : Type 0} where
       let long : length (plain_rows rows) ≡ length rows = length-map rows plain_row in
       subst P (get-map plain_row rows k r ∙ ap plain_row (sym e)) (all k (plain_row r) (omega (arith, l, long)))
 
-  pub marks-more : (bs marks new : List Bool) (rows : List (KeyedRow T)) (k : ℕ) (r : KeyedRow T) → k < length rows →
-      r ≡ get_or rows k r → marks ≡ all_marked bs (plain_rows (take k rows)) → new ≡ marked marks (plain_row r).heads →
-      new ≡ all_marked bs (plain_rows (take (k + 1) rows))
-  marks-more bs marks new rows k r l e m n =
-      n ∙ ap (λ ms. marked ms (plain_row r).heads) m ∙ sym (all-more bs (plain_rows (take k rows)) (plain_row r))
-      ∙ ap (all_marked bs) (sym (rows-until rows k r l e))
+-- the marks of so many columns in which a row asks nothing
+pub quiet-wilds : (T : Type 0) (n : ℕ) → map asks (wildcards {T = T} n) ≡ replicate n false
+quiet-wilds T zero = refl
+quiet-wilds T (suc n) = ap (λ bs. false ∷ bs) (quiet-wilds T n)
 
 pub one-wild : {T : Type 0} (h : Head T) → list_all is_wild (h ∷ []) ≡ is_wild h
 one-wild h = go (is_wild h)
@@ -167,4 +156,4 @@ one-blank h = go (is_blank_head h)
     go true = refl
     go false = refl
 
-pub ruleset run_tests = (wilds-wild, one-wild, open-wilds, wild-uids, thin-wilds, blank-wilds, one-blank)
+pub ruleset run_tests = (wilds-wild, one-wild, open-wilds, wild-uids, thin-wilds, quiet-wilds, blank-wilds, one-blank)

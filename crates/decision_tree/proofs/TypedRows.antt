@@ -46,6 +46,14 @@ module _ {T : Type 0} (cx : Context T) where
       (every-to (λ r. AreHeadsTyped cx columns r.heads) (λ r. i < length r.heads) rows (λ r h.
       (let same : length columns ≡ length r.heads = as-many columns r.heads h in omega (arith, same, within))) t)
 
+  -- as many as there are columns
+  pub long-typed : (columns : List (MColumn T)) (rows : List (MRow T)) (n : ℕ) → length columns ≡ n →
+      Every (λ r. AreHeadsTyped cx columns r.heads) rows → All (λ r. length r.heads ≡ n) rows
+  long-typed columns rows n e t =
+      all-from (λ r. length r.heads ≡ n) rows
+      (every-to (λ r. AreHeadsTyped cx columns r.heads) (λ r. length r.heads ≡ n) rows (λ r h.
+      sym (as-many columns r.heads h) ∙ e) t)
+
   -- one head stands in place of one that is expanded
   one-expanded : (h : Head T) (y : Replacement T) → Among y (expand_head h) → (g : Head T) × (y.heads ≡ g ∷ [])
   one-expanded None y (inl e) = (None, ap (λ x. x.heads) e)

@@ -8,6 +8,7 @@ pub mod Known
 pub mod KnownTrees
 pub mod KnownViews
 pub mod Asking
+pub mod Asked
 pub mod Cuts
 pub mod Fronts
 pub mod Cutting

@@ -1,10 +1,10 @@
 -- Rows without a column in which every row is wild (our own choice).
-use Rattle.std.specs.Prelude.{◌≡◌, ◌<◌, ◌⊎◌, ℕ, zero, suc, Bool, true, false, ◌&&◌, List, [], ◌∷◌, ◌++◌, map, length, slice_get, Some, None}
+use Rattle.std.specs.Prelude.{◌≡◌, ◌<◌, ◌⊎◌, ℕ, zero, suc, Bool, true, false, ◌&&◌, List, [], ◌∷◌, ◌++◌, map, drop, length, slice_get, Some, None}
 use Rattle.match_model.specs.Lists.{Every}
 use Rattle.match_model.specs.Lowering.{all_wild_at}
 use Rattle.match_model.specs.Matrices.{MColumn, MRow, head_binds}
 use Rattle.match_model.specs.Places.{MStep}
-use Rattle.match_model.specs.Rows.{Head, is_wild}
+use Rattle.match_model.specs.Rows.{Head, is_wild, starts_wild, wildcards}
 use Rattle.match_model.specs.Steps.{replaced_at}
 
 -- the head of column `i`
@@ -61,19 +61,13 @@ pub record AreLeftOut {T : Type 0} (columns : List (MColumn T)) (rows : List (MR
   pub leaves : LeavesOut columns rows cs rs
   pub none_left : (i : ℕ) → i < length cs → all_wild_at i rs ≡ false
 
--- marks of columns, each taken off where the head there is neither a wildcard nor a name
-abbrev pub marked : {T : Type 0} → List Bool → List (Head T) → List Bool
-marked [] hs = []
-marked (b ∷ bs) [] = b ∷ bs
-marked (b ∷ bs) (h ∷ hs) = (b && is_wild h) ∷ marked bs hs
+-- a mark stays where the head in its column is a wildcard or a name, and else is taken off; the first head stands in column `at`
+pub record StayWhereWild {T : Type 0} (at : ℕ) (heads : List (Head T)) (old new : List Bool) : Type 0 where
+  pub long : length new ≡ length old
+  pub marks : (i : ℕ) (mark : Bool) → slice_get old i ≡ Some mark →
+      slice_get new i ≡ Some (mark && starts_wild (drop i (wildcards at ++ heads)))
 
--- the same, where the first head stands in the column with the number
-abbrev pub marked_from : {T : Type 0} → (at : ℕ) → List Bool → List (Head T) → List Bool
-marked_from zero bs hs = marked bs hs
-marked_from (suc n) [] hs = []
-marked_from (suc n) (b ∷ bs) hs = b ∷ marked_from n bs hs
-
--- the same, row by row
-abbrev pub all_marked : {T : Type 0} → List Bool → List (MRow T) → List Bool
-all_marked bs [] = bs
-all_marked bs (r ∷ rows) = all_marked (marked bs r.heads) rows
+-- of each of so many columns whether every row is wild there
+pub record AreWildMarks {T : Type 0} (count : ℕ) (rows : List (MRow T)) (marks : List Bool) : Type 0 where
+  pub long : length marks ≡ count
+  pub are : (i : ℕ) → i < count → slice_get marks i ≡ Some (all_wild_at i rows)

@@ -1,5 +1,5 @@
 // Columns in which every row has a wildcard or a name: a tree asks nothing there, so it is that of the rows without them.
-ghost use Rattle.std.specs.Prelude.{◌≡◌, ◌<◌, ◌≤◌, ◌+◌, ◌++◌, ◌∷◌, [], true, Some, map, length, replicate, IfOk};
+ghost use Rattle.std.specs.Prelude.{◌≡◌, ◌<◌, ◌≤◌, ◌+◌, ◌++◌, ◌∷◌, [], Some, map, length, IfOk};
 ghost use Rattle.std.specs.List.{All};
 ghost use Rattle.match_model.specs.Lowering.{all_wild_at};
 ghost use Rattle.match_model.specs.Matrices.{bind_at};
@@ -9,7 +9,7 @@ ghost use Rattle.keyed_matrix.specs.Steps.{AreLonger};
 ghost use Rattle.keyed_matrix.specs.Views.{plain_caught, plain_run, plain_heads, plain_row, plain_rows};
 ghost use Rattle.decision_tree.specs.Matrices.{matrix_columns, matrix_rows};
 ghost use Rattle.decision_tree.specs.WildColumns.{left_out, all_left_out, AreAsLong, IsLeftOutAt, AreLeftOut};
-ghost use Rattle.decision_tree.specs.WildColumns.{marked, marked_from, all_marked};
+ghost use Rattle.decision_tree.specs.WildColumns.{StayWhereWild, AreWildMarks};
 
 use crate::frames::Matrix;
 use crate::leaves::is_wild_pat;
@@ -84,7 +84,7 @@ fn without_heads<'a, T: Copy>(
 // Takes the mark off the column with the number where the pattern there is neither a wildcard nor a name.
 fn mark_pattern<'a, T: Copy>(marks: &mut [bool], at: usize, pat: &DePat<'a, T>)
     requires { at < length marks.old }
-    ensures { marks.new ≡ marked_from at marks.old (Some (tree pat.now) ∷ []) }
+    ensures { StayWhereWild at (Some (tree pat.now) ∷ []) marks.old marks.new }
 {
     if is_wild_pat(pat) {
         return;
@@ -96,7 +96,7 @@ fn mark_pattern<'a, T: Copy>(marks: &mut [bool], at: usize, pat: &DePat<'a, T>)
 // number.
 fn mark_run<'a, T: Copy>(marks: &mut [bool], at: usize, one: &HeadRun<'a, T>)
     requires { at + length (plain_run one.now) ≤ length marks.old }
-    ensures { marks.new ≡ marked_from at marks.old (plain_run one.now) }
+    ensures { StayWhereWild at (plain_run one.now) marks.old marks.new }
 {
     match one {
         HeadRun::Wilds(_count) => {}
@@ -108,7 +108,7 @@ fn mark_run<'a, T: Copy>(marks: &mut [bool], at: usize, one: &HeadRun<'a, T>)
 fn mark_row<'a, T: Copy>(marks: &mut [bool], heads: &[HeadRun<'a, T>], columns: usize)
     requires marks { length marks.old ≡ columns }
     requires heads { length (plain_heads heads.now) ≡ columns }
-    ensures { marks.new ≡ marked marks.old (plain_heads heads.now) }
+    ensures { StayWhereWild 0 (plain_heads heads.now) marks.old marks.new }
 {
     let mut at = 0;
     for one in heads {
@@ -124,7 +124,7 @@ fn wild_columns<'a, T: Copy>(
     rows: &[KeyedRow<'a, T>],
 ) -> Result<Vec<bool>, NoMemory>
     requires { All (λ r. length r.heads ≡ columns) (plain_rows rows.now) }
-    ensures { IfOk result (λ v. v.items ≡ all_marked (replicate columns true) (plain_rows rows.now)) }
+    ensures { IfOk result (λ v. AreWildMarks columns (plain_rows rows.now) v.items) }
 {
     let mut marks = vec![in alloc; true; columns]?;
     for row in rows {

@@ -91,21 +91,7 @@ module _ {T : Type 0} where
       (ap first_ctor (drop-replaced i r.heads (Some c.pat) l) ∙ head-ctor (Some c.pat) (drop (suc i) r.heads))
       ∙ ap (cons_option (first_ctor (Some c.pat ∷ []))) (chosen-ctors place i r cs l)
 
-  -- a row has none where no pattern wrote a head
-  pub none-ctors : (row : KeyedRow T) (i : ℕ) → slice_get (plain_row row).heads i ≡ Some None → row_ctors i (plain_row row) ≡ []
-  none-ctors row i e =
-      ap (ctors_at i) (row-one expand_head [] i row None (record { heads = None ∷ []; chosen = []; binds = [] }) e refl)
-      ∙ ap (λ hs. cons_option (first_ctor hs) [])
-      (drop-replaced i (plain_heads row.heads.items) None (slice_get_within (plain_heads row.heads.items) i None e))
-
-  -- else those of the pattern
-  pub some-ctors : (row : KeyedRow T) (i : ℕ) (p : Bor (DePat T)) → slice_get (plain_row row).heads i ≡ Some (Some (tree p.now)) →
-      row_ctors i (plain_row row) ≡ ctors_chosen (choices_of (tree p.now))
-  some-ctors row i p e =
-      ap (ctors_at i) (row-chosen [] i row p e)
-      ∙ chosen-ctors [] i (plain_row row) (choices_of (tree p.now)) (slice_get_within (plain_heads row.heads.items) i (Some (tree p.now)) e)
-
-  -- the same for any row: those of its head
+  -- the constructors of a row are those of its head
   pub row-ctors : (i : ℕ) (r : MRow T) (h : Head T) → slice_get r.heads i ≡ Some h → row_ctors i r ≡ head_ctors h
   row-ctors i r None e =
       let within = slice_get_within r.heads i None e in

@@ -1,13 +1,10 @@
 // What stands in a column once its or-patterns are taken apart.
-ghost use Rattle.std.specs.Prelude.{◌≡◌, ◌<◌, ◌++◌, ℕ, List, map, drop, length, not, IfOk, OnOk};
-ghost use Rattle.match_model.specs.Lowering.{ctors_at};
-ghost use Rattle.match_model.specs.Places.{MStep};
+ghost use Rattle.std.specs.Prelude.{◌≡◌, ◌<◌, ◌++◌, map, drop, length, OnOk};
 ghost use Rattle.match_model.specs.Rows.{choices_of, starts_or};
-ghost use Rattle.match_model.specs.Steps.{expand_head, rows_at};
 ghost use Rattle.pat_context.specs.Views.{plain_ctor};
 ghost use Rattle.pattern_arena.specs.Trees.{tree};
 ghost use Rattle.keyed_matrix.specs.Choosing.{ctors_chosen};
-ghost use Rattle.keyed_matrix.specs.Steps.{row_ctors, are_apart, AreLonger};
+ghost use Rattle.keyed_matrix.specs.Steps.{are_apart, AreLonger};
 ghost use Rattle.keyed_matrix.specs.Views.{plain_row, plain_rows};
 
 use crate::KeyedRow;
@@ -17,26 +14,6 @@ use crate::looking::add_unless_wild;
 use no_memory::NoMemory;
 use pat_context::Ctor;
 use pattern_arena::DePat;
-use std::alloc::Global;
-
-/// The constructors in the column with this number, from 0, once its or-patterns are taken apart: those of `ctors_at` for
-/// the rows that `expanded_rows` makes, in the same order, without making them. Each row has a head at the column. The only
-/// error is want of memory.
-pub fn ctors_apart<'a, T: Copy>(
-    alloc: Global,
-    rows: &[KeyedRow<'a, T>],
-    i: usize,
-) -> Result<Vec<Ctor<'a>>, NoMemory>
-    requires { AreLonger i (plain_rows rows.now) }
-    ensures { IfOk result (λ v. (place : List MStep) → map plain_ctor v.items
-        ≡ ctors_at i (rows_at expand_head place i (plain_rows rows.now))) }
-{
-    let mut ctors = Vec::new(alloc);
-    for row in rows {
-        add_row_ctors(&mut ctors, row, i)?;
-    }
-    Ok(ctors)
-}
 
 /// Tells whether no row has an or-pattern in the column with this number, from 0. Each row has a head at the column. It
 /// takes no memory.
@@ -60,22 +37,6 @@ fn is_or_at<'a, T: Copy>(row: &KeyedRow<'a, T>, i: usize) -> bool
     match head_at(row, i) {
         None => false,
         Some(p) => is_or(&p.ctor),
-    }
-}
-
-// Adds the constructors of the row in the column, once its or-pattern there is taken apart.
-fn add_row_ctors<'a, T: Copy>(
-    ctors: &mut Vec<Ctor<'a>>,
-    row: &KeyedRow<'a, T>,
-    i: usize,
-) -> Result<(), NoMemory>
-    requires { i < length (plain_row row.now).heads }
-    ensures { OnOk result (map plain_ctor ctors.new.items ≡ map plain_ctor ctors.old.items
-        ++ row_ctors i (plain_row row.now)) }
-{
-    match head_at(row, i) {
-        None => Ok(()),
-        Some(p) => add_pat_ctors(ctors, p),
     }
 }
 

@@ -1,5 +1,4 @@
 use Rattle.std.proofs.Common.{◌≡◌, ◌+◌, ◌∙◌, [], map, length, refl, sym, ap, subst, arith}
-use Rattle.std.specs.Prelude.{vec_len}
 use Rattle.std.proofs.lemmas.List.{length-map}
 use Rattle.std.specs.List.{All}
 use Rattle.match_model.specs.FewestBranches.{AreBranches}
@@ -12,24 +11,17 @@ use Rattle.keyed_steps.proofs.Standing.{column-at}
 use Rattle.decision_tree.proofs.Apart.{none-of, some-of, zero-long, some-long, none-mapped, all-wild, some-open}
 use Rattle.decision_tree.proofs.CountingCases.{more_missing, no-branches, found-branches}
 use Rattle.decision_tree.proofs.Reading.{read-map, read-one}
-use Rattle.decision_tree.proofs.TypedRows.{IsSharp, longer-typed, sharp-expanded}
+use Rattle.decision_tree.proofs.TypedRows.{IsSharp, sharp-expanded}
 use Rattle.decision_tree.proofs.branches.branches.Goals as goal
-
-pub ctors_apart-requires : goal.ctors_apart-requires
-ctors_apart-requires g c =
-    let long = length-map c.args.columns.now plain_column in
-    longer-typed (g.C.PatCx.context c.args.cx.now) c.args.i (plain_columns c.args.columns.now)
-    (plain_rows c.args.rows.now) (omega (arith, long, c.requires.within)) c.requires.typed.heads
 
 pub returns-then-is_empty : goal.returns-then-is_empty
 returns-then-is_empty g c = λ d e.
     let column = c.index-columns-i.result in
     let place = (plain_column column).place in
     let rows = rows_at expand_head place c.args.i (plain_rows c.args.rows.now) in
-    let ctors = c.in_ok-ctors.ctors in
-    let length_is : length ctors.items ≡ 0 = (let none = zero-long c.is_empty.result (vec_len ctors) c.is_empty.ensures c.if-is_empty.true in
-    omega (arith, none, ctors.ok.0)) in
-    let none : ctors_at c.args.i rows ≡ [] = sym (c.in_ok-ctors.ensures place) ∙ ap (map plain_ctor) (none-of ctors.items length_is) in
+    let ctors = c.args.ctors.now in
+    let length_is : length ctors ≡ 0 = zero-long c.is_empty.result (length ctors) c.is_empty.ensures c.if-is_empty.true in
+    let none : ctors_at c.args.i rows ≡ [] = sym (c.requires.ctors place) ∙ ap (map plain_ctor) (none-of ctors length_is) in
     subst (λ x. AreBranches (g.C.PatCx.context c.args.cx.now) (g.C.PatCx.is_value c.args.cx.now) c.args.i
     (plain_column x) (plain_rows c.args.rows.now) 0)
     (read-one c.args.columns.now c.args.i column d e c.index-columns-i.is)
@@ -45,7 +37,7 @@ present-requires-clause-ty g c =
 pub present-requires-clause-heads : goal.present-requires-clause-heads
 present-requires-clause-heads g c =
     let column = plain_column c.index-columns-i.result in
-    let ctors = ap plain_ctors c.deref.ensures.value ∙ c.in_ok-ctors.ensures column.place in
+    let ctors = c.requires.ctors column.place in
     subst (All (IsSharp ((g.C.PatCx.context c.args.cx.now).set_of column.type))) (sym ctors)
     (sharp-expanded (g.C.PatCx.is_type c.args.cx.now) (g.C.PatCx.context c.args.cx.now) (plain_columns c.args.columns.now)
     (plain_rows c.args.rows.now) c.requires.typed c.args.i column
@@ -63,11 +55,10 @@ returns-then-found g c = λ d e.
     omega (arith, ctors, missing) in
     let place = (plain_column column).place in
     let rows = rows_at expand_head place c.args.i (plain_rows c.args.rows.now) in
-    let heads = ap plain_ctors c.deref.ensures.value ∙ c.in_ok-ctors.ensures place in
-    let unless_wild = some-open c.args.i rows (λ k. some-of c.in_ok-ctors.ctors.items
-    (let some = some-long c.is_empty.result (vec_len c.in_ok-ctors.ctors) c.is_empty.ensures c.if-is_empty.false in
-    omega (arith, some, c.in_ok-ctors.ctors.ok.0))
-    (none-mapped plain_ctor c.in_ok-ctors.ctors.items (c.in_ok-ctors.ensures place ∙ k))) in
+    let heads = c.requires.ctors place in
+    let unless_wild = some-open c.args.i rows (λ k. some-of c.args.ctors.now
+    (some-long c.is_empty.result (length c.args.ctors.now) c.is_empty.ensures c.if-is_empty.false)
+    (none-mapped plain_ctor c.args.ctors.now (heads ∙ k))) in
     subst (λ x. AreBranches (g.C.PatCx.context c.args.cx.now) (g.C.PatCx.is_value c.args.cx.now) c.args.i
     (plain_column x) (plain_rows c.args.rows.now) (c.len-count.result + 1))
     (read-one c.args.columns.now c.args.i column d e c.index-columns-i.is)
@@ -75,7 +66,7 @@ returns-then-found g c = λ d e.
     (plain_column column) (plain_rows c.args.rows.now)) count
     (found-branches (g.C.PatCx.is_value c.args.cx.now) (g.C.PatCx.context c.args.cx.now) c.args.i (plain_column column)
     (plain_rows c.args.rows.now) rows refl
-    (plain_ctors c.deref.result.now) (plain_ctors found.ctors.items) found.missing (plain_ctors found.gaps.items)
+    (plain_ctors c.args.ctors.now) (plain_ctors found.ctors.items) found.missing (plain_ctors found.gaps.items)
     unless_wild heads c.in_ok-found.ensures.found))
 
 pub returns : goal.returns
@@ -90,11 +81,10 @@ returns g c = λ d e.
     omega (arith, ctors, missing) in
     let place = (plain_column column).place in
     let rows = rows_at expand_head place c.args.i (plain_rows c.args.rows.now) in
-    let heads = ap plain_ctors c.deref.ensures.value ∙ c.in_ok-ctors.ensures place in
-    let unless_wild = some-open c.args.i rows (λ k. some-of c.in_ok-ctors.ctors.items
-    (let some = some-long c.is_empty.result (vec_len c.in_ok-ctors.ctors) c.is_empty.ensures c.if-is_empty.false in
-    omega (arith, some, c.in_ok-ctors.ctors.ok.0))
-    (none-mapped plain_ctor c.in_ok-ctors.ctors.items (c.in_ok-ctors.ensures place ∙ k))) in
+    let heads = c.requires.ctors place in
+    let unless_wild = some-open c.args.i rows (λ k. some-of c.args.ctors.now
+    (some-long c.is_empty.result (length c.args.ctors.now) c.is_empty.ensures c.if-is_empty.false)
+    (none-mapped plain_ctor c.args.ctors.now (heads ∙ k))) in
     subst (λ x. AreBranches (g.C.PatCx.context c.args.cx.now) (g.C.PatCx.is_value c.args.cx.now) c.args.i
     (plain_column x) (plain_rows c.args.rows.now) (c.len-count.result))
     (read-one c.args.columns.now c.args.i column d e c.index-columns-i.is)
@@ -102,5 +92,5 @@ returns g c = λ d e.
     (plain_column column) (plain_rows c.args.rows.now)) count
     (found-branches (g.C.PatCx.is_value c.args.cx.now) (g.C.PatCx.context c.args.cx.now) c.args.i (plain_column column)
     (plain_rows c.args.rows.now) rows refl
-    (plain_ctors c.deref.result.now) (plain_ctors found.ctors.items) found.missing (plain_ctors found.gaps.items)
+    (plain_ctors c.args.ctors.now) (plain_ctors found.ctors.items) found.missing (plain_ctors found.gaps.items)
     unless_wild heads c.in_ok-found.ensures.found))

@@ -1,14 +1,13 @@
 use Rattle.std.proofs.Common.{Some, sym, ◌∙◌}
 use Rattle.pattern_arena.specs.Trees.{tree}
-use Rattle.decision_tree.proofs.Marks.{marked-wild, marked-open}
+use Rattle.decision_tree.proofs.Marks.{wild-stays, open-off}
 use Rattle.decision_tree.proofs.wild.mark_pattern.Goals as goal
 
 pub returns-then-is_wild_pat : goal.returns-then-is_wild_pat
 returns-then-is_wild_pat g c =
-    sym (marked-wild c.args.at c.args.marks.now (Some (tree c.args.pat.now))
-    (sym c.is_wild_pat.ensures ∙ c.if-is_wild_pat.true))
+    wild-stays c.args.at c.args.marks.now (Some (tree c.args.pat.now)) (sym c.is_wild_pat.ensures ∙ c.if-is_wild_pat.true)
 
 pub returns : goal.returns
 returns g c =
-    sym (marked-open c.args.at c.args.marks.now (Some (tree c.args.pat.now)) c.requires
-    (sym c.is_wild_pat.ensures ∙ c.if-is_wild_pat.false))
+    open-off c.args.at c.args.marks.now (Some (tree c.args.pat.now)) c.requires
+    (sym c.is_wild_pat.ensures ∙ c.if-is_wild_pat.false)

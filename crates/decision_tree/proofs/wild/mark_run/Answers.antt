@@ -1,13 +1,13 @@
-use Rattle.std.proofs.Common.{◌≡◌, length, ap, sym, ◌∙◌, arith}
+use Rattle.std.proofs.Common.{◌≡◌, length, ap, sym, subst, arith}
 use Rattle.keyed_matrix.specs.Views.{plain_run}
-use Rattle.decision_tree.specs.WildColumns.{marked_from}
-use Rattle.decision_tree.proofs.Marks.{marked-wilds}
+use Rattle.decision_tree.specs.WildColumns.{StayWhereWild}
+use Rattle.decision_tree.proofs.Marks.{wilds-stay}
 use Rattle.decision_tree.proofs.wild.mark_run.Goals as goal
 
 pub returns-in-Wilds : goal.returns-in-Wilds
 returns-in-Wilds g c =
-    sym (ap (λ r. marked_from c.args.at c.args.marks.now (plain_run r)) c.in-Wilds.is
-    ∙ marked-wilds _ c.args.at c.in-Wilds._count c.args.marks.now)
+    subst (λ r. StayWhereWild c.args.at (plain_run r) c.args.marks.now c.args.marks.now) (sym c.in-Wilds.is)
+    (wilds-stay c.args.at c.in-Wilds._count c.args.marks.now)
 
 pub mark_pattern-requires : goal.mark_pattern-requires
 mark_pattern-requires g c =
@@ -16,4 +16,5 @@ mark_pattern-requires g c =
 
 pub returns-in-Written : goal.returns-in-Written
 returns-in-Written g c =
-    c.mark_pattern.ensures ∙ sym (ap (λ r. marked_from c.args.at c.args.marks.now (plain_run r)) c.in-Written.is)
+    subst (λ r. StayWhereWild c.args.at (plain_run r) c.args.marks.now c.mark_pattern.new.marks) (sym c.in-Written.is)
+    c.mark_pattern.ensures

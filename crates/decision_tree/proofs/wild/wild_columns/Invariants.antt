@@ -1,7 +1,7 @@
-use Rattle.std.proofs.Common.{◌≡◌, true, replicate, take}
+use Rattle.std.proofs.Common.{take}
 use Rattle.keyed_matrix.specs.Views.{plain_rows}
-use Rattle.decision_tree.specs.WildColumns.{all_marked}
+use Rattle.decision_tree.specs.WildColumns.{AreWildMarks}
 use Rattle.decision_tree.proofs.wild.wild_columns.Given as goal
 
 abbrev pub invariant-loop-row : goal.invariant-loop-row
-invariant-loop-row g l = l.marks.items ≡ all_marked (replicate l.columns true) (plain_rows (take l.row-index l.rows))
+invariant-loop-row g l = AreWildMarks l.columns (plain_rows (take l.row-index l.rows)) l.marks.items

@@ -1,11 +1,9 @@
-use Rattle.std.proofs.Common.{◌≡◌, ◌<◌, ◌+◌, ◌-◌, ◌∙◌, true, length, replicate, slice_get, ap, sym, subst, arith}
+use Rattle.std.proofs.Common.{◌≡◌, ◌<◌, ◌+◌, ◌-◌, ◌∙◌, length, Some, ap, sym, subst, arith}
 use Rattle.std.specs.List.{All}
-use Rattle.std.proofs.lemmas.List.{length-map, length-replicate}
+use Rattle.std.proofs.lemmas.List.{length-map}
 use Rattle.match_model.specs.Lowering.{all_wild_at}
 use Rattle.keyed_matrix.specs.Views.{plain_column, plain_rows}
 use Rattle.decision_tree.specs.Matrices.{matrix_columns, matrix_rows}
-use Rattle.decision_tree.specs.WildColumns.{all_marked}
-use Rattle.decision_tree.proofs.Marks.{all-long, column-mark}
 use Rattle.decision_tree.proofs.Reading.{read-one}
 use Rattle.decision_tree.proofs.WildOut.{ArePartlyOut, every-all, out-begun, out-more}
 use Rattle.decision_tree.proofs.wild.without_wild.Goals as goal
@@ -27,9 +25,7 @@ wild_columns-requires g c =
 pub index-requires : goal.index-requires
 index-requires g c =
     let count = c.len-count.result in
-    let rows = plain_rows c.deref.result.now in
-    let long : length c.in_ok-marks.marks.items ≡ count =
-    ap length c.in_ok-marks.ensures ∙ all-long (replicate count true) rows ∙ length-replicate count true in
+    let long : length c.in_ok-marks.marks.items ≡ count = c.in_ok-marks.ensures.long in
     let ok = c.in_ok-marks.marks.ok.0 in
     omega (arith, long, ok, c.loop-k-test.true)
 
@@ -42,10 +38,9 @@ without_wild_at-requires-clause-wild g c =
     let below : k < count = c.loop-k-test.true in
     let inside : i < count = omega (arith, below) in
     let before : i < count - k = omega (arith, below) in
-    let mark = column-mark rows count i inside in
-    let marks = c.in_ok-marks.ensures ∙ ap (λ rs. all_marked (replicate count true) (plain_rows rs)) c.deref.ensures.value in
     read-one c.in_ok-marks.marks.items i c.index.result.now (all_wild_at i rows)
-    (ap (λ bs. slice_get bs i) marks ∙ mark) c.index.ensures
+    (c.in_ok-marks.ensures.are i inside ∙ ap (λ rs. Some (all_wild_at i (plain_rows rs))) c.deref.ensures.value)
+    c.index.ensures
     ∙ sym (c.loop-k.invariant.before i before)
 
 pub loop-k-init : goal.loop-k-init
