@@ -67,6 +67,3 @@ fn is_same_name(name: &str, other: &str) -> bool
 {
     name == other
 }
-
-#[cfg(test)]
-mod tests;

@@ -32,16 +32,3 @@ pub fn piece_values_are_told<C: PatCx>(cx: &C)
 pub fn missing_is_of_values<C: PatCx>(cx: &C)
     ensures { MissingIsOfValues (C.is_value cx.now) (C.context cx.now) }
 {}
-
-#[cfg(test)]
-mod tests {
-    use super::*;
-    use pat_context::toy::Toy;
-
-    // a generic law is proved from its bounds alone, so it is called once at a type
-    #[test]
-    fn laws_hold_at_the_toy_context(_rt: HostRuntime) {
-        piece_values_are_told(&Toy);
-        missing_is_of_values(&Toy);
-    }
-}

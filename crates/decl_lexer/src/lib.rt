@@ -22,8 +22,6 @@ mod numbers;
 mod pieces;
 mod read;
 mod stored;
-#[cfg(test)]
-mod tests;
 mod text;
 mod texts;
 mod token;

@@ -23,8 +23,6 @@ mod levels;
 mod lists;
 mod pattern;
 mod stop;
-#[cfg(test)]
-mod tests;
 mod tree;
 mod ty;
 mod widths;

@@ -9,7 +9,5 @@
 mod enums;
 mod functions;
 mod source;
-#[cfg(test)]
-mod tests;
 
 pub use source::demo_source;

@@ -10,8 +10,6 @@
 #![tactic(auto)]
 
 mod spots;
-#[cfg(test)]
-mod tests;
 mod windows;
 
 pub use spots::{Spot, begins_character, checkpoints, spot_of};

@@ -10,8 +10,6 @@
 mod code;
 mod places;
 mod scan;
-#[cfg(test)]
-mod tests;
 mod whites;
 
 pub use places::{arm_places, body_places, function_places};

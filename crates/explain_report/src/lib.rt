@@ -13,8 +13,6 @@ mod lists;
 mod records;
 mod report;
 mod skim;
-#[cfg(test)]
-mod tests;
 
 pub use fields::{items_at, text_at};
 pub use records::{Function, Judged, Overlap, ReadFault, Refused, Report, Unreached, Verdict};

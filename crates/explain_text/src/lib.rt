@@ -15,8 +15,6 @@ mod notes;
 mod order;
 mod shown;
 mod source;
-#[cfg(test)]
-mod tests;
 mod texts;
 
 pub use explaining::{Explained, Fault, explain};

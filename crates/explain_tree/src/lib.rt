@@ -14,7 +14,5 @@ mod lines;
 mod nodes;
 mod pictures;
 mod reading;
-#[cfg(test)]
-mod tests;
 
 pub use pictures::{Fault, picture};

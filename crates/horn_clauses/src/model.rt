@@ -51,6 +51,3 @@ fn holds_throughout(body: &[u32], marks: &[bool]) -> bool
     }
     true
 }
-
-#[cfg(test)]
-mod tests;

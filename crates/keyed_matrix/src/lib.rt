@@ -37,6 +37,3 @@ pub use order::in_order;
 pub use rows::{Caught, HeadRun, KeyedColumn, KeyedRow};
 pub use steps::{dropped_rows, expanded_rows, piece_rows};
 pub use taken_apart::are_apart;
-
-#[cfg(test)]
-mod tests;

@@ -18,14 +18,3 @@ pub fn ways_ascend<T>()
 pub fn arms_are_numbered<T>()
     ensures { ArmsAreNumbered T }
 {}
-
-#[cfg(test)]
-mod tests {
-    use super::*;
-
-    #[test]
-    fn generic_laws_hold_at_a_type(_rt: HostRuntime) {
-        ways_ascend::<u32>();
-        arms_are_numbered::<u32>();
-    }
-}

@@ -7,8 +7,6 @@
 
 mod members;
 mod names;
-#[cfg(test)]
-mod tests;
 
 pub use members::{are_among, have_same_members, repeats};
 pub use names::{names_are_among, names_repeat};

@@ -28,11 +28,7 @@ mod selecting;
 mod source;
 mod statuses;
 mod telling;
-#[cfg(test)]
-mod tests;
 mod top;
-#[cfg(test)]
-mod tree_tests;
 mod trees;
 mod words;
 mod writing;

@@ -1,4 +1,3 @@
 pub mod TreeFacts
-mod FlagMatch
 pub mod OneReadingList
 pub mod Held

@@ -24,6 +24,3 @@ mod placer;
 pub use matches::{CheckedArm, CheckedMatch};
 pub use pattern::{Bound, DePat, Part};
 pub use placer::Placer;
-
-#[cfg(test)]
-mod tests;

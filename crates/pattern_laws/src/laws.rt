@@ -120,19 +120,3 @@ pub fn files_are_sound()
 pub fn parsed_arms_are_sound()
     ensures { ParsedArmsAreSound }
 {}
-
-#[cfg(test)]
-mod tests {
-    use super::*;
-
-    // a generic law is proved from its bounds alone, so each is called once at a type
-    #[test]
-    fn generic_laws_hold_at_a_type(_rt: HostRuntime) {
-        shown_match_is_kept::<u32>();
-        shown_names_differ::<u32>();
-        shown_arm_is_typed::<u32>();
-        shown_match_is_well_typed::<u32>();
-        judged_shown_match::<u32>();
-        tree_of_shown_match::<u32>();
-    }
-}

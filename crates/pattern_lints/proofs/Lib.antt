@@ -26,4 +26,3 @@ pub mod OverlapOrder
 pub mod PairList
 pub mod Whole
 pub mod Facing
-mod FlagMatch

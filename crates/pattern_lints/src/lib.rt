@@ -22,6 +22,3 @@ mod places;
 mod spots;
 
 pub use list::overlaps;
-
-#[cfg(test)]
-mod tests;

@@ -22,20 +22,6 @@ pub fn witnesses_are_of_the_type<C: PatCx>(cx: &C)
     ensures { WitnessesAreOfType (C.is_type cx.now) (C.is_value cx.now) (C.context cx.now) }
 {}
 
-#[cfg(test)]
-mod tests {
-    use super::*;
-    use pat_context::toy::Toy;
-
-    // a generic law is proved from its bounds alone, so each is called once at a type
-    #[test]
-    fn laws_hold_at_the_toy_context(_rt: HostRuntime) {
-        witness_lists_are_covers(&Toy);
-        empty_lists_are_exhaustive(&Toy);
-        witnesses_are_of_the_type(&Toy);
-    }
-}
-
 /// Wrapping the first witnesses of a stack in a constructor keeps exactly which values fit: the new stack fits values
 /// exactly where the constructor builds the first of them and the old stack fits its parts and the others.
 pub fn wrapping_keeps_fits()

@@ -20,8 +20,6 @@ mod opening;
 pub mod reach_laws;
 mod rows;
 mod spans;
-#[cfg(test)]
-mod tests;
 mod without;
 
 pub use chosen::Chosen;

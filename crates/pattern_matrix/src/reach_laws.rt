@@ -68,25 +68,3 @@ pub fn judged_by_marks<C: PatCx>(cx: &C)
 pub fn left_is_unreachable<C: PatCx>(cx: &C)
     ensures { LeftIsUnreachable (C.is_value cx.now) }
 {}
-
-#[cfg(test)]
-mod tests {
-    use super::*;
-    use pat_context::toy::Toy;
-
-    // a generic law is proved from its bounds alone, so each is called once at a type
-    #[test]
-    fn generic_laws_hold_at_a_type(_rt: HostRuntime) {
-        rows_tell::<u32>();
-        expanding_keeps_counts::<u32>();
-        splits_hand_on(&Toy);
-        rows_are_listed::<u32>();
-        places_may_be_moved(&Toy);
-        search_is_exact(&Toy);
-        found_is_cut(&Toy);
-        first_submatrix_tells(&Toy);
-        exhaustive_has_none(&Toy);
-        judged_by_marks(&Toy);
-        left_is_unreachable(&Toy);
-    }
-}

@@ -61,6 +61,3 @@ fn pieces_between(alloc: Global, whole: &Range, cuts: &Cuts) -> Result<Vec<(Rang
     pieces.push(walk.last(&whole.high()))?;
     Ok(pieces)
 }
-
-#[cfg(test)]
-mod tests;

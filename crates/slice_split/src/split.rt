@@ -158,6 +158,3 @@ fn short_pieces(alloc: Global, marks: &[bool], least: u64) -> Result<Vec<(Shape,
     }
     Ok(pieces)
 }
-
-#[cfg(test)]
-mod tests;

@@ -17,6 +17,3 @@ mod value;
 pub use table::NodeTable;
 pub use tree::{Bind, Case, Node, Tree};
 pub use value::Value;
-
-#[cfg(test)]
-mod tests;

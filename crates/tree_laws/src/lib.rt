@@ -32,17 +32,3 @@ pub fn trees_are_of_the_type<C: PatCx>(cx: &C)
 pub fn match_tree_is_one<C: PatCx>(cx: &C)
     ensures { MatchTreeIsOne (C.is_value cx.now) (C.context cx.now) }
 {}
-
-#[cfg(test)]
-mod tests {
-    use super::*;
-    use pat_context::toy::Toy;
-
-    // a generic law is proved from its bounds alone, so each is called once at a type
-    #[test]
-    fn laws_hold_at_the_toy_context(_rt: HostRuntime) {
-        trees_are_good(&Toy);
-        trees_are_of_the_type(&Toy);
-        match_tree_is_one(&Toy);
-    }
-}

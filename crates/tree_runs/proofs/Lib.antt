@@ -5,4 +5,3 @@ pub mod Ends
 pub mod Entered
 pub mod Ordered
 pub mod Told
-pub mod TwoNodes

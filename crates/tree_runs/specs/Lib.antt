@@ -3,4 +3,3 @@ pub mod Held
 pub mod Runs
 pub mod Turns
 pub mod Laws
-pub mod Examples

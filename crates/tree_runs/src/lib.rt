@@ -20,6 +20,3 @@ mod turn;
 pub use arms::arm_at;
 pub use held::{Held, bindings};
 pub use run::{Outcome, asked, follow};
-
-#[cfg(test)]
-mod tests;

@@ -11,8 +11,6 @@
 mod named;
 mod node;
 mod place;
-#[cfg(test)]
-mod tests;
 
 pub use named::{NamedBranch, NamedCase, NamedNode};
 pub use node::push_tree;

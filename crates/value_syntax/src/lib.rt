@@ -13,8 +13,6 @@
 mod laws;
 mod literals;
 mod reading;
-#[cfg(test)]
-mod tests;
 mod value;
 mod writing;
 

@@ -14,8 +14,6 @@ mod refusal;
 mod report;
 mod rules;
 mod summary;
-#[cfg(test)]
-mod tests;
 
 pub use entry::Unreachable;
 pub use outcome::{AskedText, EndingText, HeldText, OutcomeText, outcome_bytes};

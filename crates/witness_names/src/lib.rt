@@ -25,6 +25,3 @@ mod values;
 pub use naming::{name_witness, name_witnesses};
 pub use trees::name_tree;
 pub use values::name_value;
-
-#[cfg(test)]
-mod tests;

@@ -16,8 +16,6 @@ mod pattern;
 mod quoting;
 mod ranges;
 mod report;
-#[cfg(test)]
-mod tests;
 mod tree;
 
 pub use named::{FormName, NamedField, NamedWitness};

@@ -1,0 +1,2 @@
+mod FlagMatch
+mod TwoNodes

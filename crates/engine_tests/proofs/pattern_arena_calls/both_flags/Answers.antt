@@ -1,0 +1,15 @@
+use Rattle.pattern_arena.specs.Trees.{plain_arm}
+use Rattle.engine_tests.proofs.FlagMatch.{are_typed, are_exhaustive, are_reached}
+use Rattle.engine_tests.proofs.pattern_arena_calls.both_flags.Goals as goal
+
+pub returns-clause-typed : goal.returns-clause-typed
+returns-clause-typed c =
+    rw c.in_ok-arms.ensures (are_typed (plain_arm c.flag_arm.result) (plain_arm c.flag_arm-2.result) (c.flag_arm.ensures, c.flag_arm-2.ensures))
+
+pub returns-clause-exhaustive : goal.returns-clause-exhaustive
+returns-clause-exhaustive c =
+    rw c.in_ok-arms.ensures (are_exhaustive (plain_arm c.flag_arm.result) (plain_arm c.flag_arm-2.result) (c.flag_arm.ensures, c.flag_arm-2.ensures))
+
+pub returns-clause-reachable : goal.returns-clause-reachable
+returns-clause-reachable c =
+    rw c.in_ok-arms.ensures (are_reached (plain_arm c.flag_arm.result) (plain_arm c.flag_arm-2.result) (c.flag_arm.ensures, c.flag_arm-2.ensures))

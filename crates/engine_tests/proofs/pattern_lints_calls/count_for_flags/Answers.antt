@@ -1,0 +1,6 @@
+use Rattle.pattern_arena.specs.Trees.{plain_arm}
+use Rattle.engine_tests.proofs.FlagMatch.{are_typed}
+use Rattle.engine_tests.proofs.pattern_lints_calls.count_for_flags.Goals as goal
+
+pub overlaps-requires : goal.overlaps-requires
+overlaps-requires c = are_typed (plain_arm c.flag_arm-first.result) (plain_arm c.flag_arm-second.result) (c.flag_arm-first.ensures, c.flag_arm-second.ensures)
