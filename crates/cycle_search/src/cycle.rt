@@ -106,6 +106,3 @@ fn are_below(nodes: &[u32], numbers: &[u32], limit: u32) -> bool
     }
     true
 }
-
-#[cfg(test)]
-mod tests;

@@ -1,12 +1,14 @@
-//! Tests of the engine, of trees and of the small algorithms below them: that calls succeed with ample memory, and that what is
-//! generic is called at a type, mostly over the toy context of `pat_context`. There is nothing here but tests, and nothing
-//! stands on this crate, so no other crate is proved a second time with tests.
+//! Tests of the engine, of trees and of the small algorithms below them: that calls succeed with ample memory, and that
+//! what is generic is called at a type, mostly over the toy context of `pat_context`. There is nothing here but tests, and
+//! nothing stands on this crate, so no other crate is proved a second time with tests.
 #![tactic(auto)]
 
 #[cfg(test)]
 mod bound_types_calls;
 #[cfg(test)]
 mod constructor_sets_calls;
+#[cfg(test)]
+mod cycle_search_calls;
 #[cfg(test)]
 mod horn_clauses_calls;
 #[cfg(test)]

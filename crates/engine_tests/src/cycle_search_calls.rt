@@ -2,8 +2,7 @@
 ghost use Rattle.std.specs.Prelude.{◌↔◌, IsTrue};
 ghost use Rattle.cycle_search.specs.Graphs.{HasTargetsBelow};
 
-use super::first_on_cycle;
-use crate::components::component_numbers;
+use cycle_search::first_on_cycle;
 use no_memory::NoMemory;
 use std::alloc::{AllocError, Global};
 use std::process::Abort;
@@ -39,25 +38,6 @@ fn show(
     );
     let answer = first_on_cycle(alloc, edges)?;
     assert_eq!(rt; answer, expected);
-    Ok(())
-}
-
-// The numbers of the components are the expected ones. The conditions of the call are met by each row.
-fn show_numbers(
-    rt: &impl Abort,
-    alloc: Global,
-    edges: &[Vec<u32>],
-    expected: &[u32],
-) -> Result<(), AllocError> {
-    assert!(rt; edges.len() < 4_000_000_000);
-    let count = edges.len() as u32;
-    assert!(rt;
-        edges
-            .iter()
-            .all(|targets| has_targets_below(targets, count))
-    );
-    let numbers = component_numbers(alloc, edges)?;
-    assert_eq!(rt; numbers.as_slice(), expected);
     Ok(())
 }
 
@@ -100,26 +80,6 @@ fn first_nodes(rt: HostRuntime) -> Result<(), NoMemory> {
     Ok(())
 }
 
-// The components as a search from node 0 on completes them: of a chain, of ways that meet, of a cycle in a cycle, of a
-// cycle behind a node, and of two cycles with a way between them. That the time is linear rests on these numbers.
-#[test]
-fn numbers_of_components(rt: HostRuntime) -> Result<(), NoMemory> {
-    let alloc = rt.alloc();
-    let rows: [(&[&[u32]], &[u32]); 6] = [
-        (&[], &[]),
-        (&[&[1], &[2], &[]], &[2, 1, 0]),
-        (&[&[1, 2], &[], &[1]], &[2, 0, 1]),
-        (&[&[1], &[2], &[0, 3], &[1]], &[0, 0, 0, 0]),
-        (&[&[1], &[2], &[1, 3], &[2]], &[1, 0, 0, 0]),
-        (&[&[3], &[2], &[1, 0], &[4], &[3]], &[1, 2, 2, 0, 0]),
-    ];
-    for (rows, expected) in rows {
-        let edges = graph_of(alloc, rows)?;
-        show_numbers(&rt, alloc, &edges, expected)?;
-    }
-    Ok(())
-}
-
 // 500,000 nodes in a chain that ends, and in one whose last node goes back to the one before it.
 #[test]
 fn long_chains(rt: HostRuntime) -> Result<(), NoMemory> {
@@ -128,4 +88,23 @@ fn long_chains(rt: HostRuntime) -> Result<(), NoMemory> {
     show(&rt, alloc, &edges, None)?;
     let edges = chain(alloc, 500_000, Some(499_998))?;
     show(&rt, alloc, &edges, Some(499_998))
+}
+
+// Each node but the last two goes to the next and to the one behind it.
+fn long_ways(alloc: Global, length: u32) -> Result<Vec<Vec<u32>>, AllocError> {
+    let mut edges = Vec::new(alloc);
+    for next in 2..length {
+        edges.push(vec![in alloc; next - 1, next]?)?;
+    }
+    edges.push(Vec::new(alloc))?;
+    edges.push(Vec::new(alloc))?;
+    Ok(edges)
+}
+
+// 500,000 nodes whose ways part and meet, and of which none is on a cycle.
+#[test]
+fn long_ways_that_meet(rt: HostRuntime) -> Result<(), NoMemory> {
+    let alloc = rt.alloc();
+    let edges = long_ways(alloc, 500_000)?;
+    show(&rt, alloc, &edges, None)
 }
