@@ -1,6 +1,6 @@
 //! Tests of the engine, of trees and of the small algorithms below them: that calls succeed with ample memory, and that
-//! what is generic is called at a type, mostly over the toy context of `pat_context`. There is nothing here but tests, and
-//! nothing stands on this crate, so no other crate is proved a second time with tests.
+//! what is generic is called at a type, mostly over the toy context of `pat_context`. There is nothing here but tests,
+//! and nothing stands on this crate, so no other crate is proved a second time with tests.
 #![tactic(auto)]
 
 #[cfg(test)]

@@ -1,5 +1,6 @@
-//! Tests of `match_io` and of what reads and writes texts: that calls succeed with ample memory, and what they write. There
-//! is nothing here but tests, and nothing stands on this crate, so no other crate is proved a second time with tests.
+//! Tests of `match_io` and of what reads and writes texts: that calls succeed with ample memory, and what they write.
+//! There is nothing here but tests, and nothing stands on this crate, so no other crate is proved a second time with
+//! tests.
 #![tactic(auto)]
 
 #[cfg(test)]
