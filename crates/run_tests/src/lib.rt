@@ -1,6 +1,6 @@
 //! Tests of the top call: statuses, faults of files and sinks, and the calls below it that take memory; and the generic
-//! laws of `pattern_laws` at a type. There is nothing here but tests, and nothing stands on this crate, so no other crate
-//! is proved a second time with tests.
+//! laws of `pattern_laws` at a type. There is nothing here but tests, and nothing stands on this crate, so no other
+//! crate is proved a second time with tests.
 #![tactic(auto)]
 
 #[cfg(test)]
