@@ -168,7 +168,7 @@ const OTHER_FORMS: &str =
 const ALL_FORMS: &str =
     "{\"functions\":[{\"exhaustive\":true,\"name\":\"f\",\"overlaps\":[],\"unreachable\":[],\"witnesses\":[]}]}\n";
 
-// Alternatives in ten columns, of which more than 256 submatrices are looked at, so that those looked at before are noted.
+// Alternatives in ten columns, of which more than 128 submatrices are looked at, so that those looked at before are noted.
 const MANY_COLUMNS: &str =
     "fn f(x:(bool,bool,bool,bool,bool,bool,bool,bool,bool,bool)){match x{(true|false,true|false,\
     true|false,true|false,true|false,true|false,true|false,true|false,true|false,true|false)=>1}}";

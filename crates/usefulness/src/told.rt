@@ -9,7 +9,7 @@ use std::alloc::Global;
 
 // How many submatrices are looked at before the first one is noted: on small matches to tell them takes longer than to
 // look at them again.
-const UNTOLD: usize = 256;
+const UNTOLD: usize = 128;
 
 // How many words are noted at most, so that they and their lists take less than half a gigabyte. What is not noted is
 // only looked at again.
