@@ -317,3 +317,6 @@ impl Sink for MemorySink {
         Ok(count)
     }
 }
+
+#[cfg(test)]
+mod tests;

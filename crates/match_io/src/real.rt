@@ -107,3 +107,6 @@ impl<'a, R: Print> Sink for RealOut<'a, R> {
         }
     }
 }
+
+#[cfg(test)]
+mod tests;

@@ -29,6 +29,8 @@ mod source;
 mod statuses;
 mod telling;
 mod top;
+#[cfg(test)]
+mod tree_tests;
 mod trees;
 mod words;
 mod writing;

@@ -1,6 +1,5 @@
-//! Tests of `match_io` and of what reads and writes texts: that calls succeed with ample memory, and what they write.
-//! There is nothing here but tests, and nothing stands on this crate, so no other crate is proved a second time with
-//! tests.
+//! Tests of what reads and writes texts: that calls succeed with ample memory, and what they write. There is nothing
+//! here but tests, and nothing stands on this crate, so no other crate is proved a second time with tests.
 #![tactic(auto)]
 
 #[cfg(test)]
@@ -19,8 +18,6 @@ mod explain_report_calls;
 mod explain_text_calls;
 #[cfg(test)]
 mod explain_tree_calls;
-#[cfg(test)]
-mod match_io_calls;
 #[cfg(test)]
 mod tree_text_calls;
 #[cfg(test)]
