@@ -17,7 +17,7 @@ pub(crate) struct PatChoice<'a, T: Copy> {
     // The pattern, which is no or-pattern.
     pub(crate) pat: &'a DePat<'a, T>,
     // The uids of the alternatives that were chosen on the way to it.
-    pub(crate) chosen: SmallVec<u64, 8>,
+    pub(crate) chosen: SmallVec<u64, 2>,
     // The names that were bound around it.
     pub(crate) binds: Vec<Bound<'a>>,
 }
@@ -38,7 +38,7 @@ fn choosing(
     chosen: &[u64],
     uid: u64,
     several: bool,
-) -> Result<SmallVec<u64, 8>, NoMemory>
+) -> Result<SmallVec<u64, 2>, NoMemory>
     ensures { IfOk result (λ c. c.items ≡ chosen.now ++ cond several (uid ∷ []) []) }
 {
     let mut all = SmallVec::from_slice(alloc, chosen)?;

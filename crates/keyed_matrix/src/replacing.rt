@@ -15,7 +15,7 @@ use smallvec::SmallVec;
 use std::alloc::Global;
 
 // The alternatives that were chosen before, and these.
-fn both_chosen(alloc: Global, chosen: &[u64], more: &[u64]) -> Result<SmallVec<u64, 8>, NoMemory>
+fn both_chosen(alloc: Global, chosen: &[u64], more: &[u64]) -> Result<SmallVec<u64, 2>, NoMemory>
     ensures { IfOk result (λ c. c.items ≡ chosen.now ++ more.now) }
 {
     let mut all = SmallVec::from_slice(alloc, chosen)?;

@@ -38,7 +38,7 @@ pub struct KeyedRow<'a, T: Copy> {
     /// Whether the arm has a guard.
     pub guarded: bool,
     /// The uids of the alternatives that were chosen on the way to the row.
-    pub chosen: SmallVec<u64, 8>,
+    pub chosen: SmallVec<u64, 2>,
     /// The names that were caught on the way to the row.
     pub caught: Vec<Caught<'a>>,
 }
