@@ -53,30 +53,6 @@ pub fn piece_columns<'a, C: PatCx>(
     replaced_columns(alloc, columns, i, &parts)
 }
 
-// The same column.
-fn same_column<'a, T: Copy>(column: &KeyedColumn<'a, T>) -> KeyedColumn<'a, T>
-    ensures { result ≡ column.now }
-{
-    KeyedColumn {
-        place: column.place,
-        ty: column.ty,
-        validity: column.validity,
-    }
-}
-
-// Adds the columns.
-fn add_columns<'a, T: Copy>(
-    all: &mut Vec<KeyedColumn<'a, T>>,
-    more: &[KeyedColumn<'a, T>],
-) -> Result<(), NoMemory>
-    ensures { OnOk result (all.new.items ≡ all.old.items ++ more.now) }
-{
-    for column in more {
-        all.push(same_column(column))?;
-    }
-    Ok(())
-}
-
 // The columns with these in place of the column with the number.
 fn replaced_columns<'a, T: Copy>(
     alloc: Global,
@@ -88,10 +64,11 @@ fn replaced_columns<'a, T: Copy>(
     ensures { IfOk result (λ v. plain_columns v.items
         ≡ replaced_at i (plain_columns columns.now) (plain_columns new.now)) }
 {
-    let mut all = Vec::new(alloc);
-    add_columns(&mut all, &columns[..i])?;
-    add_columns(&mut all, new)?;
-    add_columns(&mut all, &columns[i + 1..])?;
+    let room = columns.len().saturating_add(new.len());
+    let mut all = Vec::with_capacity(alloc, room)?;
+    all.extend_from_slice(&columns[..i])?;
+    all.extend_from_slice(new)?;
+    all.extend_from_slice(&columns[i + 1..])?;
     Ok(all)
 }
 
@@ -111,20 +88,22 @@ fn part_columns<'a, C: PatCx>(
         ≡ part_columns (C.context cx.now) (plain_column column.now) (plain_ctor piece.now)) }
 {
     let count = count_parts(cx, piece, column.ty);
-    let mut all = Vec::new(alloc);
+    let mut steps = Vec::with_capacity(alloc, column.place.len().saturating_add(1))?;
+    steps.extend_from_slice(column.place)?;
+    let mut all = Vec::with_capacity(alloc, count)?;
     for k in 0..count {
-        let part = part_column(alloc, arena, cx, column, piece, k)?;
+        let part = part_column(arena, cx, column, &mut steps, piece, k)?;
         all.push(part)?;
     }
     Ok(all)
 }
 
-// The column of the part with the number.
+// The column of the part with the number. The steps are those of the column's place, before and after.
 fn part_column<'a, C: PatCx>(
-    alloc: Global,
     arena: &'a Bump<Global>,
     cx: &C,
     column: &KeyedColumn<'a, C::Ty>,
+    steps: &mut Vec<Step>,
     piece: &Ctor,
     k: usize,
 ) -> Result<KeyedColumn<'a, C::Ty>, NoMemory>
@@ -132,12 +111,14 @@ fn part_column<'a, C: PatCx>(
     requires belongs { IsTrue (belongs ((C.context cx.now).set_of column.now.ty) (plain_ctor piece.now)) }
     requires held { HasFewItems (plain_ctor piece.now) }
     requires below { k < (C.context cx.now).arity (plain_ctor piece.now) column.now.ty }
-    ensures { IfOk result (λ c. plain_column c
+    requires steps { steps.old.items ≡ column.now.place.now }
+    ensures same { OnOk result (steps.new.items ≡ steps.old.items) }
+    ensures column { IfOk result (λ c. plain_column c
         ≡ column_at (plain_place column.now.place.now ++ part_step (plain_ctor piece.now) k ∷ [])
         (part_open (C.context cx.now) (open_of (plain_column column.now)) (plain_ctor piece.now) k)) }
 {
     let step = step_to(piece, k);
-    let place = place_inside(alloc, arena, column.place, step)?;
+    let place = place_inside(arena, steps, step)?;
     Ok(KeyedColumn {
         place,
         ty: part_type(cx, piece, column.ty, k),
@@ -145,18 +126,18 @@ fn part_column<'a, C: PatCx>(
     })
 }
 
-// The place one step inside, put into the arena.
+// The place one step inside that of the steps, put into the arena. The steps are the same afterwards.
 fn place_inside<'a>(
-    alloc: Global,
     arena: &'a Bump<Global>,
-    place: &[Step],
+    steps: &mut Vec<Step>,
     step: Step,
 ) -> Result<&'a [Step], NoMemory>
-    ensures { IfOk result (λ p. plain_place p.now ≡ plain_place place.now ++ plain_step step ∷ []) }
+    ensures same { OnOk result (steps.new.items ≡ steps.old.items) }
+    ensures place { IfOk result (λ p. plain_place p.now ≡ plain_place steps.old.items ++ plain_step step ∷ []) }
 {
-    let mut steps = Vec::from_slice(alloc, place)?;
     steps.push(step)?;
-    let placed = arena.try_alloc_slice_copy(&steps)?;
+    let placed = arena.try_alloc_slice_copy(steps)?;
+    let _last = steps.pop();
     Ok(placed)
 }
 

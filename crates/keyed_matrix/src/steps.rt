@@ -243,7 +243,7 @@ fn part_heads<'a, T: Copy>(
         Ctor::Wild => wilds(alloc, count),
         Ctor::Row(Shape::Longer { front, back }) => end_heads(alloc, p.subs, front, back, count),
         _ => {
-            let mut heads = Vec::new(alloc);
+            let mut heads = Vec::with_capacity(alloc, p.subs.len())?;
             add_subs(&mut heads, p.subs)?;
             Ok(heads)
         }
@@ -263,7 +263,7 @@ fn end_heads<'a, T: Copy>(
 {
     let cut = subs.len().min(front as usize);
     let (start, end) = subs.split_at(cut);
-    let mut heads = Vec::new(alloc);
+    let mut heads = Vec::with_capacity(alloc, subs.len().saturating_add(1))?;
     add_subs(&mut heads, start)?;
     let gap = count
         .saturating_sub(front as usize)

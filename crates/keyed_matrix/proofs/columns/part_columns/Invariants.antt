@@ -8,6 +8,9 @@ use Rattle.keyed_matrix.proofs.columns.part_columns.Given as goal
 
 abbrev pub invariant-loop-k : goal.invariant-loop-k
 invariant-loop-k g l =
-    plain_columns l.all.items
-    ≡ each_below (λ i. column_at ((plain_column l.column).place ++ part_step (plain_ctor l.piece) i ∷ [])
-    (part_open (g.C.PatCx.context l.cx) (open_of (plain_column l.column)) (plain_ctor l.piece) i)) l.k
+    record {
+      columns : plain_columns l.all.items
+          ≡ each_below (λ i. column_at ((plain_column l.column).place ++ part_step (plain_ctor l.piece) i ∷ [])
+          (part_open (g.C.PatCx.context l.cx) (open_of (plain_column l.column)) (plain_ctor l.piece) i)) l.k;
+      steps : l.steps.items ≡ l.column.place.now;
+    }
