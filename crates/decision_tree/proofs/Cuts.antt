@@ -314,11 +314,6 @@ leaf-read i r h chosen e none =
     ap (leaf_of (plain_pattern h)) none
     ∙ ap (λ q. leaf_of q []) (sym (same-head h) ∙ sym (there-got i (plain_row r).heads (plain_head h) e))
 
--- a row alone has a head there
-pub one-longer : {T : Type 0} (i : ℕ) (r : KeyedRow T) → i < length (plain_row r).heads → AreLonger i (plain_rows (r ∷ []))
-one-longer {T} i r l =
-    All-cons (λ (x : MRow T). i < length x.heads) (plain_row r) [] l (All-nil (λ (x : MRow T). i < length x.heads))
-
 -- what is read within a list does not depend on what would be read outside
 pub same-get : {A : Type 0} (xs : List A) (j : ℕ) (d e : A) → j < length xs → get_or xs j d ≡ get_or xs j e
 same-get [] j d e l = absurd (omega (arith, l))

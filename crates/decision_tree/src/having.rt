@@ -14,12 +14,11 @@ ghost use Rattle.keyed_matrix.specs.Views.{plain_row, plain_rows};
 ghost use Rattle.decision_tree.specs.Cuts.{column_leaf, column_leaves, mirrored, listed_at};
 
 use constructor_sets::Span;
-use keyed_matrix::{KeyedRow, head_at, piece_rows};
+use keyed_matrix::{KeyedRow, add_piece_row, head_at};
 use no_memory::NoMemory;
 use pat_context::{Ctor, Step};
 use pattern_matrix::{Chosen, Leaf, leaf_spans};
 use std::alloc::Global;
-use std::slice::from_ref;
 
 // The head of the row in the column, as a leaf.
 fn column_leaf<'a, T: Copy>(row: &KeyedRow<'a, T>, i: usize) -> Leaf<'a, T>
@@ -106,10 +105,9 @@ pub(crate) fn listed_rows<'a, T: Copy>(
     ensures { IfOk result (λ v. plain_rows v.items ≡ listed_at (specialise_head (plain_ctor piece.now) count)
         (plain_place place.now) i (plain_rows rows.now) numbers.now) }
 {
-    let mut all = Vec::new(alloc);
+    let mut all = Vec::with_capacity(alloc, numbers.len())?;
     for k in numbers {
-        let mut made = piece_rows(alloc, from_ref(&rows[*k]), i, place, piece, count)?;
-        all.append(&mut made)?;
+        add_piece_row(alloc, &mut all, &rows[*k], i, place, piece, count)?;
     }
     Ok(all)
 }

@@ -56,9 +56,9 @@ pub fn piece_rows<'a, T: Copy>(
     ensures { IfOk result (λ v. plain_rows v.items
         ≡ rows_at (specialise_head (plain_ctor piece.now) count) (plain_place place.now) i (plain_rows rows.now)) }
 {
-    let mut all = Vec::new(alloc);
+    let mut all = Vec::with_capacity(alloc, rows.len())?;
     for row in rows {
-        add_entered(alloc, &mut all, row, i, place, piece, count)?;
+        add_piece_row(alloc, &mut all, row, i, place, piece, count)?;
     }
     Ok(all)
 }
@@ -75,7 +75,7 @@ pub fn dropped_rows<'a, T: Copy>(
     ensures { IfOk result (λ v. plain_rows v.items
         ≡ rows_at default_head (plain_place place.now) i (plain_rows rows.now)) }
 {
-    let mut all = Vec::new(alloc);
+    let mut all = Vec::with_capacity(alloc, rows.len())?;
     for row in rows {
         add_dropped(alloc, &mut all, row, i, place)?;
     }
@@ -129,8 +129,9 @@ fn add_chosen<'a, T: Copy>(
     Ok(())
 }
 
-// Adds the row with the heads of the parts in place of its head at the column, where that has all of the piece.
-fn add_entered<'a, T: Copy>(
+/// Adds the row with the heads of the parts in place of its head at the column, where that has all of the piece of so many
+/// parts: what `piece_rows` makes of it. The only error is want of memory.
+pub fn add_piece_row<'a, T: Copy>(
     alloc: Global,
     all: &mut Vec<KeyedRow<'a, T>>,
     row: &KeyedRow<'a, T>,

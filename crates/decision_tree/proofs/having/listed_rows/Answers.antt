@@ -1,22 +1,17 @@
-use Rattle.std.proofs.Common.{◌++◌, ◌∙◌, take, get_or, sym, ap, subst}
-use Rattle.std.proofs.lemmas.List.{map-append}
-use Rattle.match_model.specs.Steps.{specialise_head, rows_at}
+use Rattle.std.proofs.Common.{◌++◌, ◌∙◌, take, get_or, sym, ap, append-nil}
+use Rattle.match_model.specs.Steps.{specialise_head}
 use Rattle.pat_context.specs.Views.{plain_ctor, plain_place}
-use Rattle.keyed_matrix.specs.Steps.{AreLonger}
+use Rattle.keyed_matrix.specs.Steps.{row_at}
 use Rattle.keyed_matrix.specs.Views.{plain_row, plain_rows}
 use Rattle.keyed_matrix.proofs.RowSteps.{longer-row}
 use Rattle.decision_tree.specs.Cuts.{listed_at}
-use Rattle.decision_tree.proofs.Cuts.{one-longer, same-get, listed-more}
+use Rattle.decision_tree.proofs.Cuts.{same-get, listed-more}
 use Rattle.decision_tree.proofs.having.listed_rows.Goals as goal
 
-pub piece_rows-requires : goal.piece_rows-requires
-piece_rows-requires g c =
-    let rows = c.args.rows.now in
-    let n = get_or c.args.numbers.now c.loop-k.k-index 0 in
-    let row = c.index-rows-k.result in
-    subst (λ rs. AreLonger c.args.i (plain_rows rs)) (sym c.from_ref.ensures.value)
-    (one-longer c.args.i row (longer-row c.args.i rows n row c.requires.longer
-    (c.requires.within c.loop-k.k-index 0 c.loop-k-test.true) c.index-rows-k.is))
+pub add_piece_row-requires : goal.add_piece_row-requires
+add_piece_row-requires g c =
+    longer-row c.args.i c.args.rows.now (get_or c.args.numbers.now c.loop-k.k-index 0) c.index-rows-k.result
+    c.requires.longer (c.requires.within c.loop-k.k-index 0 c.loop-k-test.true) c.index-rows-k.is
 
 pub loop-k-preserved : goal.loop-k-preserved
 loop-k-preserved g c =
@@ -28,10 +23,8 @@ loop-k-preserved g c =
     let i = c.args.i in
     let f = specialise_head (plain_ctor c.args.piece.now) c.args.count in
     let place = plain_place c.args.place.now in
-    let made = c.in_ok-made.made.items in
-    ap plain_rows c.in_ok-append.ensures.items ∙ map-append plain_row c.loop-k.all.items made
-    ∙ ap (λ xs. xs ++ plain_rows made) c.loop-k.invariant
-    ∙ ap (λ ys. listed_at f place i (plain_rows rows) (take j numbers) ++ ys)
-    (c.in_ok-made.ensures ∙ ap (λ rs. rows_at f place i (plain_rows rs)) c.from_ref.ensures.value)
+    let made = row_at f place i (plain_row row) in
+    c.in_ok-add_piece_row.ensures ∙ ap (λ xs. xs ++ made) c.loop-k.invariant
+    ∙ ap (λ ys. listed_at f place i (plain_rows rows) (take j numbers) ++ ys) (sym (append-nil made))
     ∙ sym (listed-more f place i rows numbers j n row c.loop-k-test.true (same-get numbers j 0 n c.loop-k-test.true) (c.requires.within j 0 c.loop-k-test.true)
     c.index-rows-k.is)

@@ -6,7 +6,7 @@ use Rattle.pattern_arena.specs.Trees.{plain_bound}
 use Rattle.keyed_matrix.specs.Views.{plain_heads, plain_row, plain_rows}
 use Rattle.keyed_matrix.specs.Steps.{row_at}
 use Rattle.keyed_matrix.proofs.RowSteps.{row-one, row-none, was-head, on-rows, no-rows, of_heads, specialised-has, specialised-lacks}
-use Rattle.keyed_matrix.proofs.steps.add_entered.Goals as goal
+use Rattle.keyed_matrix.proofs.steps.add_piece_row.Goals as goal
 
 pub returns-in_ok-heads-in-None : goal.returns-in_ok-heads-in-None
 returns-in_ok-heads-in-None g c =
