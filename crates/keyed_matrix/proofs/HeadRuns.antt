@@ -4,8 +4,9 @@ use Rattle.std.proofs.lemmas.List.{length-append, length-drop, take_all, drop_al
 use Rattle.std.proofs.lemmas.Option.{slice_get_within}
 use Rattle.match_model.specs.Steps.{replaced_at}
 use Rattle.keyed_matrix.proofs.Replaced.{replaced-parts}
-use Rattle.match_model.specs.Rows.{Head}
+use Rattle.match_model.specs.Rows.{Head, wildcards}
 use Rattle.keyed_matrix.specs.declared.rows.HeadRun.{HeadRun}
+use Rattle.keyed_matrix.specs.declared.rows.HeadRun.TheVariants.{Wilds}
 use Rattle.keyed_matrix.specs.Views.{plain_run, plain_heads}
 
 pub length-wilds : {A : Type 0} (n : ℕ) (x : A) → length (replicate n x) ≡ n
@@ -126,6 +127,20 @@ module _ {T : Type 0} where
       ap (λ j. plain_heads (take j (y ∷ xs))) (after k)
       ∙ ap (λ hs. plain_run y ++ hs) (runs-until xs k x (omega (arith, l)) e)
       ∙ sym (append_assoc (plain_run y) (plain_heads (take k xs)) (plain_run x))
+
+  -- wildcards with so many in place of one of them
+  pub wilds-recounted : (one : HeadRun T) (size count left all : ℕ) → one ≡ Wilds size → all ≡ size - 1 + count →
+      left < length (plain_run one) →
+      plain_run {T = T} (Wilds all) ≡ (take left (plain_run one) ++ wildcards count) ++ drop (left + 1) (plain_run one)
+  wilds-recounted one size count left all e a l =
+      let none : Head T = None in
+      let long : length (plain_run one) ≡ size = ap (λ (r : HeadRun T). length (plain_run r)) e ∙ length-wilds size none in
+      let n : left < size = omega (arith, l, long) in
+      let parts : all ≡ (left + count) + (size - 1 - left) = omega (arith, a, n) in
+      ap (λ m. replicate m none) parts ∙ both-wilds (left + count) (size - 1 - left) none
+      ∙ ap (λ xs. xs ++ replicate (size - 1 - left) none) (both-wilds left count none)
+      ∙ (λ k. (sym (take-wilds size left none n) k ++ wildcards count) ++ sym (drop-wilds size left none n) k)
+      ∙ ap (λ (r : HeadRun T). (take left (plain_run r) ++ wildcards count) ++ drop (left + 1) (plain_run r)) (sym e)
 
   pub none-from : (xs : List (HeadRun T)) (k : ℕ) → length xs ≤ k → plain_heads (drop k xs) ≡ []
   none-from xs k l = ap plain_heads (drop_all k xs l)

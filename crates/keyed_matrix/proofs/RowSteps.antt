@@ -10,7 +10,7 @@ use Rattle.match_model.specs.ArenaPatterns.{MBound, de_pats_list, de_pats_of}
 use Rattle.match_model.specs.Places.{MStep}
 use Rattle.match_model.specs.Matrices.{MRow}
 use Rattle.match_model.specs.Rows.{Head, wildcards, heads_of, choices_of, is_wild_ctor}
-use Rattle.match_model.specs.Steps.{Replacement, row_replaced, expand_head, specialise_head, default_head}
+use Rattle.match_model.specs.Steps.{Replacement, row_replaced, replaced_at, expand_head, specialise_head, default_head}
 use Rattle.pattern_arena.specs.declared.pattern.DePat.{DePat, out-DePat}
 use Rattle.pattern_arena.specs.Trees.{tree, placed_ctor, placed_subs, plain_bound}
 use Rattle.pattern_arena.proofs.TreeFacts.{tree_out}
@@ -122,6 +122,16 @@ longer-row i rows k row all l e =
 pub was-head : {T : Type 0} (hs : List (Head T)) (i : ℕ) (x y : Option (Bor (DePat T))) →
     slice_get hs i ≡ Some (plain_head x) → x ≡ y → slice_get hs i ≡ Some (plain_head y)
 was-head hs i x y e same = e ∙ ap (λ z. Some (plain_head z)) same
+
+-- a row with so many wildcards in place of a head, where nothing else is added
+pub rewilded : {T : Type 0} (place : List MStep) (i n : ℕ) (r : MRow T) →
+    row_replaced place r (put_at i r.heads (record { heads = wildcards n; chosen = []; binds = [] }))
+    ≡ record r { heads = replaced_at i r.heads (wildcards n) }
+rewilded place i n r = λ k. record r {
+  heads = replaced_at i r.heads (wildcards n);
+  chosen = append-nil r.chosen k;
+  caught = append-nil r.caught k;
+}
 
 -- rows that were added, as other rows
 pub on-rows : {A E R : Type 0} (r : Result A E) (new old xs ys : List R) → ys ≡ xs → OnOk r (new ≡ old ++ xs) →

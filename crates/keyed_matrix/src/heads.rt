@@ -1,5 +1,5 @@
 // The heads of a row, side by side.
-ghost use Rattle.std.specs.Prelude.{◌≡◌, ◌<◌, ◌+◌, ◌++◌, length, take, drop, get_or, Some, slice_get, IfOk, IfSome, OnOk};
+ghost use Rattle.std.specs.Prelude.{◌≡◌, ◌<◌, ◌+◌, ℕ, ◌++◌, length, take, drop, get_or, Some, slice_get, IfOk, IfSome, OnOk};
 ghost use Rattle.match_model.specs.Rows.{wildcards};
 ghost use Rattle.match_model.specs.Steps.{replaced_at};
 ghost use Rattle.keyed_matrix.specs.declared.rows.HeadRun.{HeadRun};
@@ -187,4 +187,72 @@ pub fn replaced_heads<'a, T: Copy>(
     add_end(&mut all, one, left)?;
     add_rest(&mut all, &heads[k + 1..])?;
     Ok(all)
+}
+
+// The wildcards with so many in place of one of them, where these are wildcards, and some are left that can be counted.
+#[tactic(auto, using(crate::proofs::HeadRuns::head_runs))]
+fn recounted<'a, T: Copy>(one: &HeadRun<'a, T>, count: usize) -> Option<HeadRun<'a, T>>
+    requires { 0 < length (plain_run one.now) }
+    ensures { IfSome result (λ h. (left : ℕ) → left < length (plain_run one.now) → plain_run h
+        ≡ (take left (plain_run one.now) ++ wildcards count) ++ drop (left + 1) (plain_run one.now)) }
+{
+    match one {
+        HeadRun::Wilds(size) => {
+            let others = *size - 1;
+            if count > usize::MAX - others {
+                return None;
+            }
+            let all = others + count;
+            if all == 0 {
+                None
+            } else {
+                Some(HeadRun::Wilds(all))
+            }
+        }
+        HeadRun::Written(_p) => None,
+    }
+}
+
+// The heads with this run in place of the one with the number.
+fn with_run<'a, T: Copy>(
+    alloc: Global,
+    heads: &[HeadRun<'a, T>],
+    k: usize,
+    run: HeadRun<'a, T>,
+) -> Result<Vec<HeadRun<'a, T>>, NoMemory>
+    requires { k < length heads.now }
+    ensures { IfOk result (λ v. plain_heads v.items
+        ≡ plain_heads (take k heads.now) ++ (plain_run run.entry ++ plain_heads (drop (k + 1) heads.now))) }
+{
+    let mut all = Vec::with_capacity(alloc, heads.len())?;
+    all.extend_from_slice(&heads[..k])?;
+    all.push(run)?;
+    all.extend_from_slice(&heads[k + 1..])?;
+    Ok(all)
+}
+
+/// The heads with so many wildcards that no pattern wrote in place of the head with the number, from 0, which is one of them.
+/// The only error is want of memory.
+pub fn rewilded_heads<'a, T: Copy>(
+    alloc: Global,
+    heads: &[HeadRun<'a, T>],
+    i: usize,
+    count: usize,
+) -> Result<Vec<HeadRun<'a, T>>, NoMemory>
+    requires { i < length (plain_heads heads.now) }
+    ensures { IfOk result (λ v. plain_heads v.items ≡ replaced_at i (plain_heads heads.now) (wildcards count)) }
+{
+    let (k, _left) = run_of(heads, i);
+    match recounted(&heads[k], count) {
+        Some(run) => {
+            let some = with_run(alloc, heads, k, run)?;
+            Ok(some)
+        }
+        None => {
+            let mut wilds = Vec::new(alloc);
+            add_wilds(&mut wilds, count)?;
+            let others = replaced_heads(alloc, heads, i, &wilds)?;
+            Ok(others)
+        }
+    }
 }

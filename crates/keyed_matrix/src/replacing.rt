@@ -1,12 +1,13 @@
 // A row with something else in place of one of its heads.
 ghost use Rattle.std.specs.Prelude.{◌≡◌, ◌<◌, ◌++◌, map, length, IfOk};
 ghost use Rattle.match_model.specs.Matrices.{bind_at};
+ghost use Rattle.match_model.specs.Rows.{wildcards};
 ghost use Rattle.match_model.specs.Steps.{row_replaced, replaced_at};
 ghost use Rattle.pat_context.specs.Views.{plain_place};
 ghost use Rattle.pattern_arena.specs.Trees.{plain_bound};
 ghost use Rattle.keyed_matrix.specs.Views.{plain_heads, plain_caught, plain_row};
 
-use crate::heads::replaced_heads;
+use crate::heads::{replaced_heads, rewilded_heads};
 use crate::{Caught, HeadRun, KeyedRow};
 use no_memory::NoMemory;
 use pat_context::Step;
@@ -71,6 +72,31 @@ pub(crate) fn replaced_row<'a, T: Copy>(
         arm: row.arm,
         guarded: row.guarded,
         chosen: all,
+        caught,
+    })
+}
+
+// The row with so many wildcards that no pattern wrote in place of the head with the number.
+pub(crate) fn rewilded_row<'a, T: Copy>(
+    alloc: Global,
+    row: &KeyedRow<'a, T>,
+    i: usize,
+    count: usize,
+) -> Result<KeyedRow<'a, T>, NoMemory>
+    requires { i < length (plain_row row.now).heads }
+    ensures { IfOk result (λ r. plain_row r ≡ record (plain_row row.now) {
+      heads = replaced_at i (plain_heads row.now.heads.items) (wildcards count);
+    }) }
+{
+    let heads = rewilded_heads(alloc, &row.heads, i, count)?;
+    let guarded = row.guarded;
+    let chosen = SmallVec::from_slice(alloc, row.chosen.as_slice())?;
+    let caught = Vec::from_slice(alloc, &row.caught)?;
+    Ok(KeyedRow {
+        heads,
+        arm: row.arm,
+        guarded,
+        chosen,
         caught,
     })
 }

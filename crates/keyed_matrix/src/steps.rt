@@ -12,7 +12,7 @@ ghost use Rattle.keyed_matrix.specs.Steps.{row_at, chosen_rows, AreLonger};
 use crate::choices::choices_of;
 use crate::heads::{add_wilds, head_at};
 use crate::looking::is_wild;
-use crate::replacing::replaced_row;
+use crate::replacing::{replaced_row, rewilded_row};
 use crate::{HeadRun, KeyedRow};
 use constructor_sets::has_piece;
 use no_memory::NoMemory;
@@ -145,10 +145,7 @@ pub fn add_piece_row<'a, T: Copy>(
         ++ row_at (specialise_head (plain_ctor piece.now) count) (plain_place place.now) i (plain_row row.now)) }
 {
     match head_at(row, i) {
-        None => {
-            let heads = wilds(alloc, count)?;
-            add_replaced(alloc, all, row, i, place, &heads, &[], &[])
-        }
+        None => add_rewilded(alloc, all, row, i, count),
         Some(p) => {
             if has_piece(&p.ctor, piece) {
                 let heads = part_heads(alloc, p, count)?;
@@ -173,7 +170,7 @@ fn add_dropped<'a, T: Copy>(
         ++ row_at default_head (plain_place place.now) i (plain_row row.now)) }
 {
     match head_at(row, i) {
-        None => add_replaced(alloc, all, row, i, place, &[], &[], &[]),
+        None => add_rewilded(alloc, all, row, i, 0),
         Some(p) => {
             if is_wild(&p.ctor) {
                 add_replaced(alloc, all, row, i, place, &[], &[], p.binds)
@@ -204,6 +201,24 @@ fn add_replaced<'a, T: Copy>(
         }) ∷ []) }
 {
     let new = replaced_row(alloc, row, i, place, heads, chosen, binds)?;
+    all.push(new)?;
+    Ok(())
+}
+
+// Adds the row with so many wildcards that no pattern wrote in place of its head at the column.
+fn add_rewilded<'a, T: Copy>(
+    alloc: Global,
+    all: &mut Vec<KeyedRow<'a, T>>,
+    row: &KeyedRow<'a, T>,
+    i: usize,
+    count: usize,
+) -> Result<(), NoMemory>
+    requires { i < length (plain_row row.now).heads }
+    ensures { OnOk result (plain_rows all.new.items ≡ plain_rows all.old.items ++ (record (plain_row row.now) {
+      heads = replaced_at i (plain_heads row.now.heads.items) (wildcards count);
+    }) ∷ []) }
+{
+    let new = rewilded_row(alloc, row, i, count)?;
     all.push(new)?;
     Ok(())
 }
