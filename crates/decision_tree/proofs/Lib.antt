@@ -30,6 +30,7 @@ mod StillInOrder
 mod Apart
 mod Knowing
 mod Asking
+mod Changed
 mod Cuts
 mod Fronts
 mod Enough

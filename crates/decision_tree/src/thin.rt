@@ -81,15 +81,14 @@ fn thin_heads<'a, T: Copy>(
     Ok(all)
 }
 
-// The row without such wildcards.
-fn thin_row<'a, T: Copy>(alloc: Global, row: KeyedRow<'a, T>) -> Result<KeyedRow<'a, T>, NoMemory>
-    ensures { IfOk result (λ r. plain_row r ≡ thin_row (plain_row row.entry)) }
+// Takes such wildcards out of the row.
+fn make_thin<'a, T: Copy>(alloc: Global, row: &mut KeyedRow<'a, T>) -> Result<(), NoMemory>
+    ensures { OnOk result (plain_row row.new ≡ thin_row (plain_row row.old)) }
 {
-    let mut row = row;
     if have_blank(&row.heads) {
         row.heads = thin_heads(alloc, &row.heads)?;
     }
-    Ok(row)
+    Ok(())
 }
 
 // The rows without such wildcards.
@@ -99,10 +98,9 @@ pub(crate) fn thin_rows<'a, T: Copy>(
 ) -> Result<Vec<KeyedRow<'a, T>>, NoMemory>
     ensures { IfOk result (λ v. plain_rows v.items ≡ thin_rows (plain_rows rows.entry.items)) }
 {
-    let mut all = Vec::with_capacity(alloc, rows.len())?;
-    for row in rows {
-        let new = thin_row(alloc, row)?;
-        all.push(new)?;
+    let mut rows = rows;
+    for i in 0..rows.len() {
+        make_thin(alloc, &mut rows[i])?;
     }
-    Ok(all)
+    Ok(rows)
 }

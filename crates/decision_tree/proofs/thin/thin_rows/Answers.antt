@@ -1,32 +1,26 @@
-use Rattle.std.proofs.Common.{◌++◌, ◌∷◌, [], ◌∙◌, ap, sym, append_assoc, append-nil, arith}
-use Rattle.std.proofs.lemmas.List.{map-append}
+use Rattle.std.proofs.Common.{◌<◌, ◌≤◌, ◌∙◌, length, ap, arith}
 use Rattle.keyed_matrix.specs.Views.{plain_row, plain_rows}
-use Rattle.decision_tree.specs.Thin.{thin_row, thin_rows}
-use Rattle.decision_tree.proofs.WildOut.{none-long}
+use Rattle.decision_tree.specs.Thin.{thin_row}
+use Rattle.decision_tree.proofs.ByArm.{plain-length}
+use Rattle.decision_tree.proofs.Changed.{changed-next, changed-all}
 use Rattle.decision_tree.proofs.thin.thin_rows.Goals as goal
 
-pub loop-row-init : goal.loop-row-init
-loop-row-init g c = (ap plain_rows c.in_ok-all.ensures.items, c.into_iter-row-iterator.ensures.into_iter_gives.0)
-
-pub loop-row-preserved : goal.loop-row-preserved
-loop-row-preserved g c =
-    let loop = c.loop-row in
-    let row = c.in-Some.row in (
-      ap plain_rows c.in_ok-push.ensures.items ∙ map-append plain_row loop.all.items (c.in_ok-new.new ∷ [])
-          ∙ (λ k. loop.invariant.0 k ++ c.in_ok-new.ensures k ∷ [])
-          ∙ sym (ap thin_rows (map-append plain_row loop.yielded (row ∷ []))
-          ∙ map-append thin_row (plain_rows loop.yielded) (plain_row row ∷ [])),
-      append_assoc loop.yielded (row ∷ []) c.next.new.self.rest.items
-          ∙ ap (λ zs. loop.yielded ++ zs) (sym c.in-Some.ensures.steps.0) ∙ loop.invariant.1,
-    )
+pub loop-i-preserved : goal.loop-i-preserved
+loop-i-preserved g c =
+    let same = plain-length c.args.rows.items in
+    let count = c.len-i-end.ensures in
+    let below = c.loop-i-test.true in
+    let ok = c.args.rows.ok in
+    let within : c.loop-i.i < length (plain_rows c.args.rows.items) = omega (arith, same, count, below, ok) in
+    changed-next thin_row (plain_rows c.args.rows.items) c.loop-i.rows.items c.loop-i.i c.index_mut.result.now
+    c.make_thin.new.row c.loop-i.invariant within
+    (c.in_ok-make_thin.ensures ∙ ap (λ x. thin_row (plain_row x)) c.index_mut.ensures.value)
 
 pub returns : goal.returns
 returns g c =
-    let loop = c.loop-row in
-    let empty = c.in-None.ensures.steps.0 in
-    let full = loop.row-iterator.rest.ok.0 in
-    loop.invariant.0
-    ∙ ap (λ rs. thin_rows (plain_rows rs))
-    (sym (append-nil loop.yielded)
-    ∙ ap (λ zs. loop.yielded ++ zs) (sym (none-long loop.row-iterator.rest.items (omega (arith, empty, full))))
-    ∙ loop.invariant.1)
+    let same = plain-length c.args.rows.items in
+    let count = c.len-i-end.ensures in
+    let end = c.loop-i-test.false in
+    let ok = c.args.rows.ok in
+    let all : length (plain_rows c.args.rows.items) ≤ c.loop-i.i = omega (arith, same, count, end, ok) in
+    c.loop-i.invariant ∙ changed-all thin_row (plain_rows c.args.rows.items) c.loop-i.i all
