@@ -46,3 +46,4 @@ pub mod ThinGood
 pub mod ThinLeads
 pub mod ThinMatrix
 mod KnownHeads
+mod KnownRows

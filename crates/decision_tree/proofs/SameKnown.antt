@@ -1,5 +1,5 @@
 -- What the derived test finds equal tells the same matrix; what is among known trees.
-use Rattle.std.proofs.Common.{◌≡◌, ◌⊎◌, inl, inr, ℕ, Bool, true, false, if◌then◌else◌, cond, List, [], ◌∷◌, ◌++◌, map, Option, Some, None, refl, sym, ap, ◌∙◌, rules, nat_eq}
+use Rattle.std.proofs.Common.{◌≡◌, ◌⊎◌, inl, inr, ℕ, Bool, true, false, if◌then◌else◌, cond, List, [], ◌∷◌, ◌++◌, map, take, drop, Option, Some, None, refl, sym, ap, ◌∙◌, rules, nat_eq}
 use Rattle.std.proofs.lemmas.Slice.Eq.{bytes_eq-Decides}
 use Rattle.std.specs.Cmp.Lexicographic.{pointwise}
 use Rattle.std.specs.List.{flat_map}
@@ -21,7 +21,7 @@ use Rattle.decision_tree.specs.contracts.known.KnownNamePartialEq.TheImpl as nam
 use Rattle.decision_tree.specs.contracts.known.KnownHeadsPartialEq.TheImpl as heads_eq
 use Rattle.decision_tree.specs.contracts.known.KnownRowPartialEq.TheImpl as row_eq
 use Rattle.decision_tree.specs.contracts.known.KnownMatrixPartialEq.TheImpl as matrix_eq
-use Rattle.decision_tree.specs.KnownViews.{uids_of, plain_known_heads, plain_known_column, side_place, plain_name, plain_known_row, plain_known_matrix}
+use Rattle.decision_tree.specs.KnownViews.{plain_known_heads, plain_known_column, side_place, plain_name, plain_known_row, plain_known_rows, plain_known_matrix}
 
 same-step : (a b : Step) → step_eq.ghosts.eq a b ≡ true → plain_step a ≡ plain_step b
 same-step a b h = let e : a ≡ b = search (rules, h) in ap plain_step e
@@ -65,38 +65,49 @@ same-head None (Some y) h = cc
 same-head (Some x) None h = cc
 same-head (Some x) (Some y) h = ap Some (nat-same x y h)
 
-same-heads : (a b : KnownHeads) → heads_eq.ghosts.eq a b ≡ true → plain_known_heads a ≡ plain_known_heads b
+same-heads : (a b : KnownHeads) → heads_eq.ghosts.eq a b ≡ true → a ≡ b
 same-heads a b h =
     let k = both _ _ h in
     let first : a.first ≡ b.first = same-head a.first b.first k.0 in
     let count : a.count ≡ b.count = nat-same a.count b.count k.1 in
-    λ i. uids_of (first i) (count i)
+    λ i. record { first = first i; count = count i }
 
--- lists that show the same one by one show the same together
-flat-same : {A B : Type 0} (f : A → List B) (xs ys : List A) → map f xs ≡ map f ys → flat_map f xs ≡ flat_map f ys
-flat-same f [] [] e = refl
-flat-same f [] (y ∷ ys) e = cc
-flat-same f (x ∷ xs) [] e = cc
-flat-same f (x ∷ xs) (y ∷ ys) e =
-    let here : f x ≡ f y = cc in
-    let rest : map f xs ≡ map f ys = cc in
-    ap (λ zs. zs ++ flat_map f xs) here ∙ ap (λ zs. f y ++ zs) (flat-same f xs ys rest)
-
-same-row : (a b : KnownRow) → row_eq.ghosts.eq a b ≡ true → plain_known_row a ≡ plain_known_row b
-same-row a b h =
+same-row : (heads : List KnownHeads) (a b : KnownRow) → row_eq.ghosts.eq a b ≡ true →
+    (a.size ≡ b.size) × (plain_known_row heads a ≡ plain_known_row heads b)
+same-row heads a b h =
     let k = both _ _ h in
     let l = both _ _ k.1 in
     let n = both _ _ l.1 in
     let o = both _ _ n.1 in
-    let heads : flat_map plain_known_heads a.heads.items ≡ flat_map plain_known_heads b.heads.items =
-    flat-same plain_known_heads a.heads.items b.heads.items
-    (pointwise-map (λ x y. heads_eq.ghosts.eq x y) plain_known_heads a.heads.items b.heads.items same-heads k.0) in
+    let size : a.size ≡ b.size = nat-same a.size b.size k.0 in
     let arm : a.arm ≡ b.arm = nat-same a.arm b.arm l.0 in
     let guarded : a.guarded ≡ b.guarded = search (rules, n.0) in
     let chosen : a.chosen.items ≡ b.chosen.items = pointwise-same nat_eq nat-same a.chosen.items b.chosen.items o.0 in
     let caught : map plain_name a.caught.items ≡ map plain_name b.caught.items = pointwise-map
     (λ x y. name_eq.ghosts.eq x y) plain_name a.caught.items b.caught.items same-name o.1 in
-    λ i. record { heads = heads i; arm = arm i; guarded = guarded i; chosen = chosen i; caught = caught i }
+    let told : plain_known_row heads a ≡ plain_known_row heads b =
+    (λ i. record {
+      heads = flat_map plain_known_heads heads;
+      arm = arm i;
+      guarded = guarded i;
+      chosen = chosen i;
+      caught = caught i;
+    }) in
+    (size, told)
+
+same-rows : (heads : List KnownHeads) (xs ys : List KnownRow) → pointwise (λ x y. row_eq.ghosts.eq x y) xs ys ≡ true →
+    plain_known_rows heads xs ≡ plain_known_rows heads ys
+same-rows heads [] [] h = refl
+same-rows heads [] (b ∷ ys) h = cc
+same-rows heads (a ∷ xs) [] h = cc
+same-rows heads (a ∷ xs) (b ∷ ys) h =
+    let k = both (row_eq.ghosts.eq a b) (pointwise (λ x y. row_eq.ghosts.eq x y) xs ys) h in
+    let size = (same-row heads a b k.0).0 in
+    let here : plain_known_row (take a.size heads) a ≡ plain_known_row (take b.size heads) b =
+    (same-row (take a.size heads) a b k.0).1 ∙ ap (λ n. plain_known_row (take n heads) b) size in
+    let rest : plain_known_rows (drop a.size heads) xs ≡ plain_known_rows (drop b.size heads) ys =
+    same-rows (drop a.size heads) xs ys k.1 ∙ ap (λ n. plain_known_rows (drop n heads) ys) size in
+    λ i. here i ∷ rest i
 
 pub same-matrix : (a b : KnownMatrix) → matrix_eq.ghosts.eq a b ≡ true → plain_known_matrix a ≡ plain_known_matrix b
 same-matrix a b h =
@@ -104,8 +115,11 @@ same-matrix a b h =
     let k = both _ _ d.1 in
     let columns : map plain_known_column a.columns.items ≡ map plain_known_column b.columns.items = pointwise-map
     (λ x y. column_eq.ghosts.eq x y) plain_known_column a.columns.items b.columns.items same-column k.0 in
-    let rows : map plain_known_row a.rows.items ≡ map plain_known_row b.rows.items = pointwise-map
-    (λ x y. row_eq.ghosts.eq x y) plain_known_row a.rows.items b.rows.items same-row k.1 in
+    let l = both _ _ k.1 in
+    let heads : a.heads.items ≡ b.heads.items = pointwise-same (λ x y. heads_eq.ghosts.eq x y) same-heads a.heads.items
+    b.heads.items l.0 in
+    let rows : plain_known_rows a.heads.items a.rows.items ≡ plain_known_rows b.heads.items b.rows.items =
+    same-rows a.heads.items a.rows.items b.rows.items l.1 ∙ ap (λ hs. plain_known_rows hs b.rows.items) heads in
     λ i. record { columns = columns i; rows = rows i }
 
 module _ {K M V : Type 0} (f : K → M) where

@@ -1,5 +1,5 @@
 -- What tells matrices, and which trees are known, as the definitions have them.
-use Rattle.std.specs.Prelude.{ℕ, zero, suc, List, [], ◌∷◌, ◌++◌, map, replicate, Option, Some, None}
+use Rattle.std.specs.Prelude.{ℕ, zero, suc, List, [], ◌∷◌, ◌++◌, map, take, drop, replicate, Option, Some, None}
 use Rattle.std.specs.List.{flat_map}
 use Rattle.match_model.specs.Places.{MStep, MiddleStep}
 use Rattle.match_model.specs.Trees.{MBind}
@@ -36,19 +36,25 @@ uids_of (Some first) n = uids_from first n
 abbrev pub plain_known_heads : KnownHeads → List (Option ℕ)
 plain_known_heads h = uids_of h.first h.count
 
-abbrev pub plain_known_row : KnownRow → MKnownRow
-plain_known_row r = record {
-  heads = flat_map plain_known_heads r.heads.items;
+-- the row that has these heads
+abbrev pub plain_known_row : List KnownHeads → KnownRow → MKnownRow
+plain_known_row heads r = record {
+  heads = flat_map plain_known_heads heads;
   arm = r.arm;
   guarded = r.guarded;
   chosen = r.chosen.items;
   caught = map plain_name r.caught.items;
 }
 
+-- the rows, of which each has so many of the heads as it says, behind those of the row before it
+abbrev pub plain_known_rows : List KnownHeads → List KnownRow → List MKnownRow
+plain_known_rows heads [] = []
+plain_known_rows heads (r ∷ rows) = plain_known_row (take r.size heads) r ∷ plain_known_rows (drop r.size heads) rows
+
 abbrev pub plain_known_matrix : KnownMatrix → MKnownMatrix
 plain_known_matrix m = record {
   columns = map plain_known_column m.columns.items;
-  rows = map plain_known_row m.rows.items;
+  rows = plain_known_rows m.heads.items m.rows.items;
 }
 
 -- the matrices with the indices of their trees

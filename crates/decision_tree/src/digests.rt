@@ -59,9 +59,8 @@ fn with_heads(digest: u64, heads: &[KnownHeads]) -> u64 {
 
 // The digest with the row.
 fn with_row<'a>(digest: u64, row: &KnownRow<'a>) -> u64 {
-    let arm = mixed(digest, row.arm as u64);
-    let heads = with_heads(arm, &row.heads);
-    let chosen = with_chosen(heads, &row.chosen);
+    let arm = mixed(mixed(digest, row.arm as u64), row.size as u64);
+    let chosen = with_chosen(arm, &row.chosen);
     with_names(chosen, &row.caught)
 }
 
@@ -75,8 +74,12 @@ fn columns_digest<'a>(columns: &[KnownColumn<'a>]) -> u64 {
 }
 
 // The digest of the matrix.
-pub(crate) fn digest_of<'a>(columns: &[KnownColumn<'a>], rows: &[KnownRow<'a>]) -> u64 {
-    let mut digest = columns_digest(columns);
+pub(crate) fn digest_of<'a>(
+    columns: &[KnownColumn<'a>],
+    heads: &[KnownHeads],
+    rows: &[KnownRow<'a>],
+) -> u64 {
+    let mut digest = with_heads(columns_digest(columns), heads);
     for row in rows {
         digest = with_row(digest, row);
     }

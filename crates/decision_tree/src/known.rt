@@ -41,10 +41,11 @@ pub(crate) struct KnownHeads {
     pub(crate) count: u64,
 }
 
-// What tells a row: its patterns by their uids, and all else.
+// What tells a row beside its heads, which stand in its matrix.
 #[derive(PartialEq, Eq, Drop)]
 pub(crate) struct KnownRow<'a> {
-    pub(crate) heads: Vec<KnownHeads>,
+    // How many of what the matrix lists are the row's heads.
+    pub(crate) size: usize,
     pub(crate) arm: u32,
     pub(crate) guarded: bool,
     pub(crate) chosen: Vec<u64>,
@@ -59,6 +60,9 @@ pub(crate) struct KnownMatrix<'a> {
     pub(crate) digest: u64,
     #[derive_where(skip(Hash))]
     pub(crate) columns: Vec<KnownColumn<'a>>,
+    // The heads of the rows, those of one behind those of the other.
+    #[derive_where(skip(Hash))]
+    pub(crate) heads: Vec<KnownHeads>,
     #[derive_where(skip(Hash))]
     pub(crate) rows: Vec<KnownRow<'a>>,
 }
@@ -101,21 +105,20 @@ pub(crate) fn find_known<'a>(known: &KnownTrees<'a>, matrix: &KnownMatrix<'a>) -
     }
 }
 
-// About how many words the row takes: three for heads side by side, one for an alternative, and eight for a name.
+// About how many words the row takes: one for an alternative, and eight for a name.
 fn row_words<'a>(row: &KnownRow<'a>) -> usize {
-    let heads = row.heads.len().saturating_mul(3);
     let names = row.caught.len().saturating_mul(8);
-    heads
+    names
         .saturating_add(row.chosen.len())
-        .saturating_add(names)
         .saturating_add(ROW_WORDS)
 }
 
-// About how many words the matrix takes: three for a column, and those of the rows.
+// About how many words the matrix takes: three for a column and for heads side by side, and those of the rows.
 fn matrix_words<'a>(matrix: &KnownMatrix<'a>) -> usize {
     let mut words = matrix
         .columns
         .len()
+        .saturating_add(matrix.heads.len())
         .saturating_mul(3)
         .saturating_add(MATRIX_WORDS);
     for row in &matrix.rows {

@@ -1,5 +1,5 @@
 // What tells a matrix from the others of a match.
-ghost use Rattle.std.specs.Prelude.{◌≡◌, ◌+◌, ◌++◌, ◌∷◌, [], true, map, IfOk, IfSome, OnOk};
+ghost use Rattle.std.specs.Prelude.{◌≡◌, ◌+◌, ◌++◌, ◌∷◌, [], true, length, map, IfOk, IfSome, OnOk};
 ghost use Rattle.std.specs.List.{flat_map};
 ghost use Rattle.keyed_matrix.specs.Views.{plain_caught, plain_columns, plain_run, plain_heads, plain_row};
 ghost use Rattle.keyed_matrix.specs.Views.{plain_rows};
@@ -103,18 +103,18 @@ fn add_run<'a, T: Copy>(all: &mut Vec<KnownHeads>, one: &HeadRun<'a, T>) -> Resu
     }
 }
 
-// The heads by the uids of their patterns.
-fn known_heads<'a, T: Copy>(
-    alloc: Global,
+// Lists the heads by the uids of their patterns, in place of what was listed.
+fn list_heads<'a, T: Copy>(
+    all: &mut Vec<KnownHeads>,
     heads: &[HeadRun<'a, T>],
-) -> Result<Vec<KnownHeads>, NoMemory>
-    ensures { IfOk result (λ v. flat_map plain_known_heads v.items ≡ map head_uid (plain_heads heads.now)) }
+) -> Result<(), NoMemory>
+    ensures { OnOk result (flat_map plain_known_heads all.new.items ≡ map head_uid (plain_heads heads.now)) }
 {
-    let mut all = Vec::new(alloc);
+    all.clear();
     for one in heads {
-        add_run(&mut all, one)?;
+        add_run(all, one)?;
     }
-    Ok(all)
+    Ok(())
 }
 
 // What tells the name.
@@ -144,15 +144,20 @@ fn known_names<'a>(alloc: Global, caught: &[Caught<'a>]) -> Result<Vec<KnownName
     Ok(names)
 }
 
-// What tells the row.
-fn known_row<'a, T: Copy>(alloc: Global, row: &KeyedRow<'a, T>) -> Result<KnownRow<'a>, NoMemory>
-    ensures { IfOk result (λ k. plain_known_row k ≡ known_row (plain_row row.now)) }
+// What tells the row, of which the list tells the heads.
+fn known_row<'a, T: Copy>(
+    alloc: Global,
+    row: &KeyedRow<'a, T>,
+    heads: &[KnownHeads],
+) -> Result<KnownRow<'a>, NoMemory>
+    requires { flat_map plain_known_heads heads.now ≡ map head_uid (plain_row row.now).heads }
+    ensures size { IfOk result (λ k. k.size ≡ length heads.now) }
+    ensures row { IfOk result (λ k. plain_known_row heads.now k ≡ known_row (plain_row row.now)) }
 {
-    let heads = known_heads(alloc, &row.heads)?;
     let chosen = copied(alloc, row.chosen.as_slice())?;
     let caught = known_names(alloc, &row.caught)?;
     Ok(KnownRow {
-        heads,
+        size: heads.len(),
         arm: row.arm,
         guarded: row.guarded,
         chosen,
@@ -197,14 +202,20 @@ pub(crate) fn known_matrix<'a, T: Copy>(
     ensures { IfOk result (λ k. plain_known_matrix k ≡ known_matrix (plain_columns columns.now) (plain_rows rows.now)) }
 {
     let columns = known_columns(alloc, columns)?;
+    let mut heads = Vec::with_capacity(alloc, rows.len())?;
+    let mut own = Vec::new(alloc);
     let mut all = Vec::with_capacity(alloc, rows.len())?;
     for row in rows {
-        all.push(known_row(alloc, row)?)?;
+        list_heads(&mut own, &row.heads)?;
+        let new = known_row(alloc, row, &own)?;
+        heads.extend_from_slice(&own)?;
+        all.push(new)?;
     }
-    let digest = digest_of(&columns, &all);
+    let digest = digest_of(&columns, &heads, &all);
     Ok(KnownMatrix {
         digest,
         columns,
+        heads,
         rows: all,
     })
 }

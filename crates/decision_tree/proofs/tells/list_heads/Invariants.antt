@@ -3,7 +3,7 @@ use Rattle.std.specs.List.{flat_map}
 use Rattle.keyed_matrix.specs.Views.{plain_heads}
 use Rattle.decision_tree.specs.Known.{head_uid}
 use Rattle.decision_tree.specs.KnownViews.{plain_known_heads}
-use Rattle.decision_tree.proofs.tells.known_heads.Given as goal
+use Rattle.decision_tree.proofs.tells.list_heads.Given as goal
 
 abbrev pub invariant-loop-one : goal.invariant-loop-one
 invariant-loop-one g l = flat_map plain_known_heads l.all.items ≡ map head_uid (plain_heads (take l.one-index l.heads))
