@@ -33,6 +33,11 @@ all-true zero i l = absurd (omega (arith, l))
 all-true (suc n) zero l = refl
 all-true (suc n) (suc i) l = all-true n i (omega (arith, l))
 
+there-off : (at : ℕ) (bs : List Bool) (d : Bool) → at < length bs → get_or bs at d ≡ false → slice_get bs at ≡ Some false
+there-off at [] d l e = absurd (omega (arith, l))
+there-off zero (x ∷ bs) d l e = ap Some e
+there-off (suc at) (x ∷ bs) d l e = there-off at bs d (omega (arith, l)) e
+
 starts-none : (T : Type 0) (i : ℕ) → true ≡ starts_wild {T = T} (drop i [])
 starts-none T zero = refl
 starts-none T (suc i) = refl
@@ -85,6 +90,22 @@ module _ {T : Type 0} where
   pub open-off : (at : ℕ) (bs : List Bool) (h : Head T) → at < length bs → is_wild h ≡ false →
       StayWhereWild at (h ∷ []) bs (set bs at false)
   open-off at bs h l w = record { long = length-set bs at false; marks = one-off at bs h l w }
+
+  one-kept : (at : ℕ) (bs : List Bool) (h : Head T) → at < length bs → slice_get bs at ≡ Some false → (i : ℕ) (b : Bool) →
+      slice_get bs i ≡ Some b → slice_get bs i ≡ Some (b && starts_wild (drop i (wildcards at ++ h ∷ [])))
+  one-kept at [] h l f i b e = absurd (omega (arith, l))
+  one-kept zero (x ∷ bs) h l f zero b e =
+      let off : b ≡ false = same-get b false (sym e ∙ f) in
+      e ∙ ap Some (off ∙ sym (ap (λ v. v && is_wild h) off))
+  one-kept zero (x ∷ bs) h l f (suc i) b e =
+      e ∙ ap Some (sym (and-true b) ∙ ap (λ v. b && v) (starts-none T i))
+  one-kept (suc at) (x ∷ bs) h l f zero b e = e ∙ ap Some (sym (and-true b))
+  one-kept (suc at) (x ∷ bs) h l f (suc i) b e = one-kept at bs h (omega (arith, l)) f i b e
+
+  -- a mark that is off stays
+  pub off-stays : (at : ℕ) (bs : List Bool) (h : Head T) (d : Bool) → at < length bs → get_or bs at d ≡ false →
+      StayWhereWild at (h ∷ []) bs bs
+  off-stays at bs h d l e = record { long = refl; marks = one-kept at bs h l (there-off at bs d l e) }
 
   -- heads behind others
   behind-others : (xs ys : List (Head T)) (i : ℕ) →

@@ -86,6 +86,9 @@ fn mark_pattern<'a, T: Copy>(marks: &mut [bool], at: usize, pat: &DePat<'a, T>)
     requires { at < length marks.old }
     ensures { StayWhereWild at (Some (tree pat.now) ∷ []) marks.old marks.new }
 {
+    if !marks[at] {
+        return;
+    }
     if is_wild_pat(pat) {
         return;
     }
