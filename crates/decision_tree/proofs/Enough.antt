@@ -25,7 +25,7 @@ use Rattle.pattern_matrix.specs.declared.halving.Part.{Part}
 use Rattle.keyed_matrix.specs.Views.{plain_row, plain_rows}
 use Rattle.keyed_matrix.specs.declared.rows.KeyedRow.{KeyedRow}
 use Rattle.decision_tree.proofs.Reading.{read-map}
-use Rattle.decision_tree.specs.Cutting.{head_there, is_flat, takes_pieces, TakesPieces, BeginAlike, AreEnough, IsCutPart, IsCutTo, AreLed}
+use Rattle.decision_tree.specs.Cutting.{head_there, is_flat, takes_pieces, TakesPieces, TakesMet, BeginAlike, AreEnough, IsCutPart, IsCutTo, AreLed}
 
 -- ---- a row that takes its pieces
 
@@ -215,9 +215,8 @@ module _ {T : Type 0} (i : ℕ) (rows : List (MRow T)) where
   all-led numbers all none (inr b) = absurd (none b.first b.behind b.some_are b.takes)
 
   module _ (spans : List (ℕ × ℕ)) (first end : ℕ) where
-    -- where it has a piece of the part, its row takes its pieces
-    abbrev pub TakesMet : ℕ → Type 0
-    TakesMet k = span_meets first end (slice_get spans k) ≡ true → TakesPieces i rows k
+    abbrev Takes : ℕ → Type 0
+    Takes k = TakesMet i rows spans first end k
 
     begin-step : (j x : ℕ) (xs ys : List ℕ) (b : Bool) → (b ≡ true → TakesPieces i rows x) → BeginAlike i rows xs ys →
         BeginAlike i rows (cond b (x ∷ xs) xs) (cond b (x ∷ ys) ys)
@@ -232,7 +231,7 @@ module _ {T : Type 0} (i : ℕ) (rows : List (MRow T)) where
     begin-step j x xs ys false takes ih = ih
 
     -- up to one that has all pieces, of rows that take theirs
-    begin-alike : (j : ℕ) → first ≤ j → j < end → (xs : List ℕ) (k : ℕ) (zs : List ℕ) → All TakesMet xs →
+    begin-alike : (j : ℕ) → first ≤ j → j < end → (xs : List ℕ) (k : ℕ) (zs : List ℕ) → All Takes xs →
         TakesPieces i rows k → span_has j (slice_get spans k) ≡ true →
         BeginAlike i rows (having spans j (xs ++ k ∷ [])) (having spans j (xs ++ k ∷ zs))
     begin-alike j l m [] k zs all takes has = record {
@@ -245,12 +244,12 @@ module _ {T : Type 0} (i : ℕ) (rows : List (MRow T)) where
     }
     begin-alike j l m (x ∷ xs) k zs all takes has =
         begin-step j x (having spans j (xs ++ k ∷ [])) (having spans j (xs ++ k ∷ zs)) (span_has j (slice_get spans x))
-        (λ e. All-head TakesMet x xs all (span-meets first end j (slice_get spans x) l m e))
-        (begin-alike j l m xs k zs (All-tail TakesMet x xs all) takes has)
+        (λ e. All-head Takes x xs all (span-meets first end j (slice_get spans x) l m e))
+        (begin-alike j l m xs k zs (All-tail Takes x xs all) takes has)
 
     -- they are enough
     pub enough-to : (numbers : List ℕ) (n k : ℕ) → n < length numbers → k ≡ get_or numbers n k →
-        All TakesMet (take n numbers) → TakesPieces i rows k → (s : ℕ × ℕ) → slice_get spans k ≡ Some s →
+        All Takes (take n numbers) → TakesPieces i rows k → (s : ℕ × ℕ) → slice_get spans k ≡ Some s →
         (nat_le s.0 first && nat_le end s.1) ≡ true → (j : ℕ) → first ≤ j → j < end →
         AreEnough i rows (having spans j (take (n + 1) numbers)) (having spans j numbers)
     enough-to numbers n k l at all takes s got covers j a b =

@@ -5,7 +5,7 @@ use Rattle.match_model.specs.ArenaPatterns.{de_pat, de_pats_list}
 use Rattle.match_model.specs.Matrices.{MRow}
 use Rattle.match_model.specs.Rows.{Head, is_wild}
 use Rattle.constructor_sets.specs.declared.piece.Span.{Span}
-use Rattle.pattern_matrix.specs.Halving.{having, leaves_with}
+use Rattle.pattern_matrix.specs.Halving.{span_meets, having, leaves_with}
 use Rattle.pattern_matrix.specs.Parts.{plain_spans}
 use Rattle.pattern_matrix.specs.declared.halving.Part.{Part}
 
@@ -36,6 +36,11 @@ pub record TakesPieces {T : Type 0} (i : ℕ) (rows : List (MRow T)) (number : �
   pub row : MRow T
   pub got : slice_get rows number ≡ Some row
   pub takes : takes_pieces i row ≡ true
+
+-- where the row with the number has a piece of the range it is such a row, as these spans tell
+abbrev pub TakesMet : {T : Type 0} → (i : ℕ) → List (MRow T) → List (ℕ × ℕ) → (first end : ℕ) → (number : ℕ) → Type 0
+TakesMet i rows spans first end number =
+    span_meets first end (slice_get spans number) ≡ true → TakesPieces i rows number
 
 -- both lists begin with the number of such a row
 pub record BeginAlike {T : Type 0} (i : ℕ) (rows : List (MRow T)) (some all : List ℕ) : Type 0 where

@@ -1,7 +1,7 @@
 // The rows of each piece of a column, found by halving the range of pieces. On the way there each half is rid of the rows
 // behind one that takes all of the half, where each row before it takes all that it has of the half: the first row of
 // each piece is kept then, and it is taken, so no other row is looked at.
-ghost use Rattle.std.specs.Prelude.{cond, ◌≡◌, ◌≤◌, ◌<◌, ◌+◌, ◌-◌, ◌++◌, ◌∷◌, ◌&&◌, not, nat_le, ℕ, List, length, map, take, drop};
+ghost use Rattle.std.specs.Prelude.{cond, ◌≡◌, ◌≤◌, ◌<◌, ◌+◌, ◌-◌, ◌++◌, ◌∷◌, ◌&&◌, not, false, nat_le, ℕ, List, length, map, take, drop};
 ghost use Rattle.std.specs.Prelude.{Some, IfOk, OnOk};
 ghost use Rattle.std.specs.List.{All, list_all};
 ghost use Rattle.match_model.specs.Rows.{is_wild};
@@ -11,7 +11,7 @@ ghost use Rattle.pattern_matrix.specs.Halving.{span_meets, having, leaves_with};
 ghost use Rattle.pattern_matrix.specs.Parts.{plain_spans, pieces_in, pieces_left};
 ghost use Rattle.keyed_matrix.specs.Steps.{AreLonger};
 ghost use Rattle.keyed_matrix.specs.Views.{plain_head, plain_run, plain_heads, plain_row, plain_rows};
-ghost use Rattle.decision_tree.specs.Cutting.{is_flat, open_count, takes_pieces, AreEnough, IsCutPart, IsCutTo, AreLed};
+ghost use Rattle.decision_tree.specs.Cutting.{is_flat, open_count, takes_pieces, TakesMet, AreEnough, IsCutPart, IsCutTo, AreLed};
 
 use crate::leaves::{is_wild, is_wild_pat};
 use constructor_sets::Span;
@@ -120,7 +120,32 @@ fn is_open<'a, T: Copy>(row: &KeyedRow<'a, T>, i: usize, span: &Span, part: &Par
     meets(span, part.first, part.end) && !takes_pieces(row, i)
 }
 
-// How many of the part's rows, from the first on, are enough for each of its pieces.
+// Tells whether one of so many of the part's rows in front has a piece of the part, and is not taken in each.
+fn have_open<'a, T: Copy>(
+    rows: &[KeyedRow<'a, T>],
+    i: usize,
+    spans: &[Span],
+    part: &Part,
+    count: usize,
+) -> bool
+    requires longer { AreLonger i (plain_rows rows.now) }
+    requires spans { length spans.now ≡ length rows.now }
+    requires within { All (λ k. k < length spans.now) part.now.leaves.items }
+    requires count { count ≤ length part.now.leaves.items }
+    ensures { result ≡ false → All (TakesMet i (plain_rows rows.now) (plain_spans spans.now) part.now.first part.now.end)
+        (take count part.now.leaves.items) }
+{
+    for n in 0..count {
+        let k = part.leaves[n];
+        if is_open(&rows[k], i, &spans[k], part) {
+            return true;
+        }
+    }
+    false
+}
+
+// How many of the part's rows, from the first on, are enough for each of its pieces. Only where a row has all of them is
+// asked whether rows are taken.
 fn count_enough<'a, T: Copy>(
     rows: &[KeyedRow<'a, T>],
     i: usize,
@@ -139,10 +164,10 @@ fn count_enough<'a, T: Copy>(
     let count = part.leaves.len();
     for n in 0..count {
         let k = part.leaves[n];
-        if is_open(&rows[k], i, &spans[k], part) {
-            return count;
-        }
         if covers(&spans[k], part.first, part.end) {
+            if have_open(rows, i, spans, part, n + 1) {
+                return count;
+            }
             return n + 1;
         }
     }

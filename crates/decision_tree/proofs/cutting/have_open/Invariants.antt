@@ -2,8 +2,8 @@ use Rattle.std.proofs.Common.{take}
 use Rattle.std.specs.List.{All}
 use Rattle.keyed_matrix.specs.Views.{plain_rows}
 use Rattle.pattern_matrix.specs.Parts.{plain_spans}
-use Rattle.decision_tree.proofs.Enough.{TakesMet}
-use Rattle.decision_tree.proofs.cutting.count_enough.Given as goal
+use Rattle.decision_tree.specs.Cutting.{TakesMet}
+use Rattle.decision_tree.proofs.cutting.have_open.Given as goal
 
 abbrev pub invariant-loop-n : goal.invariant-loop-n
 invariant-loop-n g l =
