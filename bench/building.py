@@ -92,6 +92,7 @@ def copied(folder, crates, name, main):
 
 def build(target, crates, name, main):
     """Builds the program."""
+    pathlib.Path(target).unlink(missing_ok=True)
     with tempfile.TemporaryDirectory() as room:
         folder = pathlib.Path(room)
         rt = optimising(folder / "kit", target)

@@ -1,4 +1,4 @@
-// A call with ample memory; the tests of `match_top` come to the others.
+// A call with ample memory; those of `run_tests` come to the others.
 use decl_lexer::Name;
 use decl_syntax::{File, FnItem, Item, ItemKind, Ty};
 use match_model::Width;
