@@ -2,7 +2,7 @@
 from run to run, whatever else the machine does; times of short matches move by half.
 
 Of the program what counts is doing its step with a match three times less doing it once, by two (both programs of `--build` take how often as their word);
-of the engine what is counted within one of its functions, by how often that is called.
+of the engine what is counted within one of its functions, by how often that is called: as often as the function in which most of it is spent.
 """
 import os
 import re
@@ -32,7 +32,9 @@ def others(engine, name, n, step, function):
         words = (f"--callgrind-out-file={found.name}", f"--toggle-collect='*{function}*'")
         total = counted(f"{engine} time {name}:{n} '' {step}", *words)
         tree = subprocess.run(["callgrind_annotate", "--inclusive=yes", "--tree=caller", found.name], capture_output=True, text=True).stdout
-    return total / int(re.search(r"< \S*%s \((\d+)x\)" % function, tree)[1])
+    # What takes most of it stands first, and is called once each time.
+    calls = re.search(r"< \S*%s \(([\d,]+)x\)" % function, tree)[1]
+    return total / int(calls.replace(",", ""))
 
 
 def measured(program, engine, name, first, step, function):
