@@ -9,11 +9,16 @@ import subprocess
 import sys
 import tempfile
 
-from measuring import least
+import constructors
+from constructors import over_families, told
+from measuring import least, write
 
 HERE = pathlib.Path(__file__).resolve().parent
 ROOT = HERE.parent
 READER = ("words", "types", "patterns")
+# Times from here on are judged, in seconds.
+SHORTEST = 0.00005
+COUNTS = {}
 CLANG = """#!/usr/bin/env python3
 import os, pathlib, subprocess, sys
 sys.path.insert(0, "{bench}")
@@ -114,3 +119,22 @@ def times(program, path):
     while (spent := took(program, path, count, 1)) < 0.05 and count < 65_536:
         count *= 4
     return max(1, int(count * 0.2 / max(spent, 1e-3)))
+
+
+def ours(words, name, n):
+    """The program's time of doing once what it does with a match of a family."""
+    path = write(f"family_{name}_{n}.matches", told(words.engine, name, n))
+    if path not in COUNTS:
+        COUNTS[path] = times(words.program, path)
+    count = COUNTS[path]
+    return took(words.program, path, count, words.times) / count
+
+
+def time_families(description, families, step, word, crates, program):
+    """Builds the program of a folder over these crates, where the command line asks for it by `--build`, or else measures the families: the program beside the
+    step of the engine whose time has this word."""
+    if sys.argv[1:2] == ["--build"] and len(sys.argv) == 3:
+        build(os.path.abspath(sys.argv[2]), crates, "step_times", (program / "src/main.rt.txt").read_text())
+    else:
+        constructors.SHORTEST = SHORTEST
+        sys.exit(over_families(description, families, ours, step, word, True))

@@ -11,35 +11,13 @@ clock runs, and times from 50 microseconds on are judged.
 
 It is built without proof, but optimised and without the tests of `rt try` (bench/building.py). The columns and goals are those of run.py.
 """
-import os
 import pathlib
 import sys
 
 HERE = pathlib.Path(__file__).resolve().parent
 sys.path.insert(0, str(HERE.parent))
-import constructors
-from building import build, took, times
-from constructors import over_families, told
-from measuring import write
+from building import time_families
 from run import FAMILIES
 
-COUNTS = {}
-CRATES = ("decision_tree",)
-SHORTEST = 0.00005
-
-
-def ours(words, name, n):
-    """The program's time of lowering a match of a family."""
-    path = write(f"family_{name}_{n}.matches", told(words.engine, name, n))
-    if path not in COUNTS:
-        COUNTS[path] = times(words.program, path)
-    count = COUNTS[path]
-    return took(words.program, path, count, words.times) / count
-
-
 if __name__ == "__main__":
-    if sys.argv[1:2] == ["--build"] and len(sys.argv) == 3:
-        build(os.path.abspath(sys.argv[2]), CRATES, "tree_times", (HERE / "program/src/main.rt.txt").read_text())
-    else:
-        constructors.SHORTEST = SHORTEST
-        sys.exit(over_families("Measures lowering alone beside an engine in plain Rust.", FAMILIES, ours, "l", "lower", True))
+    time_families("Measures lowering alone beside an engine in plain Rust.", FAMILIES, "l", "lower", ("decision_tree",), HERE / "program")
