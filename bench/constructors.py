@@ -7,6 +7,8 @@ from measuring import read_words
 LONGEST_RATIO = 2.0
 STEEPEST = 1.5
 SHORTEST = 0.002
+# How often a family that missed a goal is measured again.
+MORE = 4
 NUMBERS = {
     ("0", "255"): "u8",
     ("0", "65535"): "u16",
@@ -161,22 +163,44 @@ def spent(engine, name, n, step, word, times):
     return min(float(words[words.index(word) + 1]) for words in told)
 
 
-def measured(words, name, first, ours, step, word, turns):
-    """Prints a family's times at its sizes, each the least of so many turns, and tells whether it met its goals."""
-    fine, before = True, None
-    for n in (first, 2 * first, 4 * first):
-        own = other = float("inf")
-        for _ in range(turns):
+def turns_of(words, name, sizes, ours, step, word, turns, least):
+    """Measures both programs so many times more at each size, by turns, and keeps the least time of each: what else the machine does only adds to a time."""
+    for _ in range(turns):
+        for n in sizes:
+            own, other = least.get(n, (float("inf"), float("inf")))
             own = min(own, ours(words, name, n))
-            other = min(other, spent(words.engine, name, n, step, word, words.times))
-        ratio = own / max(other, 1e-9)
+            least[n] = own, min(other, spent(words.engine, name, n, step, word, words.times))
+
+
+def judged(rows):
+    """Tells whether times at sizes that double, each of the program and of the other, meet both goals."""
+    fine, before = True, None
+    for own, other in rows:
+        if own > SHORTEST:
+            fine = fine and own <= LONGEST_RATIO * max(other, 1e-9)
+            fine = fine and (before is None or before[0] <= SHORTEST or own / before[0] <= STEEPEST * other / before[1])
+        before = (own, other)
+    return fine
+
+
+def measured(words, name, first, ours, step, word, turns):
+    """Prints a family's times at its sizes, each the least of so many turns, and tells whether it met its goals. Where it did not, turns are taken again, at
+    all sizes, a few times: a goal that is met once times are short is met."""
+    sizes, least = [first, 2 * first, 4 * first], {}
+    for again in range(1 + MORE):
+        turns_of(words, name, sizes, ours, step, word, turns, least)
+        if judged([least[n] for n in sizes]):
+            break
+    before = None
+    for n in sizes:
+        own, other = least[n]
         growth = own / before[0] if before and before[0] > 0 else 0.0
         steepness = other / before[1] if before else 0.0
-        print(f"{name:<24} {n:>6} {1000 * own:10.3f} {1000 * other:10.3f} {ratio:8.1f} {growth:8.2f} {steepness:8.2f}", flush=True)
-        if own > SHORTEST:
-            fine = fine and ratio <= LONGEST_RATIO
-            fine = fine and (before is None or before[0] <= SHORTEST or growth <= STEEPEST * steepness)
+        print(f"{name:<24} {n:>6} {1000 * own:10.3f} {1000 * other:10.3f} {own / max(other, 1e-9):8.1f} {growth:8.2f} {steepness:8.2f}", flush=True)
         before = (own, other)
+    fine = judged([least[n] for n in sizes])
+    if again or not fine:
+        print(f"{name:<24} {'met' if fine else 'MISSED'} after {(again + 1) * turns} turns", flush=True)
     return fine
 
 
