@@ -178,6 +178,50 @@ count-tree n p choice first e f =
     ap or_count (tree_out p) in
     omega (arith, own, all, f)
 
+no-own : (T : Type 0) (c : MCtor) → own_count {T = T} c no_de_pats ≡ 0
+no-own T OrCtor = refl
+no-own T c = refl
+
+none-there : {A : Type 0} (xs : List A) → nat_eq (length xs) 0 ≡ true → xs ≡ []
+none-there [] e = refl
+none-there (x ∷ xs) e =
+    let same : length (x ∷ xs) ≡ 0 = is-same (length (x ∷ xs)) 0 e in
+    absurd (omega (arith, same))
+
+-- a pattern without others below it
+pub leaf-counts : {T : Type 0} (p : DePat T) → nat_eq (length (placed_subs p)) 0 ≡ true → or_count (tree p) ≡ 0
+leaf-counts {T} p e =
+    ap or_count (tree_out p)
+    ∙ ap (λ ps. own_count (placed_ctor p) (de_pats_of (map tree ps)) + or_counts (de_pats_of (map tree ps)))
+    (none-there (placed_subs p) e)
+    ∙ ap (λ n. n + 0) (no-own T (placed_ctor p))
+
+pub leaf-decides : {T : Type 0} (n : ℕ) (p : DePat T) → nat_eq (length (placed_subs p)) 0 ≡ true →
+    decisions_in n (tree p) ≡ []
+leaf-decides n p e =
+    ap (decisions_in n) (tree_out p)
+    ∙ ap (λ ps. decisions_below (is_choice (placed_ctor p) (de_pats_of (map tree ps))) n 0
+    (own_count (placed_ctor p) (de_pats_of (map tree ps)) + n) (de_pats_of (map tree ps)))
+    (none-there (placed_subs p) e)
+
+-- one pattern more
+pub pattern-on : {T : Type 0} (choice : Bool) (n k before next : ℕ) (ps : List (DePat T)) (q : DePat T)
+    (f h all : ℕ → Option Decision) (whole : ℕ) → k < length ps → q ≡ get_or ps k q → next ≡ or_count (tree q) + before →
+    AddsDecisions f (own_decision choice (out-DePat T q).uid n k ++ decisions_in before (tree q)) h →
+    (counts_from (drop k ps) + before ≡ whole)
+    × ((u : ℕ) → or_second (f u) (listed_of (below_from choice n k before (drop k ps)) u) ≡ all u) →
+    (counts_from (drop (k + 1) ps) + next ≡ whole)
+    × ((u : ℕ) → or_second (h u) (listed_of (below_from choice n (k + 1) next (drop (k + 1) ps)) u) ≡ all u)
+pattern-on {T} choice n k before next ps q f h all whole l e is adds was =
+    let more = counts-more k ps q l e in
+    let sum = was.0 in
+    let these : List Listed = own_decision choice (out-DePat T q).uid n k ++ decisions_in before (tree q) in (
+      omega (arith, more, is, sum),
+      λ u. rest-after f h these (below_from choice n (k + 1) next (drop (k + 1) ps)) adds u
+          ∙ ap (λ (ds : List Listed). or_second (f u) (listed_of ds u)) (sym (below-next choice n k before next ps q l e is))
+          ∙ was.1 u,
+    )
+
 -- what the arms decide, one after the other
 abbrev pub arms_decide : {T : Type 0} → List (CheckedArm T) → List Listed
 arms_decide arms = flat_map (λ a. decisions_in 0 a.pat) (map plain_arm arms)

@@ -107,7 +107,9 @@ fn add_decisions<'a, T: Copy>(
     let mut next = number_behind(number, choice)?;
     for (k, q) in p.subs.iter().enumerate() {
         note_alternative(all, choice, q.uid, number, k as u64)?;
-        next = add_decisions(all, q, next)?;
+        if !q.subs.is_empty() {
+            next = add_decisions(all, q, next)?;
+        }
     }
     Ok(next)
 }
