@@ -37,6 +37,7 @@ mod Enough
 pub mod Stepwise
 mod Blanks
 pub mod Marks
+pub mod Unmarked
 pub mod Open
 pub mod RunTests
 mod HeadNames

@@ -1,11 +1,12 @@
 -- Rows without a column in which every row is wild (our own choice).
-use Rattle.std.specs.Prelude.{◌≡◌, ◌<◌, ◌⊎◌, ℕ, zero, suc, Bool, true, false, ◌&&◌, List, [], ◌∷◌, ◌++◌, map, drop, length, slice_get, Some, None}
+use Rattle.std.specs.Prelude.{◌≡◌, ◌<◌, ℕ, zero, suc, Bool, true, false, ◌&&◌, List, [], ◌∷◌, ◌++◌, map, drop, length, slice_get, Some, None}
 use Rattle.match_model.specs.Lists.{Every}
 use Rattle.match_model.specs.Lowering.{all_wild_at}
 use Rattle.match_model.specs.Matrices.{MColumn, MRow, head_binds}
 use Rattle.match_model.specs.Places.{MStep}
 use Rattle.match_model.specs.Rows.{Head, is_wild, starts_wild, wildcards}
 use Rattle.match_model.specs.Steps.{replaced_at}
+use Rattle.match_model.specs.Trees.{MBind}
 
 -- the head of column `i`
 abbrev pub head_at : {T : Type 0} → (i : ℕ) → List (Head T) → Head T
@@ -32,20 +33,27 @@ AreWildAt i rows = Every (λ r. is_wild (head_at i r.heads) ≡ true) rows
 abbrev pub AreAsLong : {T : Type 0} → List (MColumn T) → List (MRow T) → Type 0
 AreAsLong columns rows = Every (λ r. length r.heads ≡ length columns) rows
 
--- the columns and rows without column `i`, which is one of them
-pub record IsWithout {T : Type 0} (i : ℕ) (columns : List (MColumn T)) (rows : List (MRow T)) (cs : List (MColumn T))
-    (rs : List (MRow T)) : Type 0 where
-  pub column : MColumn T
-  pub there : slice_get columns i ≡ Some column
-  pub wild : all_wild_at i rows ≡ true
-  pub columns_are : cs ≡ replaced_at i columns []
-  pub rows_are : rs ≡ all_left_out column.place i rows
+-- those of a list that are not marked; behind the marks all stay
+abbrev pub unmarked : {A : Type 0} → List Bool → List A → List A
+unmarked [] xs = xs
+unmarked (mark ∷ marks) [] = []
+unmarked (true ∷ marks) (x ∷ xs) = unmarked marks xs
+unmarked (false ∷ marks) (x ∷ xs) = x ∷ unmarked marks xs
 
--- the same, where every row is wild in the column, or else they stay as they are
-abbrev pub IsLeftOutAt : {T : Type 0} → (i : ℕ) → List (MColumn T) → List (MRow T) → List (MColumn T) → List (MRow T) →
-    Type 0
-IsLeftOutAt i columns rows cs rs =
-    IsWithout i columns rows cs rs ⊎ ((all_wild_at i rows ≡ false) × (cs ≡ columns) × (rs ≡ rows))
+-- the names that heads bind in marked columns, in the order of these
+abbrev pub marked_binds : {T : Type 0} → List Bool → List (MColumn T) → List (Head T) → List MBind
+marked_binds [] columns heads = []
+marked_binds (mark ∷ marks) [] heads = []
+marked_binds (mark ∷ marks) (c ∷ columns) [] = []
+marked_binds (true ∷ marks) (c ∷ columns) (h ∷ heads) = head_binds c.place h ++ marked_binds marks columns heads
+marked_binds (false ∷ marks) (c ∷ columns) (h ∷ heads) = marked_binds marks columns heads
+
+-- the row without its heads in marked columns; the names that it bound there are caught before all others
+abbrev pub unmarked_row : {T : Type 0} → List Bool → List (MColumn T) → MRow T → MRow T
+unmarked_row marks columns r = record r {
+  heads = unmarked marks r.heads;
+  caught = marked_binds marks columns r.heads ++ r.caught;
+}
 
 -- such columns are left out, one after the other
 pub data LeavesOut {T : Type 0} (columns : List (MColumn T)) (rows : List (MRow T)) :

@@ -1,82 +1,196 @@
 // Columns in which every row has a wildcard or a name: a tree asks nothing there, so it is that of the rows without them.
-ghost use Rattle.std.specs.Prelude.{◌≡◌, ◌<◌, ◌≤◌, ◌+◌, ◌++◌, ◌∷◌, [], Some, map, length, IfOk};
-ghost use Rattle.std.specs.List.{All};
-ghost use Rattle.match_model.specs.Lowering.{all_wild_at};
+ghost use Rattle.std.specs.Prelude.{◌≡◌, ◌<◌, ◌≤◌, ◌+◌, ◌++◌, ◌∷◌, [], Some, map, drop, length, IfOk, OnOk};
+ghost use Rattle.std.specs.List.{All, list_any};
 ghost use Rattle.match_model.specs.Matrices.{bind_at};
 ghost use Rattle.pat_context.specs.Views.{plain_place};
 ghost use Rattle.pattern_arena.specs.Trees.{tree, plain_bound};
-ghost use Rattle.keyed_matrix.specs.Steps.{AreLonger};
-ghost use Rattle.keyed_matrix.specs.Views.{plain_caught, plain_run, plain_heads, plain_row, plain_rows};
+ghost use Rattle.keyed_matrix.specs.Views.{plain_caught, plain_columns, plain_run, plain_heads, plain_row, plain_rows};
 ghost use Rattle.decision_tree.specs.Matrices.{matrix_columns, matrix_rows};
-ghost use Rattle.decision_tree.specs.WildColumns.{left_out, all_left_out, AreAsLong, IsLeftOutAt, AreLeftOut};
+ghost use Rattle.decision_tree.specs.WildColumns.{unmarked, marked_binds, unmarked_row, AreAsLong, AreLeftOut};
 ghost use Rattle.decision_tree.specs.WildColumns.{StayWhereWild, AreWildMarks};
 
 use crate::frames::Matrix;
 use crate::leaves::is_wild_pat;
-use keyed_matrix::{Caught, HeadRun, KeyedRow, head_at, replaced_heads, size_of};
+use keyed_matrix::{Caught, HeadRun, KeyedColumn, KeyedRow, add_wilds, size_of};
 use no_memory::NoMemory;
 use pat_context::Step;
 use pattern_arena::{Bound, DePat};
 use std::alloc::Global;
 
-// The names, caught at the place, and behind them those that were caught before.
-fn caught_first<'a>(
-    alloc: Global,
+// Adds the names, caught at the place.
+fn add_names<'a>(
+    all: &mut Vec<Caught<'a>>,
     binds: &[Bound<'a>],
     place: &'a [Step],
-    caught: &[Caught<'a>],
-) -> Result<Vec<Caught<'a>>, NoMemory>
-    ensures { IfOk result (λ c. map plain_caught c.items
-        ≡ map (bind_at (plain_place place.now)) (map plain_bound binds.now) ++ map plain_caught caught.now) }
+) -> Result<(), NoMemory>
+    ensures { OnOk result (map plain_caught all.new.items
+        ≡ map plain_caught all.old.items ++ map (bind_at (plain_place place.now)) (map plain_bound binds.now)) }
 {
-    let mut all = Vec::new(alloc);
     for bound in binds {
         all.push(Caught {
             bound: *bound,
             place,
         })?;
     }
-    all.extend_from_slice(caught)?;
-    Ok(all)
+    Ok(())
 }
 
-// The row without its head at the column, which has the place; the names that the head binds are caught before all others.
-fn without_head<'a, T: Copy>(
-    alloc: Global,
-    row: KeyedRow<'a, T>,
-    i: usize,
-    place: &'a [Step],
-) -> Result<KeyedRow<'a, T>, NoMemory>
-    requires { i < length (plain_row row).heads }
-    ensures { IfOk result (λ r. plain_row r ≡ left_out (plain_place place.now) i (plain_row row.entry)) }
+// How many of the columns are not marked.
+fn count_unmarked(marks: &[bool]) -> usize
+    ensures { result ≡ length (unmarked marks.now marks.now) }
 {
-    let mut row = row;
-    let head = head_at(&row, i);
-    row.heads = replaced_heads(alloc, &row.heads, i, &[])?;
-    match head {
-        None => Ok(row),
-        Some(p) => {
-            row.caught = caught_first(alloc, p.binds, place, &row.caught)?;
-            Ok(row)
+    let mut count = 0;
+    for mark in marks {
+        if !*mark {
+            count += 1;
+        }
+    }
+    count
+}
+
+// Adds those of the heads that do not stand in a marked column; the first stands in the column with the number.
+fn add_unmarked<'a, T: Copy>(
+    all: &mut Vec<HeadRun<'a, T>>,
+    marks: &[bool],
+    at: usize,
+    one: &HeadRun<'a, T>,
+) -> Result<(), NoMemory>
+    requires { at + length (plain_run one.now) ≤ length marks.now }
+    ensures { OnOk result (plain_heads all.new.items
+        ≡ plain_heads all.old.items ++ unmarked (drop at marks.now) (plain_run one.now)) }
+{
+    match one {
+        HeadRun::Wilds(count) => {
+            let end = at + *count;
+            add_wilds(all, count_unmarked(&marks[at..end]))
+        }
+        HeadRun::Written(p) => {
+            if !marks[at] {
+                all.push(HeadRun::Written(*p))?;
+            }
+            Ok(())
         }
     }
 }
 
-// The rows, each without its head at the column.
-fn without_heads<'a, T: Copy>(
+// The heads that do not stand in a marked column.
+fn unmarked_heads<'a, T: Copy>(
+    alloc: Global,
+    marks: &[bool],
+    heads: &[HeadRun<'a, T>],
+) -> Result<Vec<HeadRun<'a, T>>, NoMemory>
+    requires { length (plain_heads heads.now) ≡ length marks.now }
+    ensures { IfOk result (λ v. plain_heads v.items ≡ unmarked marks.now (plain_heads heads.now)) }
+{
+    let mut all = Vec::with_capacity(alloc, heads.len())?;
+    let mut at = 0;
+    for one in heads {
+        add_unmarked(&mut all, marks, at, one)?;
+        at += size_of(one);
+    }
+    Ok(all)
+}
+
+// Adds the names that the heads bind in marked columns; the first stands in the column with the number.
+fn add_marked<'a, T: Copy>(
+    all: &mut Vec<Caught<'a>>,
+    marks: &[bool],
+    columns: &[KeyedColumn<'a, T>],
+    at: usize,
+    one: &HeadRun<'a, T>,
+) -> Result<(), NoMemory>
+    requires within { at + length (plain_run one.now) ≤ length marks.now }
+    requires long { length columns.now ≡ length marks.now }
+    ensures { OnOk result (map plain_caught all.new.items ≡ map plain_caught all.old.items
+        ++ marked_binds (drop at marks.now) (drop at (plain_columns columns.now)) (plain_run one.now)) }
+{
+    match one {
+        HeadRun::Wilds(_count) => Ok(()),
+        HeadRun::Written(p) => {
+            if marks[at] {
+                add_names(all, p.binds, columns[at].place)
+            } else {
+                Ok(())
+            }
+        }
+    }
+}
+
+// The names that the heads bind in marked columns.
+fn marked_names<'a, T: Copy>(
+    alloc: Global,
+    marks: &[bool],
+    columns: &[KeyedColumn<'a, T>],
+    heads: &[HeadRun<'a, T>],
+) -> Result<Vec<Caught<'a>>, NoMemory>
+    requires heads { length (plain_heads heads.now) ≡ length marks.now }
+    requires long { length columns.now ≡ length marks.now }
+    ensures { IfOk result (λ v. map plain_caught v.items
+        ≡ marked_binds marks.now (plain_columns columns.now) (plain_heads heads.now)) }
+{
+    let mut all = Vec::new(alloc);
+    let mut at = 0;
+    for one in heads {
+        add_marked(&mut all, marks, columns, at, one)?;
+        at += size_of(one);
+    }
+    Ok(all)
+}
+
+// The row without its heads in marked columns; the names that they bind are caught before all others.
+fn unmarked_row<'a, T: Copy>(
+    alloc: Global,
+    row: KeyedRow<'a, T>,
+    marks: &[bool],
+    columns: &[KeyedColumn<'a, T>],
+) -> Result<KeyedRow<'a, T>, NoMemory>
+    requires heads { length (plain_row row).heads ≡ length marks.now }
+    requires long { length columns.now ≡ length marks.now }
+    ensures { IfOk result (λ r. plain_row r
+        ≡ unmarked_row marks.now (plain_columns columns.now) (plain_row row.entry)) }
+{
+    let mut row = row;
+    let mut names = marked_names(alloc, marks, columns, &row.heads)?;
+    names.extend_from_slice(&row.caught)?;
+    row.heads = unmarked_heads(alloc, marks, &row.heads)?;
+    row.caught = names;
+    Ok(row)
+}
+
+// The rows, each without its heads in marked columns.
+fn unmarked_rows<'a, T: Copy>(
     alloc: Global,
     rows: Vec<KeyedRow<'a, T>>,
-    i: usize,
-    place: &'a [Step],
+    marks: &[bool],
+    columns: &[KeyedColumn<'a, T>],
 ) -> Result<Vec<KeyedRow<'a, T>>, NoMemory>
-    requires { AreLonger i (plain_rows rows.items) }
+    requires heads { All (λ r. length r.heads ≡ length marks.now) (plain_rows rows.items) }
+    requires long { length columns.now ≡ length marks.now }
     ensures { IfOk result (λ v. plain_rows v.items
-        ≡ all_left_out (plain_place place.now) i (plain_rows rows.entry.items)) }
+        ≡ map (unmarked_row marks.now (plain_columns columns.now)) (plain_rows rows.entry.items)) }
 {
     let mut all = Vec::with_capacity(alloc, rows.len())?;
     for row in rows {
-        let new = without_head(alloc, row, i, place)?;
+        let new = unmarked_row(alloc, row, marks, columns)?;
         all.push(new)?;
+    }
+    Ok(all)
+}
+
+// The columns that are not marked.
+fn unmarked_columns<'a, T: Copy>(
+    alloc: Global,
+    marks: &[bool],
+    columns: &[KeyedColumn<'a, T>],
+) -> Result<Vec<KeyedColumn<'a, T>>, NoMemory>
+    requires { length columns.now ≡ length marks.now }
+    ensures { IfOk result (λ v. v.items ≡ unmarked marks.now columns.now) }
+{
+    let mut all = Vec::new(alloc);
+    for i in 0..columns.len() {
+        if !marks[i] {
+            all.extend_from_slice(&columns[i..i + 1])?;
+        }
     }
     Ok(all)
 }
@@ -136,27 +250,16 @@ fn wild_columns<'a, T: Copy>(
     Ok(marks)
 }
 
-// The matrix without the column with the number, where the mark says that every row is wild there.
-fn without_wild_at<'a, T: Copy>(
-    alloc: Global,
-    m: Matrix<'a, T>,
-    i: usize,
-    wild: bool,
-) -> Result<Matrix<'a, T>, NoMemory>
-    requires within { i < length m.columns.items }
-    requires as_long { AreAsLong (matrix_columns m) (matrix_rows m) }
-    requires wild { wild ≡ all_wild_at i (matrix_rows m) }
-    ensures { IfOk result (λ e. IsLeftOutAt i (matrix_columns m.entry) (matrix_rows m.entry) (matrix_columns e)
-        (matrix_rows e)) }
+// Tells whether a column is marked.
+fn is_some_marked(marks: &[bool]) -> bool
+    ensures { result ≡ list_any (λ mark. mark) marks.now }
 {
-    if !wild {
-        return Ok(m);
+    for mark in marks {
+        if *mark {
+            return true;
+        }
     }
-    let Matrix { columns, rows } = m;
-    let mut columns = columns;
-    let column = columns.remove(i);
-    let rows = without_heads(alloc, rows, i, column.place)?;
-    Ok(Matrix { columns, rows })
+    false
 }
 
 // The matrix without the columns in which every row is wild.
@@ -168,12 +271,12 @@ pub(crate) fn without_wild<'a, T: Copy>(
     ensures { IfOk result (λ e. AreLeftOut (matrix_columns m.entry) (matrix_rows m.entry) (matrix_columns e)
         (matrix_rows e)) }
 {
-    let count = m.columns.len();
-    let marks = wild_columns(alloc, count, &m.rows)?;
-    let mut m = m;
-    for k in 0..count {
-        let i = count - 1 - k;
-        m = without_wild_at(alloc, m, i, marks[i])?;
+    let marks = wild_columns(alloc, m.columns.len(), &m.rows)?;
+    if !is_some_marked(&marks) {
+        return Ok(m);
     }
-    Ok(m)
+    let Matrix { columns, rows } = m;
+    let rows = unmarked_rows(alloc, rows, &marks, &columns)?;
+    let columns = unmarked_columns(alloc, &marks, &columns)?;
+    Ok(Matrix { columns, rows })
 }

@@ -1,71 +1,46 @@
-use Rattle.std.proofs.Common.{◌≡◌, ◌<◌, ◌+◌, ◌-◌, ◌∙◌, length, Some, ap, sym, subst, arith}
-use Rattle.std.specs.List.{All}
+use Rattle.std.proofs.Common.{◌≡◌, ◌∙◌, map, length, ap, sym, subst, arith}
+use Rattle.std.specs.List.{list_any}
 use Rattle.std.proofs.lemmas.List.{length-map}
-use Rattle.match_model.specs.Lowering.{all_wild_at}
-use Rattle.keyed_matrix.specs.Views.{plain_column, plain_rows}
+use Rattle.keyed_matrix.specs.Views.{plain_column, plain_columns, plain_rows}
 use Rattle.decision_tree.specs.Matrices.{matrix_columns, matrix_rows}
-use Rattle.decision_tree.proofs.Reading.{read-one}
-use Rattle.decision_tree.proofs.WildOut.{ArePartlyOut, every-all, out-begun, out-more}
+use Rattle.decision_tree.specs.WildColumns.{unmarked, unmarked_row, AreLeftOut, AreWildMarks}
+use Rattle.decision_tree.proofs.Unmarked.{unmarked-map}
+use Rattle.decision_tree.proofs.WildOut.{unmarked-out, none-out-at-all}
 use Rattle.decision_tree.proofs.wild.without_wild.Goals as goal
 
-pub wild_columns-requires : goal.wild_columns-requires
-wild_columns-requires g c =
+pub returns-then-not-is_some_marked : goal.returns-then-not-is_some_marked
+returns-then-not-is_some_marked g c =
     let m = c.args.m in
     let columns = matrix_columns m in
     let rows = matrix_rows m in
+    let marks = c.in_ok-marks.marks.items in
     let long = length-map m.columns.items plain_column in
-    let count = c.len-count.ensures in
+    let count = c.len.ensures in
     let ok = m.columns.ok.0 in
-    let same : length columns ≡ c.len-count.result = omega (arith, long, count, ok) in
-    let each : All (λ r. length r.heads ≡ c.len-count.result) rows =
-    subst (λ n. All (λ r. length r.heads ≡ n) rows) same
-    (every-all (λ r. length r.heads ≡ length columns) rows c.requires) in
-    subst (λ rs. All (λ r. length r.heads ≡ c.len-count.result) (plain_rows rs)) (sym c.deref.ensures.value) each
+    let same : c.len.result ≡ length columns = omega (arith, long, count, ok) in
+    let are = subst (λ n. AreWildMarks n rows marks) same
+    (subst (λ rs. AreWildMarks c.len.result (plain_rows rs) marks) c.deref.ensures.value c.in_ok-marks.ensures) in
+    none-out-at-all columns rows marks c.requires are
+    (ap (list_any (λ b. b)) (sym c.deref-2.ensures.value) ∙ sym c.is_some_marked.ensures ∙ c.if-not-is_some_marked.true)
 
-pub index-requires : goal.index-requires
-index-requires g c =
-    let count = c.len-count.result in
-    let long : length c.in_ok-marks.marks.items ≡ count = c.in_ok-marks.ensures.long in
-    let ok = c.in_ok-marks.marks.ok.0 in
-    omega (arith, long, ok, c.loop-k-test.true)
-
-pub without_wild_at-requires-clause-wild : goal.without_wild_at-requires-clause-wild
-without_wild_at-requires-clause-wild g c =
-    let count = c.len-count.result in
-    let k = c.loop-k.k in
-    let i = count - 1 - k in
-    let rows = matrix_rows c.args.m in
-    let below : k < count = c.loop-k-test.true in
-    let inside : i < count = omega (arith, below) in
-    let before : i < count - k = omega (arith, below) in
-    read-one c.in_ok-marks.marks.items i c.index.result.now (all_wild_at i rows)
-    (c.in_ok-marks.ensures.are i inside ∙ ap (λ rs. Some (all_wild_at i (plain_rows rs))) c.deref.ensures.value)
-    c.index.ensures
-    ∙ sym (c.loop-k.invariant.before i before)
-
-pub loop-k-init : goal.loop-k-init
-loop-k-init g c =
+pub returns : goal.returns
+returns g c =
     let m = c.args.m in
     let columns = matrix_columns m in
     let rows = matrix_rows m in
+    let marks = c.in_ok-marks.marks.items in
     let long = length-map m.columns.items plain_column in
-    let count = c.len-count.ensures in
+    let count = c.len.ensures in
     let ok = m.columns.ok.0 in
-    let e : length columns ≡ c.len-count.result - 0 = omega (arith, long, count, ok) in
-    subst (λ n. ArePartlyOut n columns rows columns rows) e (out-begun columns rows c.requires)
-
-pub loop-k-preserved : goal.loop-k-preserved
-loop-k-preserved g c =
-    let count = c.len-count.result in
-    let k = c.loop-k.k in
-    let i = count - 1 - k in
-    let columns = matrix_columns c.args.m in
-    let rows = matrix_rows c.args.m in
-    let below : k < count = c.loop-k-test.true in
-    let one : count - k ≡ i + 1 = omega (arith, below) in
-    let two : i ≡ count - (k + 1) = omega (arith, below) in
-    subst (λ n. ArePartlyOut n columns rows (matrix_columns c.in_ok-m.m) (matrix_rows c.in_ok-m.m)) two
-    (out-more i columns rows (matrix_columns c.loop-k.m) (matrix_rows c.loop-k.m) (matrix_columns c.in_ok-m.m)
-    (matrix_rows c.in_ok-m.m)
-    (subst (λ n. ArePartlyOut n columns rows (matrix_columns c.loop-k.m) (matrix_rows c.loop-k.m)) one c.loop-k.invariant)
-    c.in_ok-m.ensures)
+    let same : c.len.result ≡ length columns = omega (arith, long, count, ok) in
+    let are = subst (λ n. AreWildMarks n rows marks) same
+    (subst (λ rs. AreWildMarks c.len.result (plain_rows rs) marks) c.deref.ensures.value c.in_ok-marks.ensures) in
+    let new : plain_columns c.in_ok-columns.columns.items ≡ unmarked marks columns =
+    ap plain_columns (c.in_ok-columns.ensures ∙ (λ k. unmarked (c.deref-5.ensures.value k) (c.deref-6.ensures.value k)))
+    ∙ unmarked-map plain_column marks m.columns.items in
+    let made : plain_rows c.in_ok-rows.rows.items ≡ map (unmarked_row marks columns) rows =
+    c.in_ok-rows.ensures
+    ∙ (λ k. map (unmarked_row (c.deref-3.ensures.value k) (plain_columns (c.deref-4.ensures.value k))) rows) in
+    subst (λ cs. AreLeftOut columns rows cs (plain_rows c.in_ok-rows.rows.items)) (sym new)
+    (subst (AreLeftOut columns rows (unmarked marks columns)) (sym made)
+    (unmarked-out columns rows marks c.requires are))
