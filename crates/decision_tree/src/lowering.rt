@@ -19,7 +19,7 @@ ghost use Rattle.decision_tree.specs.KnownTrees.{AreKnown, Keeps};
 ghost use Rattle.decision_tree.specs.KnownViews.{known_entries};
 ghost use Rattle.decision_tree.specs.Matrices.{matrix_columns, matrix_rows, IsGoodMatrix};
 ghost use Rattle.decision_tree.specs.Waiting.{Root, Tells, IsBare, Makes, Awaits, IsLeftOf, IsOpened, IsTurn};
-ghost use Rattle.decision_tree.specs.declared.frames.Turn.TheVariants.{Finished};
+ghost use Rattle.decision_tree.specs.declared.frames.Turn.TheVariants.{Finished, Lower};
 
 use crate::binds::{place_by, row_binds};
 use crate::branches::place_of;
@@ -169,6 +169,31 @@ fn finish_row<'a, C: PatCx>(
     }
 }
 
+// Lowers the rows without wildcards that bind nothing. Where the columns are fewer than before no parts came, and no row has
+// a head that it had not before.
+fn lower_thin<'a, C: PatCx>(
+    alloc: Global,
+    cx: &C,
+    decisions: &Decisions,
+    frames: &Vec<Frame<'a, C::Ty>>,
+    table: &NodeTable,
+    m: Matrix<'a, C::Ty>,
+    before: usize,
+) -> Result<Turn<'a, C::Ty>, NoMemory>
+    ghost root: { Root C.Ty }
+    requires { IsTurn (C.is_type cx.now) (C.context cx.now) (C.is_value cx.now) (table_decides decisions.now) root
+        (reverse frames.now.items) (table_trees table.now) (Lower m) }
+    ensures { IfOk result (λ t. IsTurn (C.is_type cx.now) (C.context cx.now) (C.is_value cx.now)
+        (table_decides decisions.now) root (reverse frames.now.items) (table_trees table.now) t) }
+{
+    if m.columns.len() < before {
+        return Ok(Turn::Lower(m));
+    }
+    let Matrix { columns, rows } = m;
+    let rows = thin_rows(alloc, rows)?;
+    Ok(Turn::Lower(Matrix { columns, rows }))
+}
+
 // Goes on with the next case of the switch, from the last to the first; where none is left, the switch is finished.
 fn next_case<'a, C: PatCx>(
     alloc: Global,
@@ -204,8 +229,9 @@ fn next_case<'a, C: PatCx>(
                 &piece,
                 &numbers,
             )?;
+            let before = looked.matrix.columns.len();
             frames.push(Frame::Switch { looked, case })?;
-            Ok(Turn::Lower(next))
+            lower_thin(alloc, cx, decisions, frames, table, next, before)
         }
         None => {
             let place = place_by(alloc, looked.matrix.columns[looked.column].place)?;
@@ -281,7 +307,7 @@ fn open_column<'a, C: PatCx>(
     let ctors = ctors_at(alloc, &e.rows, i)?;
     let split = split_column(alloc, cx, e.columns[i].ty, e.columns[i].validity, &ctors)?;
     let next = entered(alloc, arena, cx, decisions, &e, i, &split.pieces[0].ctor)?;
-    Ok(Turn::Lower(next))
+    lower_thin(alloc, cx, decisions, frames, table, next, e.columns.len())
 }
 
 // Looks at the column: its or-patterns are taken apart, and then it is dropped where no row has a constructor there.
@@ -370,8 +396,7 @@ fn look_up<'a, C: PatCx>(
 {
     tables_are_built(table);
     let Matrix { columns, rows } = m;
-    let thin = thin_rows(alloc, rows)?;
-    let rows = lone(alloc, thin);
+    let rows = lone(alloc, rows);
     let m = without_wild(alloc, Matrix { columns, rows })?;
     let matrix = known_matrix(alloc, &m.columns, &m.rows)?;
     if let Some(index) = find_known(known, &matrix) {

@@ -2,6 +2,7 @@
 // none of their patterns is looked at again.
 ghost use Rattle.std.specs.Prelude.{◌≡◌, ◌++◌, map, IfOk, OnOk};
 ghost use Rattle.std.specs.List.{list_any};
+ghost use Rattle.match_model.specs.Rows.{wildcards};
 ghost use Rattle.pattern_arena.specs.Trees.{tree};
 ghost use Rattle.keyed_matrix.specs.Views.{plain_run, plain_heads, plain_row, plain_rows};
 ghost use Rattle.decision_tree.specs.Thin.{is_blank, is_blank_head, thin_head, thin_row, thin_rows};
@@ -45,24 +46,44 @@ fn have_blank<'a, T: Copy>(heads: &[HeadRun<'a, T>]) -> bool
     false
 }
 
-// Adds the heads side by side without such wildcards.
+// How many wildcards wait to be added when so many more do; where they cannot be counted, those before are added.
+#[tactic(auto, using(crate::proofs::RunTests::run_tests))]
+fn more_wilds<'a, T: Copy>(
+    all: &mut Vec<HeadRun<'a, T>>,
+    waiting: usize,
+    count: usize,
+) -> Result<usize, NoMemory>
+    ensures { IfOk result (λ n. plain_heads all.new.items ++ wildcards n
+        ≡ (plain_heads all.old.items ++ wildcards waiting) ++ wildcards count) }
+{
+    match waiting.checked_add(count) {
+        Some(sum) => Ok(sum),
+        None => {
+            add_wilds(all, waiting)?;
+            Ok(count)
+        }
+    }
+}
+
+// Adds the heads side by side without such wildcards, behind so many that wait to be added. Gives how many wait then.
 #[tactic(auto, using(crate::proofs::RunTests::run_tests))]
 fn add_thin<'a, T: Copy>(
     all: &mut Vec<HeadRun<'a, T>>,
+    waiting: usize,
     one: &HeadRun<'a, T>,
-) -> Result<(), NoMemory>
-    ensures { OnOk result (plain_heads all.new.items
-        ≡ plain_heads all.old.items ++ map thin_head (plain_run one.now)) }
+) -> Result<usize, NoMemory>
+    ensures { IfOk result (λ n. plain_heads all.new.items ++ wildcards n
+        ≡ (plain_heads all.old.items ++ wildcards waiting) ++ map thin_head (plain_run one.now)) }
 {
     match one {
-        HeadRun::Wilds(count) => add_wilds(all, *count),
+        HeadRun::Wilds(count) => more_wilds(all, waiting, *count),
         HeadRun::Written(p) => {
             if is_blank(*p) {
-                add_wilds(all, 1)
-            } else {
-                all.push(HeadRun::Written(*p))?;
-                Ok(())
+                return more_wilds(all, waiting, 1);
             }
+            add_wilds(all, waiting)?;
+            all.push(HeadRun::Written(*p))?;
+            Ok(0)
         }
     }
 }
@@ -75,9 +96,11 @@ fn thin_heads<'a, T: Copy>(
     ensures { IfOk result (λ v. plain_heads v.items ≡ map thin_head (plain_heads heads.now)) }
 {
     let mut all = Vec::new(alloc);
+    let mut waiting = 0;
     for one in heads {
-        add_thin(&mut all, one)?;
+        waiting = add_thin(&mut all, waiting, one)?;
     }
+    add_wilds(&mut all, waiting)?;
     Ok(all)
 }
 

@@ -1,6 +1,4 @@
-use Rattle.std.proofs.Common.{◌∙◌, ◌≤◌, reverse, subst, refl, sym}
-use Rattle.match_model.specs.Lists.{Ordered}
-use Rattle.match_model.specs.Matrices.{MRow}
+use Rattle.std.proofs.Common.{◌∙◌, reverse, subst, refl, sym}
 use Rattle.keyed_matrix.specs.Deciding.{table_decides}
 use Rattle.keyed_matrix.specs.Views.{plain_columns, plain_rows}
 use Rattle.tree_eval.specs.Trees.{table_trees}
@@ -10,9 +8,6 @@ use Rattle.decision_tree.specs.Known.{known_matrix}
 use Rattle.decision_tree.specs.KnownViews.{plain_known_matrix, known_entries}
 use Rattle.decision_tree.specs.Matrices.{matrix_columns, matrix_rows}
 use Rattle.decision_tree.specs.Waiting.{Awaits}
-use Rattle.decision_tree.specs.Thin.{thin_rows}
-use Rattle.decision_tree.proofs.ThinGood.{parted-thin}
-use Rattle.decision_tree.proofs.ThinMatrix.{IsThinOf, thin-open, thin-some, thin-matrix, thin-scope, thin-waits}
 use Rattle.decision_tree.proofs.Knowing.{by-arm, lone-open, lone-some, lone-scope, lone-matrix, lone-waits, known-turn, note-begun}
 use Rattle.decision_tree.proofs.LeftOut.{out-some-rows, out-open-rows, long-matrix, out-matrix, out-scope, out-waits}
 use Rattle.decision_tree.proofs.Turning.{last-first}
@@ -21,9 +16,7 @@ use Rattle.decision_tree.proofs.lowering.look_up.Goals as goal
 pub lone-rows-requires : goal.lone-rows-requires
 lone-rows-requires g c =
     let decides = table_decides c.args.decisions.now in
-    subst (Ordered (λ (r s : MRow g.row.C-Ty.Denot). r.arm ≤ s.arm)) (sym c.in_ok-thin.ensures)
-    (by-arm decides (thin_rows (matrix_rows c.args.m))
-    (parted-thin decides (matrix_rows c.args.m) c.requires.1.1.1.1.0.parted))
+    by-arm decides (matrix_rows c.args.m) c.requires.1.1.1.1.0.parted
 
 pub without_wild-requires : goal.without_wild-requires
 without_wild-requires g c =
@@ -33,12 +26,10 @@ without_wild-requires g c =
     let V = g.C.PatCx.is_value cx in
     let decides = table_decides c.args.decisions.now in
     let m = c.args.m in
-    let first : Matrix g.row.C-Ty.Denot = record { columns = m.columns; rows = c.in_ok-thin.thin } in
-    let thin : IsThinOf m first = record { columns = refl; rows = c.in_ok-thin.ensures } in
-    let sound = thin-matrix IsType context V decides g.root m first thin c.requires.1.1.1.1.0 in
+    let sound = c.requires.1.1.1.1.0 in
     let next : Matrix g.row.C-Ty.Denot = record { columns = m.columns; rows = c.lone-rows.result } in
     long-matrix IsType context V decides g.root next
-    (lone-matrix IsType context V decides g.root first next refl c.lone-rows.ensures sound)
+    (lone-matrix IsType context V decides g.root m next refl c.lone-rows.ensures sound)
 
 pub returns-in-Some-clause-turn : goal.returns-in-Some-clause-turn
 returns-in-Some-clause-turn g c =
@@ -50,26 +41,21 @@ returns-in-Some-clause-turn g c =
     let frames = reverse c.args.frames.now.items in
     let now = table_trees c.args.table.now in
     let m = c.args.m in
-    let first : Matrix g.row.C-Ty.Denot = record { columns = m.columns; rows = c.in_ok-thin.thin } in
-    let thin : IsThinOf m first = record { columns = refl; rows = c.in_ok-thin.ensures } in
-    let sound = thin-matrix IsType context V decides g.root m first thin c.requires.1.1.1.1.0 in
+    let sound = c.requires.1.1.1.1.0 in
     let next : Matrix g.row.C-Ty.Denot = record { columns = m.columns; rows = c.lone-rows.result } in
     let less = c.in_ok-m.m in
-    let good = lone-matrix IsType context V decides g.root first next refl c.lone-rows.ensures sound in
+    let good = lone-matrix IsType context V decides g.root m next refl c.lone-rows.ensures sound in
     known-turn IsType context V decides g.root frames now less (known_entries c.args.known.now)
     (plain_known_matrix c.in_ok-matrix.matrix) c.in-Some.index c.tables_are_built.ensures c.requires.1.1.1.1.1.1.1.1
     (out-scope IsType context V decides g.root next less c.in_ok-m.ensures.leaves
-    (lone-scope IsType context V decides g.root first next refl c.lone-rows.ensures
-    (thin-scope IsType context V decides g.root m first thin c.requires.1.1.1.1.1.1.0)))
+    (lone-scope IsType context V decides g.root m next refl c.lone-rows.ensures c.requires.1.1.1.1.1.1.0))
     c.requires.1.1.1.1.1.1.1.0
     (c.in_ok-matrix.ensures ∙ (λ k. known_matrix (plain_columns (c.deref.ensures.value k)) (plain_rows (c.deref-2.ensures.value k))))
     c.in-Some.ensures
     (out-waits IsType context V decides g.root (g.met.C.PatCx.parts cx) (g.met.C.PatCx.values cx) frames now next less
     c.in_ok-m.ensures.leaves good
-    (lone-waits IsType context V decides g.root (g.met.C.PatCx.parts cx) (g.met.C.PatCx.values cx) frames now first next refl
-    c.lone-rows.ensures sound
-    (thin-waits IsType context V decides g.root (g.met.C.PatCx.parts cx) (g.met.C.PatCx.values cx) frames now m first
-    thin c.requires.1.1.1.1.0 c.requires.1.1.1.1.1.0)))
+    (lone-waits IsType context V decides g.root (g.met.C.PatCx.parts cx) (g.met.C.PatCx.values cx) frames now m next refl
+    c.lone-rows.ensures sound c.requires.1.1.1.1.1.0))
 
 pub look_next-requires : goal.look_next-requires
 look_next-requires g c κs inside =
@@ -81,19 +67,15 @@ look_next-requires g c κs inside =
     let frames = reverse c.args.frames.now.items in
     let now = table_trees c.args.table.now in
     let m = c.args.m in
-    let first : Matrix g.row.C-Ty.Denot = record { columns = m.columns; rows = c.in_ok-thin.thin } in
-    let thin : IsThinOf m first = record { columns = refl; rows = c.in_ok-thin.ensures } in
-    let sound = thin-matrix IsType context V decides g.root m first thin c.requires.1.1.1.1.0 in
+    let sound = c.requires.1.1.1.1.0 in
     let next : Matrix g.row.C-Ty.Denot = record { columns = m.columns; rows = c.lone-rows.result } in
     let less = c.in_ok-m.m in
     let leaves = c.in_ok-m.ensures.leaves in
     let matrix = c.in_ok-matrix.matrix in
-    let good = lone-matrix IsType context V decides g.root first next refl c.lone-rows.ensures sound in
-    let some_first = thin-some m.rows.items first.rows.items c.in_ok-thin.ensures c.requires.1.1.0 in
-    let some = lone-some first.rows.items next.rows.items c.lone-rows.ensures some_first in
+    let good = lone-matrix IsType context V decides g.root m next refl c.lone-rows.ensures sound in
+    let some = lone-some m.rows.items next.rows.items c.lone-rows.ensures c.requires.1.1.0 in
     let scope = out-scope IsType context V decides g.root next less leaves
-    (lone-scope IsType context V decides g.root first next refl c.lone-rows.ensures
-    (thin-scope IsType context V decides g.root m first thin c.requires.1.1.1.1.1.1.0)) in (
+    (lone-scope IsType context V decides g.root m next refl c.lone-rows.ensures c.requires.1.1.1.1.1.1.0) in (
       inside.0,
       (
         inside.1,
@@ -101,9 +83,7 @@ look_next-requires g c κs inside =
           out-some-rows (matrix_columns next) (matrix_columns less) next.rows.items less.rows.items leaves some,
           (
             out-open-rows (matrix_columns next) (matrix_columns less) next.rows.items less.rows.items leaves some
-                (lone-open first.rows.items next.rows.items c.lone-rows.ensures
-                (thin-open m.rows.items first.rows.items c.in_ok-thin.ensures c.requires.1.1.1.0 c.requires.1.1.0)
-                some_first),
+                (lone-open m.rows.items next.rows.items c.lone-rows.ensures c.requires.1.1.1.0 c.requires.1.1.0),
             (
               out-matrix IsType context V decides g.root next less leaves good,
               (
@@ -115,9 +95,7 @@ look_next-requires g c κs inside =
                     (out-waits IsType context V decides g.root (g.met.C.PatCx.parts cx) (g.met.C.PatCx.values cx) frames now next
                     less leaves good
                     (lone-waits IsType context V decides g.root (g.met.C.PatCx.parts cx) (g.met.C.PatCx.values cx) frames now
-                    first next refl c.lone-rows.ensures sound
-                    (thin-waits IsType context V decides g.root (g.met.C.PatCx.parts cx) (g.met.C.PatCx.values cx) frames now m
-                    first thin c.requires.1.1.1.1.0 c.requires.1.1.1.1.1.0)))),
+                    m next refl c.lone-rows.ensures sound c.requires.1.1.1.1.1.0))),
                 scope,
               ),
             ),

@@ -136,8 +136,8 @@ entered_among-requires-clause-whole g c = λ n place.
     subst (λ xs. IsFront (listed_at (specialise_head p n) place i rows xs) (rows_at (specialise_head p n) place i rows))
     (sym c.deref-in-Some-2.ensures.value) (next-front i rows ks p spans todo cut long numbers led n place)
 
-pub returns-in-Some-clause-turn : goal.returns-in-Some-clause-turn
-returns-in-Some-clause-turn g c =
+pub lower_thin-requires : goal.lower_thin-requires
+lower_thin-requires g c κs inside =
     let cx = c.args.cx.now in
     let IsType = g.C.PatCx.is_type cx in
     let context = g.C.PatCx.context cx in
@@ -165,23 +165,29 @@ returns-in-Some-clause-turn g c =
     (subst (λ ss. All (IsCutPart old.column (matrix_rows old.matrix) ss) c.next_cut.new.todo.items) c.deref-in-Some.ensures.value
     (subst (λ rs. All (IsCutPart old.column (plain_rows rs) c.deref-in-Some.result.now) c.next_cut.new.todo.items) c.deref.ensures.value
     c.in_ok-numbers-in-Some.ensures.parts)) in (
-      c.in_ok-next-in-Some.ensures.good,
-      subst (λ fs. Awaits IsType context V decides g.root fs now (matrix_columns next) (matrix_rows next))
-          (sym (last-first c.args.frames.now.items c.push.new.self.items (Switch l case) c.in_ok-push-in-Some.ensures.items))
-          (leads-more IsType context V decides g.root (Switch l case ∷ frames) now (matrix_columns next) (matrix_columns next)
-          (matrix_rows next) c.in_ok-next-in-Some.ensures.entered.whole
-          (front-leads IsType context V decides g.root (matrix_columns next) (matrix_rows next)
-          c.in_ok-next-in-Some.ensures.entered.whole c.in_ok-next-in-Some.ensures.entered.front)
-          (piece-begun IsType context V decides g.root frames now l case (plain_ctors c.pop.new.self.items) p (matrix_columns next)
-          c.in_ok-next-in-Some.ensures.entered.whole
-          (left-last IsType context V decides g.root frames now old.matrix old.column old.pieces.items c.pop.new.self.items piece cases
-          c.in-Some.ensures.items c.requires.1.1.0) refl c.in_ok-case-in-Some.ensures
-          (λ d there. entered-at context decides old.column old.matrix next d there p c.in_ok-next-in-Some.ensures.entered) left)),
-      entered-scope IsType context V decides g.root (g.met.C.PatCx.parts cx) (g.met.C.PatCx.values cx) old.column old.matrix
-          next p c.requires.1.1.0.5.scope c.requires.1.1.0.5.ready
-          (piece-there IsType context V decides g.root frames now old.matrix old.column (plain_ctors c.pop.new.self.items) p cases
-          (left-last IsType context V decides g.root frames now old.matrix old.column old.pieces.items c.pop.new.self.items piece cases
-          c.in-Some.ensures.items c.requires.1.1.0)) c.in_ok-next-in-Some.ensures.entered,
+      inside.0,
+      (
+        inside.1,
+        (
+          c.in_ok-next-in-Some.ensures.good,
+          subst (λ fs. Awaits IsType context V decides g.root fs now (matrix_columns next) (matrix_rows next))
+              (sym (last-first c.args.frames.now.items c.push.new.self.items (Switch l case) c.in_ok-push-in-Some.ensures.items))
+              (leads-more IsType context V decides g.root (Switch l case ∷ frames) now (matrix_columns next) (matrix_columns next)
+              (matrix_rows next) c.in_ok-next-in-Some.ensures.entered.whole
+              (front-leads IsType context V decides g.root (matrix_columns next) (matrix_rows next)
+              c.in_ok-next-in-Some.ensures.entered.whole c.in_ok-next-in-Some.ensures.entered.front)
+              (piece-begun IsType context V decides g.root frames now l case (plain_ctors c.pop.new.self.items) p (matrix_columns next)
+              c.in_ok-next-in-Some.ensures.entered.whole
+              (left-last IsType context V decides g.root frames now old.matrix old.column old.pieces.items c.pop.new.self.items piece cases
+              c.in-Some.ensures.items c.requires.1.1.0) refl c.in_ok-case-in-Some.ensures
+              (λ d there. entered-at context decides old.column old.matrix next d there p c.in_ok-next-in-Some.ensures.entered) left)),
+          entered-scope IsType context V decides g.root (g.met.C.PatCx.parts cx) (g.met.C.PatCx.values cx) old.column old.matrix
+              next p c.requires.1.1.0.5.scope c.requires.1.1.0.5.ready
+              (piece-there IsType context V decides g.root frames now old.matrix old.column (plain_ctors c.pop.new.self.items) p cases
+              (left-last IsType context V decides g.root frames now old.matrix old.column old.pieces.items c.pop.new.self.items piece cases
+              c.in-Some.ensures.items c.requires.1.1.0)) c.in_ok-next-in-Some.ensures.entered,
+        ),
+      ),
     )
 
 pub index-requires : goal.index-requires

@@ -119,8 +119,8 @@ entered-requires-clause-piece g c =
       among = inl refl;
     }
 
-pub returns : goal.returns
-returns g c =
+pub lower_thin-requires : goal.lower_thin-requires
+lower_thin-requires g c κs inside =
     let cx = c.args.cx.now in
     let IsType = g.C.PatCx.is_type cx in
     let context = g.C.PatCx.context cx in
@@ -139,17 +139,23 @@ returns g c =
     (read e i o.column o.there c.index.result.now c.index.ensures)
     (ap plain_ctors c.deref-2.ensures.value ∙ c.in_ok-ctors.ensures ∙ ap (λ rs. ctors_at i (plain_rows rs)) c.deref.ensures.value)
     c.in_ok-split.ensures in (
-      c.in_ok-next.ensures.good,
-      opened-turn IsType context V decides g.root frames now i e c.in_ok-next.next p o
-          (first-are (context.set_of o.column.type) (ctors_at i (matrix_rows e)) items c.index-3.result.now o.kind listed
-          c.index-3.ensures) c.in_ok-next.ensures.entered,
-      entered-scope IsType context V decides g.root (g.met.C.PatCx.parts cx) values i e c.in_ok-next.next p o.scope o.ready
-          (record {
-            column = o.column;
-            there = o.there;
-            pieces = p ∷ [];
-            are = first-are (context.set_of o.column.type) (ctors_at i (matrix_rows e)) items c.index-3.result.now o.kind
-                listed c.index-3.ensures;
-            among = inl refl;
-          }) c.in_ok-next.ensures.entered,
+      inside.0,
+      (
+        inside.1,
+        (
+          c.in_ok-next.ensures.good,
+          opened-turn IsType context V decides g.root frames now i e c.in_ok-next.next p o
+              (first-are (context.set_of o.column.type) (ctors_at i (matrix_rows e)) items c.index-3.result.now o.kind listed
+              c.index-3.ensures) c.in_ok-next.ensures.entered,
+          entered-scope IsType context V decides g.root (g.met.C.PatCx.parts cx) values i e c.in_ok-next.next p o.scope o.ready
+              (record {
+                column = o.column;
+                there = o.there;
+                pieces = p ∷ [];
+                are = first-are (context.set_of o.column.type) (ctors_at i (matrix_rows e)) items c.index-3.result.now o.kind
+                    listed c.index-3.ensures;
+                among = inl refl;
+              }) c.in_ok-next.ensures.entered,
+        ),
+      ),
     )
