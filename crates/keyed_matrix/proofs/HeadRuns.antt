@@ -1,5 +1,6 @@
 -- Heads that stand side by side.
 use Rattle.std.proofs.Common.{◌≡◌, ◌<◌, ◌≤◌, ℕ, zero, suc, ◌+◌, ◌-◌, List, [], ◌∷◌, ◌++◌, take, drop, length, get_or, replicate, refl, sym, ap, ◌∙◌, arith, Some, None, slice_get, append_assoc, append-nil}
+use Rattle.std.specs.List.{insert, remove}
 use Rattle.std.proofs.lemmas.List.{length-append, length-drop, take_all, drop_all}
 use Rattle.std.proofs.lemmas.Option.{slice_get_within}
 use Rattle.match_model.specs.Steps.{replaced_at}
@@ -212,5 +213,30 @@ module _ {T : Type 0} where
 
         got : slice_get (plain_heads xs) i ≡ Some head-of
         got = got-there ∙ (some-there (plain_run x) left b).1
+
+    -- and with so many wildcards there, in the run where it stands
+    pub rewilded-there : (run : HeadRun T) (count : ℕ) →
+        plain_run run ≡ (take left (plain_run x) ++ wildcards count) ++ drop (left + 1) (plain_run x) →
+        plain_heads (take k xs) ++ (plain_run run ++ plain_heads (drop (k + 1) xs))
+        ≡ replaced_at i (plain_heads xs) (wildcards count)
+    rewilded-there run count h =
+        let front = plain_heads (take k xs) in
+        let start = take left (plain_run x) in
+        let end = drop (left + 1) (plain_run x) in
+        let last = plain_heads (drop (k + 1) xs) in
+        ap (λ hs. front ++ (hs ++ last)) h ∙ ap (λ hs. front ++ hs) (append_assoc (start ++ wildcards count) end last)
+        ∙ sym (append_assoc front (start ++ wildcards count) (end ++ last))
+        ∙ ap (λ hs. hs ++ (end ++ last)) (sym (append_assoc front start (wildcards count)))
+        ∙ replaced-there (wildcards count)
+
+  -- the heads with another run in place of one
+  pub put-run : (xs : List (HeadRun T)) (k : ℕ) (x : HeadRun T) → k < length xs → plain_heads (insert (remove xs k) k x)
+      ≡ plain_heads (take k xs) ++ (plain_run x ++ plain_heads (drop (k + 1) xs))
+  put-run [] k x l = absurd (omega (arith, l))
+  put-run (y ∷ xs) zero x l = refl
+  put-run (y ∷ xs) (suc k) x l =
+      ap (λ hs. plain_run y ++ hs) (put-run xs k x (omega (arith, l)))
+      ∙ sym (append_assoc (plain_run y) (plain_heads (take k xs)) (plain_run x ++ plain_heads (drop (k + 1) xs)))
+      ∙ ap (λ n. plain_heads (take (suc k) (y ∷ xs)) ++ (plain_run x ++ plain_heads (drop n (y ∷ xs)))) (sym (after k))
 
 pub ruleset head_runs = (heads-more, heads-append, length-wilds, get-wild, take-wilds, drop-wilds, both-wilds, append_assoc, append-nil)

@@ -4,6 +4,7 @@ use Rattle.std.proofs.Common.{◌≡◌, ◌<◌, ℕ, ◌+◌, ◌-◌, true, f
 use Rattle.std.specs.List.{All}
 use Rattle.std.proofs.lemmas.List.{length-map, take_min, drop_min, take-map}
 use Rattle.std.specs.List.{drop-map}
+use Rattle.std.proofs.lemmas.List.Elements.{All-head, All-tail}
 use Rattle.std.proofs.lemmas.Option.{get_or_from_slice_get, slice_get_within}
 use Rattle.match_model.specs.Constructors.{MCtor, RowCtor, LongerShape, has_piece}
 use Rattle.match_model.specs.ArenaPatterns.{MBound, de_pats_list, de_pats_of}
@@ -117,6 +118,18 @@ longer-row i rows k row all l e =
     let a = all k (plain_row row) (omega (arith, l, long)) in
     let same : get_or (plain_rows rows) k (plain_row row) ≡ plain_row row = get-map plain_row rows k row ∙ ap plain_row (sym e) in
     subst (λ (r : MRow _). i < length r.heads) same a
+
+-- the next row of a list that has more heads, of which some rows were taken out
+pub longer-next : {T : Type 0} (i : ℕ) (rows done : List (KeyedRow T)) (row : KeyedRow T) (left rest : List (KeyedRow T)) →
+    All (λ r. i < length r.heads) (plain_rows rows) → done ++ left ≡ rows → left ≡ row ∷ rest →
+    i < length (plain_row row).heads
+longer-next {T} i rows done row left rest a e f =
+    go done (subst (λ zs. All (λ r. i < length r.heads) (plain_rows zs)) (sym e ∙ ap (λ zs. done ++ zs) f) a)
+  where
+    go : (zs : List (KeyedRow T)) → All (λ r. i < length r.heads) (plain_rows (zs ++ row ∷ rest)) →
+        i < length (plain_row row).heads
+    go [] b = All-head (λ r. i < length r.heads) (plain_row row) (plain_rows rest) b
+    go (z ∷ zs) b = go zs (All-tail (λ r. i < length r.heads) (plain_row z) (plain_rows (zs ++ row ∷ rest)) b)
 
 -- the head that was found is this one
 pub was-head : {T : Type 0} (hs : List (Head T)) (i : ℕ) (x y : Option (Bor (DePat T))) →

@@ -22,7 +22,6 @@ use Rattle.keyed_matrix.specs.declared.rows.KeyedRow.{KeyedRow}
 use Rattle.keyed_matrix.proofs.ChoiceByChoice.{choices-other, choices-or, after-nothing}
 use Rattle.keyed_matrix.proofs.InColumn.{heads-from}
 use Rattle.keyed_matrix.proofs.Replaced.{map-map, replacements-of}
-use Rattle.keyed_matrix.proofs.RowSteps.{row-one, row-chosen}
 
 one-ctor : (o : Option MCtor) → cons_option o [] ≡ option_to_list o
 one-ctor None = refl

@@ -256,3 +256,29 @@ pub fn rewilded_heads<'a, T: Copy>(
         }
     }
 }
+
+// The heads with so many wildcards that no pattern wrote in place of the head with the number, which is one of them. Where
+// wildcards stand there, only how many there are changes.
+pub(crate) fn into_rewilded_heads<'a, T: Copy>(
+    alloc: Global,
+    heads: Vec<HeadRun<'a, T>>,
+    i: usize,
+    count: usize,
+) -> Result<Vec<HeadRun<'a, T>>, NoMemory>
+    requires { i < length (plain_heads heads.items) }
+    ensures { IfOk result (λ v. plain_heads v.items ≡ replaced_at i (plain_heads heads.entry.items) (wildcards count)) }
+{
+    let (k, _left) = run_of(&heads, i);
+    match recounted(&heads[k], count) {
+        Some(run) => {
+            let mut heads = heads;
+            let _before = heads.remove(k);
+            heads.insert(k, run)?;
+            Ok(heads)
+        }
+        None => {
+            let others = rewilded_heads(alloc, &heads, i, count)?;
+            Ok(others)
+        }
+    }
+}

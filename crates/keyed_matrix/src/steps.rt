@@ -10,7 +10,7 @@ ghost use Rattle.keyed_matrix.specs.Views.{plain_heads, plain_row, plain_rows};
 ghost use Rattle.keyed_matrix.specs.Steps.{row_at, chosen_rows, AreLonger};
 
 use crate::choices::choices_of;
-use crate::heads::{add_wilds, head_at};
+use crate::heads::{add_wilds, head_at, into_rewilded_heads};
 use crate::looking::is_wild;
 use crate::replacing::{replaced_row, rewilded_row};
 use crate::{HeadRun, KeyedRow};
@@ -63,6 +63,77 @@ pub fn piece_rows<'a, T: Copy>(
     Ok(all)
 }
 
+/// The same, of rows that no one else needs: a row with a wildcard there that no pattern wrote is taken over.
+pub fn into_piece_rows<'a, T: Copy>(
+    alloc: Global,
+    rows: Vec<KeyedRow<'a, T>>,
+    i: usize,
+    place: &'a [Step],
+    piece: &Ctor,
+    count: usize,
+) -> Result<Vec<KeyedRow<'a, T>>, NoMemory>
+    requires { AreLonger i (plain_rows rows.items) }
+    ensures { IfOk result (λ v. plain_rows v.items
+        ≡ rows_at (specialise_head (plain_ctor piece.now) count) (plain_place place.now) i (plain_rows rows.entry.items)) }
+{
+    let mut all = Vec::with_capacity(alloc, rows.len())?;
+    for row in rows {
+        add_moved_piece_row(alloc, &mut all, row, i, place, piece, count)?;
+    }
+    Ok(all)
+}
+
+// Adds what `piece_rows` makes of the row, which is taken over where a wildcard stands there that no pattern wrote.
+fn add_moved_piece_row<'a, T: Copy>(
+    alloc: Global,
+    all: &mut Vec<KeyedRow<'a, T>>,
+    row: KeyedRow<'a, T>,
+    i: usize,
+    place: &'a [Step],
+    piece: &Ctor,
+    count: usize,
+) -> Result<(), NoMemory>
+    requires { i < length (plain_row row).heads }
+    ensures { OnOk result (plain_rows all.new.items ≡ plain_rows all.old.items
+        ++ row_at (specialise_head (plain_ctor piece.now) count) (plain_place place.now) i (plain_row row.entry)) }
+{
+    match head_at(&row, i) {
+        None => add_moved_rewilded(alloc, all, row, i, count),
+        Some(_p) => add_piece_row(alloc, all, &row, i, place, piece, count),
+    }
+}
+
+// Adds the row, which is taken over, with so many wildcards that no pattern wrote in place of its head at the column.
+fn add_moved_rewilded<'a, T: Copy>(
+    alloc: Global,
+    all: &mut Vec<KeyedRow<'a, T>>,
+    row: KeyedRow<'a, T>,
+    i: usize,
+    count: usize,
+) -> Result<(), NoMemory>
+    requires { i < length (plain_row row).heads }
+    ensures { OnOk result (plain_rows all.new.items ≡ plain_rows all.old.items ++ (record (plain_row row.entry) {
+      heads = replaced_at i (plain_heads row.entry.heads.items) (wildcards count);
+    }) ∷ []) }
+{
+    let KeyedRow {
+        heads,
+        arm,
+        guarded,
+        chosen,
+        caught,
+    } = row;
+    let heads = into_rewilded_heads(alloc, heads, i, count)?;
+    all.push(KeyedRow {
+        heads,
+        arm,
+        guarded,
+        chosen,
+        caught,
+    })?;
+    Ok(())
+}
+
 /// The rows whose head at the column is a wildcard or a name, without it. The rows are those of the definitions, in
 /// this order; each has a head at the column, which looks at the place. The only error is want of memory.
 pub fn dropped_rows<'a, T: Copy>(
@@ -80,6 +151,42 @@ pub fn dropped_rows<'a, T: Copy>(
         add_dropped(alloc, &mut all, row, i, place)?;
     }
     Ok(all)
+}
+
+/// The same, of rows that no one else needs: a row with a wildcard there that no pattern wrote is taken over.
+pub fn into_dropped_rows<'a, T: Copy>(
+    alloc: Global,
+    rows: Vec<KeyedRow<'a, T>>,
+    i: usize,
+    place: &'a [Step],
+) -> Result<Vec<KeyedRow<'a, T>>, NoMemory>
+    requires { AreLonger i (plain_rows rows.items) }
+    ensures { IfOk result (λ v. plain_rows v.items
+        ≡ rows_at default_head (plain_place place.now) i (plain_rows rows.entry.items)) }
+{
+    let mut all = Vec::with_capacity(alloc, rows.len())?;
+    for row in rows {
+        add_moved_dropped(alloc, &mut all, row, i, place)?;
+    }
+    Ok(all)
+}
+
+// Adds what `dropped_rows` makes of the row, which is taken over where a wildcard stands there that no pattern wrote.
+fn add_moved_dropped<'a, T: Copy>(
+    alloc: Global,
+    all: &mut Vec<KeyedRow<'a, T>>,
+    row: KeyedRow<'a, T>,
+    i: usize,
+    place: &'a [Step],
+) -> Result<(), NoMemory>
+    requires { i < length (plain_row row).heads }
+    ensures { OnOk result (plain_rows all.new.items ≡ plain_rows all.old.items
+        ++ row_at default_head (plain_place place.now) i (plain_row row.entry)) }
+{
+    match head_at(&row, i) {
+        None => add_moved_rewilded(alloc, all, row, i, 0),
+        Some(_p) => add_dropped(alloc, all, &row, i, place),
+    }
 }
 
 // Adds the row once for each choice at the column.

@@ -1,4 +1,4 @@
-use Rattle.std.proofs.Common.{◌≡◌, ◌+◌, ◌-◌, arith}
+use Rattle.std.proofs.Common.{◌+◌, ◌-◌, arith}
 use Rattle.keyed_matrix.proofs.HeadRuns.{wilds-recounted}
 use Rattle.keyed_matrix.proofs.heads.recounted.Goals as goal
 

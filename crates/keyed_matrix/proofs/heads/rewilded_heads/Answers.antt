@@ -1,8 +1,8 @@
-use Rattle.std.proofs.Common.{◌<◌, ◌++◌, ◌+◌, ◌∙◌, take, drop, length, ap, sym, subst, arith, append_assoc}
+use Rattle.std.proofs.Common.{◌<◌, ◌++◌, ◌∙◌, length, ap, sym, subst, arith}
 use Rattle.match_model.specs.Rows.{wildcards}
 use Rattle.match_model.specs.Steps.{replaced_at}
 use Rattle.keyed_matrix.specs.Views.{plain_run, plain_heads}
-use Rattle.keyed_matrix.proofs.HeadRuns.{replaced-there}
+use Rattle.keyed_matrix.proofs.HeadRuns.{rewilded-there}
 use Rattle.keyed_matrix.proofs.heads.rewilded_heads.Goals as goal
 
 pub recounted-requires : goal.recounted-requires
@@ -14,22 +14,14 @@ recounted-requires g c =
 
 pub returns-in_ok-some-in-Some : goal.returns-in_ok-some-in-Some
 returns-in_ok-some-in-Some g c =
-    let xs = c.args.heads.now in
-    let new = wildcards c.args.count in
     let k = c.run_of-k.result.0 in
     let left = c.run_of-k.result.1 in
     let x = c.index-heads-k.result in
     let inside : left < length (plain_run x) =
     subst (λ y. left < length (plain_run y)) (sym c.index-heads-k.is) (c.run_of-k.ensures.inside x) in
-    let front = plain_heads (take k xs) in
-    let start = take left (plain_run x) in
-    let end = drop (left + 1) (plain_run x) in
-    let last = plain_heads (drop (k + 1) xs) in
-    c.in_ok-some-in-Some.ensures ∙ ap (λ hs. front ++ (hs ++ last)) (c.in-Some.ensures left inside)
-    ∙ ap (λ hs. front ++ hs) (append_assoc (start ++ new) end last)
-    ∙ sym (append_assoc front (start ++ new) (end ++ last))
-    ∙ ap (λ hs. hs ++ (end ++ last)) (sym (append_assoc front start new))
-    ∙ replaced-there xs k left c.args.i x c.run_of-k.ensures.within c.index-heads-k.is c.run_of-k.ensures.before inside new
+    c.in_ok-some-in-Some.ensures
+    ∙ rewilded-there c.args.heads.now k left c.args.i x c.run_of-k.ensures.within c.index-heads-k.is c.run_of-k.ensures.before
+    inside c.in-Some.run' c.args.count (c.in-Some.ensures left inside)
 
 pub returns-in_ok-others-in-None : goal.returns-in_ok-others-in-None
 returns-in_ok-others-in-None g c =
