@@ -47,6 +47,7 @@ token_view t = record { lexeme = lexeme_view t.kind; from = t.from; to = t.to }
 
 -- the same of a token that was read
 abbrev pub read_view : ReadKind → Lexeme
+read_view (read.Plain text raw) = Named text.now raw
 read_view (read.Name text raw) = Named (string_bytes text) raw
 read_view (read.Word word) = Keyword word
 read_view (read.Mark mark) = Marked mark

@@ -13,7 +13,7 @@ use crate::words::can_be_raw;
 
 /// The character or lifetime that the text begins with; `inside` is the text behind its `'`.
 #[inline(never)]
-pub fn quote_at<'a>(text: &'a str, inside: &'a str) -> Result<(Piece, &'a str), PieceError<'a>>
+pub fn quote_at<'a>(text: &'a str, inside: &'a str) -> Result<(Piece<'a>, &'a str), PieceError<'a>>
     ensures { GivesPiece result (quote_at (chars text.now) (chars inside.now)) }
 {
     let Some((first, behind)) = split_first(inside) else {
@@ -42,7 +42,7 @@ pub fn quote_at<'a>(text: &'a str, inside: &'a str) -> Result<(Piece, &'a str), 
 
 /// The byte that the text begins with; `inside` is the text behind its `b'`.
 #[inline(never)]
-pub fn byte_at<'a>(text: &'a str, inside: &'a str) -> Result<(Piece, &'a str), PieceError<'a>>
+pub fn byte_at<'a>(text: &'a str, inside: &'a str) -> Result<(Piece<'a>, &'a str), PieceError<'a>>
     ensures { GivesPiece result (byte_at (chars text.now) (chars inside.now)) }
 {
     let Some((first, behind)) = split_first(inside) else {
@@ -65,7 +65,10 @@ pub fn byte_at<'a>(text: &'a str, inside: &'a str) -> Result<(Piece, &'a str), P
 }
 
 /// A character at the start of the text whose escape begins where `escaped` does.
-fn escaped_char_at<'a>(text: &'a str, escaped: &'a str) -> Result<(Piece, &'a str), PieceError<'a>>
+fn escaped_char_at<'a>(
+    text: &'a str,
+    escaped: &'a str,
+) -> Result<(Piece<'a>, &'a str), PieceError<'a>>
     ensures { GivesPiece result (escaped_at Quoted.Text Character (chars text.now) (chars escaped.now)) }
 {
     let Some((c, behind)) = escape(Quoted::Text, skip_first(escaped)) else {
@@ -84,7 +87,10 @@ fn escaped_char_at<'a>(text: &'a str, escaped: &'a str) -> Result<(Piece, &'a st
 }
 
 /// A byte at the start of the text whose escape begins where `escaped` does.
-fn escaped_byte_at<'a>(text: &'a str, escaped: &'a str) -> Result<(Piece, &'a str), PieceError<'a>>
+fn escaped_byte_at<'a>(
+    text: &'a str,
+    escaped: &'a str,
+) -> Result<(Piece<'a>, &'a str), PieceError<'a>>
     ensures { GivesPiece result (escaped_at Quoted.Bytes Byte (chars text.now) (chars escaped.now)) }
 {
     let Some((c, behind)) = escape(Quoted::Bytes, skip_first(escaped)) else {
@@ -104,7 +110,10 @@ fn escaped_byte_at<'a>(text: &'a str, escaped: &'a str) -> Result<(Piece, &'a st
 }
 
 /// A raw lifetime at the start of the text, whose name `named` begins with.
-fn raw_lifetime_at<'a>(text: &'a str, named: &'a str) -> Result<(Piece, &'a str), PieceError<'a>>
+fn raw_lifetime_at<'a>(
+    text: &'a str,
+    named: &'a str,
+) -> Result<(Piece<'a>, &'a str), PieceError<'a>>
     ensures { GivesPiece result (raw_lifetime_at (chars text.now) (chars named.now)) }
 {
     let (name, rest) = split_name(named);
@@ -118,7 +127,7 @@ fn raw_lifetime_at<'a>(text: &'a str, named: &'a str) -> Result<(Piece, &'a str)
 }
 
 /// A lifetime at the start of the text, whose name `named` begins with.
-fn lifetime_at<'a>(text: &'a str, named: &'a str) -> Result<(Piece, &'a str), PieceError<'a>>
+fn lifetime_at<'a>(text: &'a str, named: &'a str) -> Result<(Piece<'a>, &'a str), PieceError<'a>>
     ensures { GivesPiece result (lifetime_at (chars text.now) (chars named.now)) }
 {
     let (_, rest) = split_name(named);

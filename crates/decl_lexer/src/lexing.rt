@@ -46,7 +46,7 @@ pub fn lex(alloc: Global, source: &[u8]) -> Result<Tokens, LexFault>
             Some((token, behind)) => {
                 at = token.to;
                 rest = behind;
-                tokens.push(token)?;
+                tokens.push(alloc, token)?;
             }
             None => return Ok(tokens),
         }
@@ -66,7 +66,11 @@ pub fn name_form(alloc: Global, text: &str) -> Result<String, NoMemory>
 }
 
 /// The first token of the rest, which begins at byte `at` of its source, and the text behind the token.
-fn first_token(alloc: Global, at: u64, rest: &str) -> Result<Option<(ReadToken, &str)>, LexFault>
+fn first_token(
+    alloc: Global,
+    at: u64,
+    rest: &str,
+) -> Result<Option<(ReadToken<'_>, &str)>, LexFault>
     requires { at + length rest.now < 2 ^ 64 }
     ensures { FindsFirst at (chars rest.now) result }
 {

@@ -1,6 +1,7 @@
 //! Names, raw names and keywords.
 ghost use Rattle.std.specs.Prelude.{◌≡◌, IfOk, chars, string_bytes, encode_utf8_all};
 ghost use Rattle.unicode_normalization.specs.Forms.{nfc};
+ghost use Rattle.decl_lexer.specs.Begins.{Named};
 ghost use Rattle.decl_lexer.specs.Text.{first_passes};
 ghost use Rattle.decl_lexer.specs.Names.{is_name_start, lexeme_of, name_at, raw_name_at};
 ghost use Rattle.decl_lexer.specs.Views.{GivesPiece, read_view};
@@ -14,7 +15,7 @@ use std::alloc::{AllocError, Global};
 use unicode_normalization::to_nfc;
 
 /// The name, keyword or `_` that the text begins with.
-pub fn name_at(alloc: Global, text: &str) -> Result<(Piece, &str), PieceError<'_>>
+pub fn name_at(alloc: Global, text: &str) -> Result<(Piece<'_>, &str), PieceError<'_>>
     ensures { GivesPiece result (name_at (chars text.now)) }
 {
     let (name, rest) = split_name(text);
@@ -28,7 +29,7 @@ pub fn raw_name_at<'a>(
     alloc: Global,
     text: &'a str,
     behind: &'a str,
-) -> Result<(Piece, &'a str), PieceError<'a>>
+) -> Result<(Piece<'a>, &'a str), PieceError<'a>>
     ensures { GivesPiece result (raw_name_at (chars text.now) (chars behind.now)) }
 {
     let (name, rest) = split_name(behind);
@@ -38,13 +39,12 @@ pub fn raw_name_at<'a>(
             rest: text,
         });
     }
-    let text = in_nfc(alloc, name)?;
-    let kind = ReadKind::Name { text, raw: true };
+    let kind = named(alloc, name, true)?;
     Ok((Piece::Token(kind), rest))
 }
 
 /// What a name is: a keyword, the mark `_`, or a name.
-fn kind_of(alloc: Global, name: &str) -> Result<ReadKind, AllocError>
+fn kind_of(alloc: Global, name: &str) -> Result<ReadKind<'_>, AllocError>
     ensures { IfOk result (λ kind. read_view kind ≡ lexeme_of (chars name.now)) }
 {
     if name == "_" {
@@ -52,11 +52,19 @@ fn kind_of(alloc: Global, name: &str) -> Result<ReadKind, AllocError>
     }
     match word_of(name) {
         Some(word) => Ok(ReadKind::Word(word)),
-        None => {
-            let text = in_nfc(alloc, name)?;
-            Ok(ReadKind::Name { text, raw: false })
-        }
+        None => named(alloc, name, false),
     }
+}
+
+/// A name with this text, which is copied only where it is not ASCII.
+fn named(alloc: Global, text: &str, raw: bool) -> Result<ReadKind<'_>, AllocError>
+    ensures { IfOk result (λ kind. read_view kind ≡ Named (encode_utf8_all (nfc (chars text.now))) raw) }
+{
+    if text.is_ascii() {
+        return Ok(ReadKind::Plain { text, raw });
+    }
+    let text = to_nfc(alloc, text)?;
+    Ok(ReadKind::Name { text, raw })
 }
 
 /// The text in NFC. ASCII text is in NFC already.

@@ -33,7 +33,7 @@ pub fn number_at<'a>(
     text: &'a str,
     first: char,
     behind: &'a str,
-) -> Result<(Piece, &'a str), PieceError<'a>>
+) -> Result<(Piece<'a>, &'a str), PieceError<'a>>
     requires { chars text.now ≡ first ∷ chars behind.now }
     ensures { GivesPiece result (number_at first (chars behind.now)) }
 {
@@ -56,7 +56,7 @@ fn based_at<'a>(
     base: u32,
     text: &'a str,
     inside: &'a str,
-) -> Result<(Piece, &'a str), PieceError<'a>>
+) -> Result<(Piece<'a>, &'a str), PieceError<'a>>
     requires least { 2 ≤ base }
     requires most { base ≤ radix }
     requires radix { radix ≤ 36 }
@@ -73,7 +73,7 @@ fn based_at<'a>(
 }
 
 /// A number without a prefix at the start of the text.
-fn decimal_at(alloc: Global, text: &str) -> Result<(Piece, &str), PieceError<'_>>
+fn decimal_at(alloc: Global, text: &str) -> Result<(Piece<'_>, &str), PieceError<'_>>
     ensures { GivesPiece result (decimal_at (chars text.now)) }
 {
     let digits = read_digits(10, 10, text);
@@ -87,7 +87,7 @@ fn decimal_at(alloc: Global, text: &str) -> Result<(Piece, &str), PieceError<'_>
 }
 
 /// A float with a `.` at the start of the text, behind which `inside` stands.
-fn fraction_at<'a>(text: &'a str, inside: &'a str) -> Result<(Piece, &'a str), PieceError<'a>>
+fn fraction_at<'a>(text: &'a str, inside: &'a str) -> Result<(Piece<'a>, &'a str), PieceError<'a>>
     ensures { GivesPiece result (fraction_at (chars text.now) (chars inside.now)) }
 {
     let digits = read_digits(10, 10, inside);
@@ -110,7 +110,7 @@ fn integer_at<'a>(
     value: Option<u128>,
     decimal: bool,
     behind: &'a str,
-) -> Result<(Piece, &'a str), PieceError<'a>>
+) -> Result<(Piece<'a>, &'a str), PieceError<'a>>
     ensures { GivesPiece result (integer_at (chars text.now) value decimal (chars behind.now)) }
 {
     if starts_exponent(behind) {
@@ -130,7 +130,7 @@ fn integer_kind(
     value: Option<u128>,
     suffix: &str,
     decimal: bool,
-) -> Result<ReadKind, AllocError>
+) -> Result<ReadKind<'static>, AllocError>
     ensures { IfOk result (λ kind. read_view kind ≡ Integer value suffix.now decimal) }
 {
     if decimal && suffix.is_empty() {
@@ -160,7 +160,7 @@ fn small_value(value: Option<u128>) -> Option<u64>
 }
 
 /// A float, behind whose digits or exponent the text begins.
-fn float_at(behind: &str) -> (Piece, &str)
+fn float_at(behind: &str) -> (Piece<'_>, &str)
     ensures { GivesPiece (Ok result) (float_at (chars behind.now)) }
 {
     let (_, rest) = split_suffix(behind);

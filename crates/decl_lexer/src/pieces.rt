@@ -21,9 +21,9 @@ use std::alloc::{AllocError, Global};
 
 /// Whitespace or a comment, or a token.
 #[derive(Debug, Drop)]
-pub enum Piece {
+pub enum Piece<'a> {
     Gap,
-    Token(ReadKind),
+    Token(ReadKind<'a>),
 }
 
 /// Why no piece was read. A fault holds the text from there on.
@@ -51,7 +51,7 @@ pub fn piece_at<'a>(
     text: &'a str,
     first: char,
     behind: &'a str,
-) -> Result<(Piece, &'a str), PieceError<'a>>
+) -> Result<(Piece<'a>, &'a str), PieceError<'a>>
     requires { chars text.now ≡ first ∷ chars behind.now }
     ensures { GivesPiece result (piece_at first (chars behind.now)) }
 {
@@ -86,7 +86,7 @@ fn letter_at<'a>(
     text: &'a str,
     first: char,
     behind: &'a str,
-) -> Result<(Piece, &'a str), PieceError<'a>>
+) -> Result<(Piece<'a>, &'a str), PieceError<'a>>
     requires { chars text.now ≡ first ∷ chars behind.now }
     ensures { GivesPiece result (letter_at first (chars behind.now)) }
 {
@@ -138,7 +138,7 @@ fn is_raw_name(first: char, behind: &str) -> bool
 }
 
 /// The block comment that the text begins with, which goes on behind its `/*` as `inside`.
-fn comment_at<'a>(text: &'a str, inside: &'a str) -> Result<(Piece, &'a str), PieceError<'a>>
+fn comment_at<'a>(text: &'a str, inside: &'a str) -> Result<(Piece<'a>, &'a str), PieceError<'a>>
     ensures { GivesPiece result (comment_at (chars text.now) (chars inside.now)) }
 {
     match skip_comment(inside) {
@@ -151,7 +151,7 @@ fn comment_at<'a>(text: &'a str, inside: &'a str) -> Result<(Piece, &'a str), Pi
 }
 
 /// The mark that the text begins with.
-fn mark_at(text: &str) -> Result<(Piece, &str), PieceError<'_>>
+fn mark_at(text: &str) -> Result<(Piece<'_>, &str), PieceError<'_>>
     ensures { GivesPiece result (mark_at (chars text.now)) }
 {
     match longest_mark(text) {

@@ -1,19 +1,21 @@
-//! A token as it is read, which owns its text.
+//! A token as it is read. A name in ASCII is lent from the source, and every other text is its own.
 use crate::marks::Mark;
 use crate::token::IntToken;
 use crate::words::Word;
 
 /// A token that was read, and its place: the byte offsets in the file where it begins and where it ends.
 #[derive(Debug, Drop)]
-pub struct ReadToken {
-    pub kind: ReadKind,
+pub struct ReadToken<'a> {
+    pub kind: ReadKind<'a>,
     pub from: u64,
     pub to: u64,
 }
 
 /// What a token is that was read. An integer stands behind a box, since it is much larger than the others.
 #[derive(Debug, Drop)]
-pub enum ReadKind {
+pub enum ReadKind<'a> {
+    /// An identifier in ASCII, as it stands in the source without its `r#`, and whether it had one.
+    Plain { text: &'a str, raw: bool },
     /// An identifier: its text in NFC, without its `r#`, and whether it had one.
     Name { text: String, raw: bool },
     Word(Word),

@@ -106,24 +106,24 @@ fn put<T: Drop>(list: &mut Vec<T>, entry: T) -> Result<u32, NoMemory>
 }
 
 /// The place of the text among the names, to which it is added where it is new.
-fn place_name(names: &mut IndexSet<Name>, text: String) -> Result<usize, NoMemory>
+fn place_name(alloc: Global, names: &mut IndexSet<Name>, text: &str) -> Result<usize, NoMemory>
     ensures grew { OnOk result (Grew names.old.keys names.new.keys) }
-    ensures entry { IfOk result (λ n. IsEntry (string_bytes text) (slice_get names.new.keys n)) }
+    ensures entry { IfOk result (λ n. IsEntry text.now (slice_get names.new.keys n)) }
 {
-    if let Some((at, _known)) = names.get_full(text.as_str()) {
+    if let Some((at, _known)) = names.get_full(text) {
         return Ok(at);
     }
-    let shared = Name::from_string(text)?;
+    let shared = Name::from_str(alloc, text)?;
     let (at, _new) = names.insert_full(shared)?;
     Ok(at)
 }
 
 /// The number of the text among the names, to which it is added where it is new.
-fn put_name(names: &mut IndexSet<Name>, text: String) -> Result<u32, NoMemory>
+fn put_name(alloc: Global, names: &mut IndexSet<Name>, text: &str) -> Result<u32, NoMemory>
     ensures grew { OnOk result (Grew names.old.keys names.new.keys) }
-    ensures entry { IfOk result (λ n. IsEntry (string_bytes text) (slice_get names.new.keys n)) }
+    ensures entry { IfOk result (λ n. IsEntry text.now (slice_get names.new.keys n)) }
 {
-    let at = place_name(names, text)?;
+    let at = place_name(alloc, names, text)?;
     let number = narrow(at as u64)?;
     Ok(number)
 }
@@ -140,16 +140,22 @@ impl Lists {
     }
 
     /// Keeps what a token is that was read; its text goes into a list.
-    fn keep(&mut self, kind: ReadKind) -> Result<StoredKind, NoMemory>
+    fn keep(&mut self, alloc: Global, kind: ReadKind<'_>) -> Result<StoredKind, NoMemory>
         ensures grows { OnOk result (Grows self.old self.new) }
-        ensures shows { IfOk result (λ k. Shows self.new k (read_view kind)) }
+        ensures shows { IfOk result (λ k. Shows self.new k (read_view kind.entry)) }
     {
         match kind {
+            ReadKind::Plain { text, raw: false } => {
+                Ok(StoredKind::Name(put_name(alloc, &mut self.names, text)?))
+            }
+            ReadKind::Plain { text, raw: true } => {
+                Ok(StoredKind::RawName(put_name(alloc, &mut self.names, text)?))
+            }
             ReadKind::Name { text, raw: false } => {
-                Ok(StoredKind::Name(put_name(&mut self.names, text)?))
+                Ok(StoredKind::Name(put_name(alloc, &mut self.names, text.as_str())?))
             }
             ReadKind::Name { text, raw: true } => {
-                Ok(StoredKind::RawName(put_name(&mut self.names, text)?))
+                Ok(StoredKind::RawName(put_name(alloc, &mut self.names, text.as_str())?))
             }
             ReadKind::Small(number) => match narrow(number) {
                 Ok(small) => Ok(StoredKind::Small(small)),
@@ -256,14 +262,14 @@ impl Tokens {
     }
 
     /// Appends a token that was read. Places and entries from 2^32 on are want of memory.
-    pub(crate) fn push(&mut self, token: ReadToken) -> Result<(), NoMemory>
+    pub(crate) fn push(&mut self, alloc: Global, token: ReadToken<'_>) -> Result<(), NoMemory>
         requires { IsWhole self.old }
-        ensures view { OnOk result (tokens_view self.new ≡ tokens_view self.old ++ read_token_view token ∷ []) }
+        ensures view { OnOk result (tokens_view self.new ≡ tokens_view self.old ++ read_token_view token.entry ∷ []) }
         ensures whole { OnOk result (IsWhole self.new) }
     {
         let from = narrow(token.from)?;
         let to = narrow(token.to)?;
-        let kind = self.lists.keep(token.kind)?;
+        let kind = self.lists.keep(alloc, token.kind)?;
         self.stored.push(Stored { kind, from, to })?;
         Ok(())
     }

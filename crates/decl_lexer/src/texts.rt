@@ -18,7 +18,7 @@ pub fn text_at<'a>(
     kind: Quoted,
     text: &'a str,
     inside: &'a str,
-) -> Result<(Piece, &'a str), PieceError<'a>>
+) -> Result<(Piece<'a>, &'a str), PieceError<'a>>
     ensures { GivesPiece result (text_at kind (chars text.now) (chars inside.now)) }
 {
     match read_text(alloc, kind, text, inside) {
@@ -37,7 +37,7 @@ pub fn raw_text_at<'a>(
     kind: Quoted,
     text: &'a str,
     behind: &'a str,
-) -> Result<(Piece, &'a str), PieceError<'a>>
+) -> Result<(Piece<'a>, &'a str), PieceError<'a>>
     ensures { GivesPiece result (raw_text_at kind (chars text.now) (chars behind.now)) }
 {
     let (hashes, rest) = count_hashes(behind);
@@ -141,7 +141,7 @@ fn read_raw<'a>(
 }
 
 /// The token of a text that stands for this.
-fn kind_of_text(kind: Quoted, value: String) -> ReadKind
+fn kind_of_text(kind: Quoted, value: String) -> ReadKind<'static>
     ensures { read_view result ≡ text_lexeme kind (string_bytes value) }
 {
     match kind {

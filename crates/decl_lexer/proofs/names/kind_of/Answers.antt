@@ -8,5 +8,5 @@ returns-then-eq c = rw (encodes-chars c.args.name.now c.utf8.name) (search rules
 pub returns-in-Some : goal.returns-in-Some
 returns-in-Some c = rw (encodes-chars c.args.name.now c.utf8.name) (search rules)
 
-pub returns-in_ok-text-in-None : goal.returns-in_ok-text-in-None
-returns-in_ok-text-in-None c = rw (encodes-chars c.args.name.now c.utf8.name) (search rules)
+pub returns-in-None : goal.returns-in-None
+returns-in-None c = rw (encodes-chars c.args.name.now c.utf8.name) (search rules)

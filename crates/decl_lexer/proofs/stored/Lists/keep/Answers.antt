@@ -5,6 +5,24 @@ use Rattle.decl_lexer.specs.Stored.{large_entry, integer_entry, text_entry}
 use Rattle.decl_lexer.proofs.StoredLemmas.{grew_same, name_shown, get_pushed}
 use Rattle.decl_lexer.proofs.stored.Lists.keep.Goals as goal
 
+pub returns-in_ok-put_name-in-Plain-default-true-clause-grows : goal.returns-in_ok-put_name-in-Plain-default-true-clause-grows
+returns-in_ok-put_name-in-Plain-default-true-clause-grows c =
+    (c.in_ok-put_name-in-Plain-default-true.ensures.grew, grew_same c.args.self.now.large.items, grew_same c.args.self.now.integers.items, grew_same c.args.self.now.texts.items)
+
+pub returns-in_ok-put_name-in-Plain-default-true-clause-shows : goal.returns-in_ok-put_name-in-Plain-default-true-clause-shows
+returns-in_ok-put_name-in-Plain-default-true-clause-shows c longer g =
+    name_shown c.put_name.new.names.keys longer.names.keys _ c.in_ok-put_name-in-Plain-default-true.field-0 true
+    c.in_ok-put_name-in-Plain-default-true.ensures.entry g.0 ∙ search rules
+
+pub returns-in_ok-put_name-in-Plain-default-false-clause-grows : goal.returns-in_ok-put_name-in-Plain-default-false-clause-grows
+returns-in_ok-put_name-in-Plain-default-false-clause-grows c =
+    (c.in_ok-put_name-in-Plain-default-false.ensures.grew, grew_same c.args.self.now.large.items, grew_same c.args.self.now.integers.items, grew_same c.args.self.now.texts.items)
+
+pub returns-in_ok-put_name-in-Plain-default-false-clause-shows : goal.returns-in_ok-put_name-in-Plain-default-false-clause-shows
+returns-in_ok-put_name-in-Plain-default-false-clause-shows c longer g =
+    name_shown c.put_name-in-Plain-default-false.new.names.keys longer.names.keys _ c.in_ok-put_name-in-Plain-default-false.field-0 false
+    c.in_ok-put_name-in-Plain-default-false.ensures.entry g.0 ∙ search rules
+
 pub returns-in_ok-put_name-in-Name-default-true-clause-grows : goal.returns-in_ok-put_name-in-Name-default-true-clause-grows
 returns-in_ok-put_name-in-Name-default-true-clause-grows c =
     (c.in_ok-put_name-in-Name-default-true.ensures.grew, grew_same c.args.self.now.large.items, grew_same c.args.self.now.integers.items, grew_same c.args.self.now.texts.items)
@@ -12,8 +30,9 @@ returns-in_ok-put_name-in-Name-default-true-clause-grows c =
 pub returns-in_ok-put_name-in-Name-default-true-clause-shows : goal.returns-in_ok-put_name-in-Name-default-true-clause-shows
 returns-in_ok-put_name-in-Name-default-true-clause-shows c longer g =
     let same : Named (string_bytes c.in-Name-default-true.text) true ≡ read_view c.args.kind = search rules in
-    name_shown c.put_name.new.names.keys longer.names.keys (string_bytes c.in-Name-default-true.text) c.in_ok-put_name-in-Name-default-true.field-0 true
-    c.in_ok-put_name-in-Name-default-true.ensures.entry g.0 ∙ same
+    let e = c.in_ok-put_name-in-Name-default-true.ensures.entry in
+    name_shown c.put_name-in-Name-default-true.new.names.keys longer.names.keys (string_bytes c.in-Name-default-true.text) c.in_ok-put_name-in-Name-default-true.field-0 true
+    (e.0, e.1, e.2 ∙ c.as_str.ensures.value) g.0 ∙ same
 
 pub returns-in_ok-put_name-in-Name-default-false-clause-grows : goal.returns-in_ok-put_name-in-Name-default-false-clause-grows
 returns-in_ok-put_name-in-Name-default-false-clause-grows c =
@@ -22,8 +41,9 @@ returns-in_ok-put_name-in-Name-default-false-clause-grows c =
 pub returns-in_ok-put_name-in-Name-default-false-clause-shows : goal.returns-in_ok-put_name-in-Name-default-false-clause-shows
 returns-in_ok-put_name-in-Name-default-false-clause-shows c longer g =
     let same : Named (string_bytes c.in-Name-default-false.text) false ≡ read_view c.args.kind = search rules in
+    let e = c.in_ok-put_name-in-Name-default-false.ensures.entry in
     name_shown c.put_name-in-Name-default-false.new.names.keys longer.names.keys (string_bytes c.in-Name-default-false.text) c.in_ok-put_name-in-Name-default-false.field-0 false
-    c.in_ok-put_name-in-Name-default-false.ensures.entry g.0 ∙ same
+    (e.0, e.1, e.2 ∙ c.as_str-in-Name-default-false.ensures.value) g.0 ∙ same
 
 pub returns-in_ok-put-in-Err-clause-shows : goal.returns-in_ok-put-in-Err-clause-shows
 returns-in_ok-put-in-Err-clause-shows c longer g =
