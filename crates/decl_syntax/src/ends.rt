@@ -132,7 +132,7 @@ fn owned_segment_at(alloc: Global, at: Cursor<'_>) -> Result<(Name, bool, Cursor
 pub fn path_at(alloc: Global, at: Cursor<'_>) -> Result<(Path, Cursor<'_>), Stop>
     ensures { Gives (λ x. (path_view x.0, left x.1)) result (path_tree_at (left at.entry)) }
 {
-    let mut names = Vec::new(alloc);
+    let mut names = Vec::with_capacity(alloc, 2)?;
     let mut plain = true;
     let mut rest = at;
     'parts: loop {

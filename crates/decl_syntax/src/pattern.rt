@@ -1,9 +1,10 @@
 //! Patterns as they are written.
-ghost use Rattle.std.specs.Prelude.{◌≡◌, ◌-◌, ◌++◌, ◌∷◌, [], map, option_map, Some, IfOk, IfErr};
+ghost use Rattle.std.specs.Prelude.{◌≡◌, ◌-◌, ◌++◌, ◌∷◌, List, [], map, option_map, Some, IfOk, IfErr};
 ghost use Rattle.std.specs.Rc.{rc_str_bytes};
 ghost use Rattle.decl_syntax.specs.declared.stop.Stop.TheVariants.{Memory};
 ghost use Rattle.decl_syntax.specs.Units.{left, unit_view};
-ghost use Rattle.decl_syntax.specs.Patterns.{pattern_view, shape_view, path_view, field_view, Bind, BindAs, Tuple, more, none};
+ghost use Rattle.decl_lexer.specs.Lexing.{Placed};
+ghost use Rattle.decl_syntax.specs.Patterns.{PatternTree, pattern_view, shape_view, path_view, field_view, Bind, BindAs, Tuple, more, none};
 ghost use Rattle.decl_syntax.specs.Grammar.{NoneSpelled};
 ghost use Rattle.decl_syntax.specs.FieldNames.{number_name, field_name};
 ghost use Rattle.decl_syntax.specs.Reading.{Gives, parts_at};
@@ -467,32 +468,43 @@ fn alt_at(alloc: Global, levels: u32, at: Cursor<'_>) -> Result<(Pat, Cursor<'_>
     Ok((Pat { from, kind }, rest))
 }
 
-/// Alternatives with `|` between them.
+/// Appends alternatives with `|` between them to a list, and gives the place behind them.
 #[cycle(patterns)]
-fn alts_at(alloc: Global, levels: u32, at: Cursor<'_>) -> Result<(Vec<Pat>, Cursor<'_>), Stop>
-    ensures { Gives (λ x. (map pattern_view x.0.items, left x.1)) result
-        (parts_at marks.Bar (alt_at (plain_at levels)) (left at.entry)) }
+fn add_alts<'a>(
+    alloc: Global,
+    levels: u32,
+    all: &mut Vec<Pat>,
+    at: Cursor<'a>,
+) -> Result<Cursor<'a>, Stop>
+    ensures { Gives {Y = List PatternTree × List Placed} (λ x. (map pattern_view all.new.items, left x)) result
+        (option_map (λ x. (map pattern_view all.old.items ++ x.0, x.1))
+        (parts_at marks.Bar (alt_at (plain_at levels)) (left at.entry))) }
 {
-    let mut all = Vec::new(alloc);
     let mut rest = at;
     'alts: loop {
         let (one, after) = alt_at(alloc, levels, rest)?;
         all.push(one)?;
         match behind(after, Mark::Bar) {
             Some(behind) => rest = behind,
-            None => return Ok((all, after)),
+            None => return Ok(after),
         }
     }
 }
 
-/// A pattern: alternatives, of which one alone is itself.
+/// A pattern: alternatives, of which one alone is itself, and takes no list.
 #[cycle(patterns)]
 fn whole_at(alloc: Global, levels: u32, at: Cursor<'_>) -> Result<(Pat, Cursor<'_>), Stop>
     ensures { Gives (λ x. (pattern_view x.0, left x.1)) result (whole_at (plain_at levels) (left at.entry)) }
 {
     let first = skip_mark(at, Mark::Bar);
     let from = first.from();
-    let (all, rest) = alts_at(alloc, levels, first)?;
+    let (one, rest) = alt_at(alloc, levels, first)?;
+    let Some(rest) = behind(rest, Mark::Bar) else {
+        return Ok((one, rest));
+    };
+    let mut all = Vec::new(alloc);
+    all.push(one)?;
+    let rest = add_alts(alloc, levels, &mut all, rest)?;
     match or_of(from, all) {
         Some(pattern) => Ok((pattern, rest)),
         None => Err(Stop::Syntax),

@@ -11,11 +11,11 @@ use Rattle.decl_syntax.proofs.ends.path_at.Goals as goal
 
 pub parts-init : goal.parts-init
 unfolding segments_at
-parts-init c = ([], rw c.new-names.ensures.items refl, refl, no_front _)
+parts-init c = ([], rw c.in_ok-names.ensures.items refl, refl, no_front _)
 
 pub returns-in_err-name : goal.returns-in_err-name
 returns-in_err-name c =
-    let p = err_from_is_err_and c.from_residual.result c.from_residual.ensures.1 in
+    let p = err_from_is_err_and c.from_residual-in_err-name.result c.from_residual-in_err-name.ensures.1 in
     rw (p.1, p.2) (path_fails c.in_err-name.field-0.0 (left c.args.at)
     (parts_stuck marks.PathSeparator (token_at segment_of) segment_shrinks c.parts.invariant.0 (left c.parts.rest) (segments_at (left c.args.at)) c.parts.invariant.3 c.in_err-name.field-0.0 c.in_err-name.ensures))
 

@@ -17,8 +17,8 @@ decreases-alt_at l = 12 * l.levels + 1
 abbrev pub decreases-point_pattern : goal.decreases-point_pattern
 decreases-point_pattern l = 12 * l.levels + 1
 
-abbrev pub decreases-alts_at : goal.decreases-alts_at
-decreases-alts_at l = 12 * l.levels + 2
+abbrev pub decreases-add_alts : goal.decreases-add_alts
+decreases-add_alts l = 12 * l.levels + 2
 
 abbrev pub decreases-whole_at : goal.decreases-whole_at
 decreases-whole_at l = 12 * l.levels + 3
@@ -44,12 +44,12 @@ decreases-path_pattern_at l = 12 * l.levels + 9
 abbrev pub decreases-unbound_at : goal.decreases-unbound_at
 decreases-unbound_at l = 12 * l.levels + 10
 
-abbrev pub invariant-alts_at-alts : goal.invariant-alts_at-alts
-invariant-alts_at-alts l =
-    with_front (map pattern_view l.all.items) (parts_at marks.Bar (alt_at (plain_at l.levels)) (left l.rest)) ≡ parts_at marks.Bar (alt_at (plain_at l.levels)) (left l.at)
+abbrev pub invariant-add_alts-alts : goal.invariant-add_alts-alts
+invariant-add_alts-alts l =
+    with_front (map pattern_view l.all.items) (parts_at marks.Bar (alt_at (plain_at l.levels)) (left l.rest)) ≡ with_front (map pattern_view l.initial.all.items) (parts_at marks.Bar (alt_at (plain_at l.levels)) (left l.at))
 
-abbrev pub decreases-alts_at-alts : goal.decreases-alts_at-alts
-decreases-alts_at-alts l = length (left l.rest)
+abbrev pub decreases-add_alts-alts : goal.decreases-add_alts-alts
+decreases-add_alts-alts l = length (left l.rest)
 
 abbrev pub invariant-items_at-parts : goal.invariant-items_at-parts
 invariant-items_at-parts l =
