@@ -10,3 +10,5 @@ pub mod FindingLemmas
 pub mod FormLemmas
 pub mod SameOwners
 pub mod FindingExamples
+pub mod SomeRuleLemmas
+pub mod InsertLemmas

@@ -9,3 +9,4 @@ pub mod Views
 pub mod Rules
 pub mod Finding
 pub mod FindingViews
+pub mod SomeRule

@@ -1,7 +1,9 @@
 //! The rules that one item breaks by itself.
-ghost use Rattle.std.specs.Prelude.{◌≡◌, length, map, IfOk};
+ghost use Rattle.std.specs.Prelude.{◌≡◌, false, length, map, IfOk, None};
+ghost use Rattle.std.specs.List.{list_any};
 ghost use Rattle.decl_syntax.specs.Items.{item_view};
 ghost use Rattle.type_names.specs.Rules.{FirstOf, item_test, breaks_at};
+ghost use Rattle.type_names.specs.SomeRule.{breaks_some, breaks_some_written, breaks_other};
 ghost use Rattle.type_names.specs.Views.{AreNames};
 
 use crate::attributes::has_unsupported;
@@ -43,6 +45,57 @@ pub fn first_fault(
         }
     }
     Ok(None)
+}
+
+/// Whether some item breaks one of the rules. It goes over the items once.
+pub fn some_fault(alloc: Global, names: &Names, items: &[Item]) -> Result<bool, NoMemory>
+    requires { AreNames (map item_view items.now) names.now }
+    ensures some { let all = map item_view items.now in IfOk result (λ b. b ≡ list_any (breaks_some all) all) }
+    ensures none { let all = map item_view items.now in IfOk result (λ b. b ≡ false → (rule : ItemRule)
+        → FirstOf (breaks_at rule all) (length all) None) }
+{
+    for item in items {
+        if breaks_some(alloc, names, items, item)? {
+            return Ok(true);
+        }
+    }
+    Ok(false)
+}
+
+// Whether the item breaks one of the rules.
+fn breaks_some(alloc: Global, names: &Names, items: &[Item], item: &Item) -> Result<bool, NoMemory>
+    requires { AreNames (map item_view items.now) names.now }
+    ensures { IfOk result (λ b. b ≡ breaks_some (map item_view items.now) (item_view item.now)) }
+{
+    if breaks_some_written(names, items, item) {
+        return Ok(true);
+    }
+    if breaks_other(names, items, item) {
+        return Ok(true);
+    }
+    if has_variant_twice(alloc, &item.kind)? {
+        return Ok(true);
+    }
+    has_field_twice(alloc, &item.kind)
+}
+
+// Whether a type that is written in the item breaks one of the rules on written types.
+fn breaks_some_written(names: &Names, items: &[Item], item: &Item) -> bool
+    requires { AreNames (map item_view items.now) names.now }
+    ensures { result ≡ breaks_some_written (map item_view items.now) (item_view item.now) }
+{
+    breaks_written(names, items, TypeRule::UnknownType, item)
+        || breaks_written(names, items, TypeRule::SizelessPlace, item)
+        || breaks_written(names, items, TypeRule::ArrayLength, item)
+        || breaks_written(names, items, TypeRule::ArgumentCount, item)
+}
+
+// Whether the item breaks rule 18 or 19.
+fn breaks_other(names: &Names, items: &[Item], item: &Item) -> bool
+    requires { AreNames (map item_view items.now) names.now }
+    ensures { result ≡ breaks_other (map item_view items.now) (item_view item.now) }
+{
+    is_bad_use(names, items, &item.kind) || has_unsupported(item)
 }
 
 // Whether the item breaks the rule.

@@ -8,8 +8,8 @@
 //! the form of it; `specs/Finding.antt` says what is found.
 //!
 //! [`first_name_twice`] finds the first item that breaks rule 10, and [`first_fault`] the first that breaks a rule that
-//! an item breaks by itself ([`ItemRule`]). Each rule is a test in `specs/`: `specs/NameRules.antt`,
-//! `specs/TypeRules.antt` and `specs/Attributes.antt`; `specs/Written.antt` says which type a written type stands for,
+//! an item breaks by itself ([`ItemRule`]); [`some_fault`] says whether some item breaks one of these. Each rule is a
+//! test in `specs/`: `specs/NameRules.antt`, `specs/TypeRules.antt` and `specs/Attributes.antt`; `specs/Written.antt` says which type a written type stands for,
 //! and what a file declares.
 #![tactic(auto)]
 
@@ -26,7 +26,7 @@ mod type_rules;
 pub use attributes::is_marked;
 pub use finding::Finder;
 pub use imports::{enum_of, form_kind, variant_form};
-pub use item_rules::{ItemRule, first_fault};
+pub use item_rules::{ItemRule, first_fault, some_fault};
 pub use meanings::{Base, FormKind, Meaning, Opaque, Owner, built_in, int_kind};
 pub use name_rules::{field_name, first_name_twice};
 pub use names::Names;

@@ -7,7 +7,7 @@ ghost use Rattle.type_names.specs.Written.{field_name};
 ghost use Rattle.type_names.specs.NameMaps.{contains_name};
 ghost use Rattle.decl_syntax.specs.Items.{item_view, kind_view, form_view, field_view, variant_view};
 ghost use Rattle.type_names.specs.Imports.{enum_of, variant_form, variant_number};
-ghost use Rattle.type_names.specs.NameRules.{is_value_form, listed, has_variant_twice, has_field_twice, form_has_field_twice, is_bad_use, some_unlisted, some_among, repeats, is_taken, taken_names, function_names, value_names};
+ghost use Rattle.type_names.specs.NameRules.{is_value_form, listed, has_variant_twice, has_field_twice, form_has_field_twice, is_bad_use, some_unlisted, some_among, is_among, repeats, is_taken, taken_names, function_names, value_names};
 ghost use Rattle.type_names.specs.Rules.{FirstOf, named_twice_at};
 ghost use Rattle.type_names.specs.Views.{among, owner_view, AreNames, AreTaken};
 
@@ -221,12 +221,9 @@ fn take_name(taken: &mut IndexSet<Name>, name: &Name) -> Result<bool, NoMemory>
     ensures taken { OnOk result (contains_name taken.new
         ≡ (λ q. contains_name taken.old q || bytes_eq q (rc_str_bytes name.now))) }
 {
-    if taken.contains(name.as_str()) {
-        return Ok(false);
-    }
     let copy = name.clone()?;
-    taken.insert(copy)?;
-    Ok(true)
+    let is_new = taken.insert(copy)?;
+    Ok(is_new)
 }
 
 // Takes names one after the other, and says whether each was free.
@@ -304,8 +301,46 @@ pub(crate) fn has_variant_twice(alloc: Global, kind: &ItemKind) -> Result<bool, 
     }
 }
 
-// Whether two of the variants have one name. Each name is kept once: an enum may have millions.
+// So many variants are compared with each other; of more, the names are put into a set.
+const FEW: usize = 8;
+
+// Whether two of the variants have one name.
 fn variants_repeat(alloc: Global, variants: &[Variant]) -> Result<bool, NoMemory>
+    ensures { IfOk result (λ b. b ≡ repeats [] (map (λ x. x.name) (map variant_view variants.now))) }
+{
+    if variants.len() <= FEW {
+        Ok(few_repeat(variants))
+    } else {
+        many_repeat(alloc, variants)
+    }
+}
+
+// The same of few variants, each of which is compared with those before it.
+fn few_repeat(variants: &[Variant]) -> bool
+    ensures { result ≡ repeats [] (map (λ x. x.name) (map variant_view variants.now)) }
+{
+    for (i, variant) in variants.iter().enumerate() {
+        if is_named_before(&variants[..i], variant) {
+            return true;
+        }
+    }
+    false
+}
+
+// Whether one of the variants before it has the name of this one.
+fn is_named_before(before: &[Variant], variant: &Variant) -> bool
+    ensures { result ≡ is_among (variant_view variant.now).name (map (λ x. x.name) (map variant_view before.now)) }
+{
+    for other in before {
+        if variant.name.as_str() == other.name.as_str() {
+            return true;
+        }
+    }
+    false
+}
+
+// The same of any number of variants. Each name is kept once: an enum may have millions.
+fn many_repeat(alloc: Global, variants: &[Variant]) -> Result<bool, NoMemory>
     ensures { IfOk result (λ b. b ≡ repeats [] (map (λ x. x.name) (map variant_view variants.now))) }
 {
     let mut taken = IndexSet::new(alloc);

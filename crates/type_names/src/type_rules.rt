@@ -89,7 +89,12 @@ fn breaks_within(names: &Names, rule: TypeRule, sized: bool, ty: &Ty) -> bool
         Ty::Point { inner, .. } => breaks_within(names, rule, false, inner),
         Ty::Slice(item) => breaks_within(names, rule, true, item),
         Ty::Array { item, .. } => breaks_within(names, rule, true, item),
-        Ty::Named { name, args } => some_breaks(names, rule, arguments_sized(names, name), args),
+        Ty::Named { name, args } => {
+            if args.is_empty() {
+                return false;
+            }
+            some_breaks(names, rule, arguments_sized(names, name), args)
+        }
     }
 }
 

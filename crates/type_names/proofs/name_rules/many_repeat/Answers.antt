@@ -5,7 +5,7 @@ use Rattle.decl_syntax.specs.Items.{VariantTree, variant_view}
 use Rattle.type_names.specs.NameRules.{repeats}
 use Rattle.type_names.specs.Views.{among}
 use Rattle.type_names.proofs.TakenLemmas.{taken_step, taken_twice, parted_names, front_names}
-use Rattle.type_names.proofs.name_rules.variants_repeat.Goals as goal
+use Rattle.type_names.proofs.name_rules.many_repeat.Goals as goal
 
 pub returns-then-not-branch : goal.returns-then-not-branch
 returns-then-not-branch c =

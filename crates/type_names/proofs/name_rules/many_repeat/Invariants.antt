@@ -3,7 +3,7 @@ use Rattle.type_names.specs.NameMaps.{contains_name}
 use Rattle.decl_syntax.specs.Items.{variant_view}
 use Rattle.type_names.specs.NameRules.{repeats}
 use Rattle.type_names.specs.Views.{among}
-use Rattle.type_names.proofs.name_rules.variants_repeat.Given as goal
+use Rattle.type_names.proofs.name_rules.many_repeat.Given as goal
 
 abbrev pub invariant-loop-variant : goal.invariant-loop-variant
 invariant-loop-variant l =
