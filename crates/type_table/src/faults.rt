@@ -1,7 +1,8 @@
 //! The first item of a file that breaks a rule.
-ghost use Rattle.std.specs.Prelude.{◌≡◌, map, IfOk, option_map};
+ghost use Rattle.std.specs.Prelude.{◌≡◌, false, length, map, IfOk, None, option_map};
 ghost use Rattle.decl_syntax.specs.Items.{item_view};
 ghost use Rattle.type_names.specs.Written.{program_of};
+ghost use Rattle.type_names.specs.Rules.{FirstOf, breaks_at};
 ghost use Rattle.type_names.specs.Views.{AreNames};
 ghost use Rattle.type_table.specs.Faults.{Breaks, ContainsItself, IsEndless, FirstThat, LeastFault};
 ghost use Rattle.type_table.specs.Readings.{earlier, fault_pair};
@@ -11,7 +12,7 @@ use decl_syntax::Item;
 use match_model::Width;
 use no_memory::NoMemory;
 use std::alloc::Global;
-use type_names::{ItemRule, Names, TypeRule, first_fault, first_name_twice};
+use type_names::{ItemRule, Names, TypeRule, first_fault, first_name_twice, some_fault};
 
 /// Why a file has no table: the first item that breaks a rule, counted from 0, with the least rule that it breaks and
 /// the byte offset where the item begins; or memory was refused.
@@ -45,37 +46,43 @@ pub(crate) fn least_fault(
     ensures { IfOk result (λ best. LeastFault (Breaks (map item_view items.now) _width) (option_map fault_pair best)) }
 {
     let by_name_twice = first_name_twice(alloc, names, items)?;
-    let by_variant_twice = first_fault(alloc, names, items, ItemRule::VariantTwice)?;
-    let by_field_twice = first_fault(alloc, names, items, ItemRule::FieldTwice)?;
-    let by_unknown_type = first_fault(
+    let broken = some_fault(alloc, names, items)?;
+    let by_variant_twice = first_where(alloc, names, items, broken, ItemRule::VariantTwice)?;
+    let by_field_twice = first_where(alloc, names, items, broken, ItemRule::FieldTwice)?;
+    let by_unknown_type = first_where(
         alloc,
         names,
         items,
+        broken,
         ItemRule::Written(TypeRule::UnknownType),
     )?;
-    let by_sizeless_place = first_fault(
+    let by_sizeless_place = first_where(
         alloc,
         names,
         items,
+        broken,
         ItemRule::Written(TypeRule::SizelessPlace),
     )?;
-    let by_array_length = first_fault(
+    let by_array_length = first_where(
         alloc,
         names,
         items,
+        broken,
         ItemRule::Written(TypeRule::ArrayLength),
     )?;
-    let by_argument_count = first_fault(
+    let by_argument_count = first_where(
         alloc,
         names,
         items,
+        broken,
         ItemRule::Written(TypeRule::ArgumentCount),
     )?;
-    let by_bad_use = first_fault(alloc, names, items, ItemRule::BadUse)?;
-    let by_unsupported_attribute = first_fault(
+    let by_bad_use = first_where(alloc, names, items, broken, ItemRule::BadUse)?;
+    let by_unsupported_attribute = first_where(
         alloc,
         names,
         items,
+        broken,
         ItemRule::UnsupportedAttribute,
     )?;
     let upto_name_twice = earlier(None, 10, by_name_twice);
@@ -90,6 +97,25 @@ pub(crate) fn least_fault(
     let upto_unsupported_attribute = earlier(upto_bad_use, 19, by_unsupported_attribute);
     let upto_endless_type = earlier(upto_unsupported_attribute, 36, endless);
     Ok(upto_endless_type)
+}
+
+// The first item that breaks the rule, which is looked for only where some item breaks one of the rules.
+fn first_where(
+    alloc: Global,
+    names: &Names,
+    items: &[Item],
+    broken: bool,
+    rule: ItemRule,
+) -> Result<Option<usize>, NoMemory>
+    requires names { AreNames (map item_view items.now) names.now }
+    requires none { let all = map item_view items.now in broken ≡ false → FirstOf (breaks_at rule all) (length all) None }
+    ensures { let all = map item_view items.now in IfOk result (FirstOf (breaks_at rule all) (length all)) }
+{
+    if broken {
+        first_fault(alloc, names, items, rule)
+    } else {
+        Ok(None)
+    }
 }
 
 // The least fault, where the item `found` is the first that breaks `rule`; `rule` is above those of `best`.
