@@ -9,8 +9,8 @@
 //!
 //! [`first_name_twice`] finds the first item that breaks rule 10, and [`first_fault`] the first that breaks a rule that
 //! an item breaks by itself ([`ItemRule`]); [`some_fault`] says whether some item breaks one of these. Each rule is a
-//! test in `specs/`: `specs/NameRules.antt`, `specs/TypeRules.antt` and `specs/Attributes.antt`; `specs/Written.antt` says which type a written type stands for,
-//! and what a file declares.
+//! test in `specs/`: `specs/NameRules.antt`, `specs/TypeRules.antt` and `specs/Attributes.antt`; `specs/Written.antt`
+//! says which type a written type stands for, and what a file declares.
 #![tactic(auto)]
 
 mod attributes;
