@@ -3,3 +3,4 @@ pub mod Adding
 pub mod Digits
 pub mod Lists
 pub mod Written
+pub mod PlainTexts

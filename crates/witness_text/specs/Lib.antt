@@ -4,3 +4,4 @@ pub mod Reported
 pub mod Texts
 pub mod Trees
 pub mod Writing
+pub mod Plain
