@@ -29,12 +29,12 @@ use Rattle.tree_eval.specs.declared.tree.Bind.{Bind}
 use Rattle.tree_eval.specs.declared.tree.Case.{Case}
 use Rattle.tree_eval.proofs.Keeping.{keep-cases}
 use Rattle.decision_tree.specs.declared.frames.Frame.{Frame}
-use Rattle.decision_tree.specs.declared.frames.Frame.TheVariants.{Guard, Switch, Note}
+use Rattle.decision_tree.specs.declared.frames.Frame.TheVariants.{Guard, Switch, Last, Others, Note}
 use Rattle.decision_tree.specs.declared.frames.Looked.{Looked}
 use Rattle.decision_tree.specs.declared.frames.Matrix.{Matrix}
 use Rattle.decision_tree.specs.declared.frames.Turn.TheVariants.{Finished, Done}
 use Rattle.decision_tree.specs.Matrices.{matrix_columns, matrix_rows}
-use Rattle.decision_tree.specs.Waiting.{IsCutOf, IsBare, Makes, Leads, IsLooked, IsElseNext, IsPieceNext, Awaits, IsLeft, IsTurn}
+use Rattle.decision_tree.specs.Waiting.{IsCutOf, IsBare, Makes, Leads, IsLooked, IsElseNext, IsPieceNext, IsSwitching, Awaits, IsLeft, IsTurn}
 
 pub all-every : {A : Type 0} (P : A → Type 0) (xs : List A) → All P xs → Every P xs
 all-every P [] h = tt
@@ -107,6 +107,10 @@ module _ {T : Type 0} (IsType : T → Type 0) (cx : Context T) (V : T → Bool �
       (ds, r, qs, λ t k. b t (l t k), w, g, e, f, a)
   leads-more (Switch x case ∷ frames) now columns cs rows rs l (ds, qs, b, whole, base, front, behind, branches, k, n, a, cut) =
       (ds, qs, λ t k. b t (l t k), whole, base, front, behind, branches, k, n, a, cut)
+  leads-more (Last place cases case ∷ frames) now columns cs rows rs l (e, i, at, (ds, qs, b, whole, base, front, behind, branches, k, n, a)) =
+      (e, i, at, (ds, qs, λ t x. b t (l t x), whole, base, front, behind, branches, k, n, a))
+  leads-more (Others place case next ∷ frames) now columns cs rows rs l (e, i, p, at, is, made, g, s, (ds, qs, b, whole, base, front, behind, branches, k, n, a)) =
+      (e, i, p, at, is, made, g, s, (ds, qs, λ t x. b t (l t x), whole, base, front, behind, branches, k, n, a))
   leads-more (Note x ∷ frames) now columns cs rows rs l (ds, qs, b, e, s, a) =
       (ds, qs, λ t k. b t (l t k), e, s, a)
 
@@ -317,18 +321,29 @@ module _ {T : Type 0} (IsType : T → Type 0) (cx : Context T) (V : T → Bool �
             (f base branches k.built k.walked k.at),
       )
 
+  -- the tree of a case was finished
+  pub case-done : (frames : List (Frame T)) (e : Matrix T) (i : ℕ) (todo : List MCtor) (cases : List MBranch)
+      (case : MCase) (index : ℕ) (before now : List MTree) (columns : List (MColumn T)) (rows : List (MRow T))
+      (t : MTree) → IsSwitching IsType cx V decides m (Waits frames) e i todo cases case before columns rows →
+      Makes IsType cx V decides m columns rows t → IsFinished before t index now →
+      IsLeft IsType cx V decides m frames now e i todo (cases ++ record { case = case; next = index } ∷ [])
+  case-done frames e i todo cases case index before now columns rows t (cs, qs, b, whole, base, front, behind, branches, k, n, a) makes f =
+      elim n [
+        | inl h ↦ else-done frames e i todo cases case index before now cs qs whole t base front behind branches k
+            (b t makes) f a h
+        | inr h ↦ piece-done frames e i todo cases case index before now cs qs whole t base front behind branches k
+            (b t makes) f a h
+      ]
+
   -- the last piece that is left is entered
-  pub piece-begun : (frames : List (Frame T)) (now : List MTree) (l : Looked T) (case : Case) (ks : List MCtor) (p : MCtor)
-      (columns : List (MColumn T)) (rows : List (MRow T)) →
-      IsLeft IsType cx V decides m frames now l.matrix l.column (ks ++ p ∷ []) (map plain_branch l.cases.items) →
-      plain_ctors l.pieces.items ≡ ks → plain_case case ≡ case_of p →
-      ((c : MColumn T) → slice_get (matrix_columns l.matrix) l.column ≡ Some c →
-      (columns ≡ replaced_at l.column (matrix_columns l.matrix) (part_columns cx c p))
-      × AreInOrder decides (rows_at (specialise_head p (cx.arity p c.type)) c.place l.column (matrix_rows l.matrix)) rows) →
-      IsCutOf l → Waits (Switch l case ∷ frames) now columns rows
-  piece-begun frames now l case ks p columns rows (whole, base, front, behind, branches, k, cut, done, a) todo is entered rest =
-      let e : Matrix T = l.matrix in
-      let i : ℕ = l.column in
+  pub piece-next : (frames : List (Frame T)) (now : List MTree) (e : Matrix T) (i : ℕ) (cases : List MBranch)
+      (case : MCase) (ks : List MCtor) (p : MCtor) (columns : List (MColumn T)) (rows : List (MRow T)) →
+      IsLeft IsType cx V decides m frames now e i (ks ++ p ∷ []) cases → case ≡ case_of p →
+      ((c : MColumn T) → slice_get (matrix_columns e) i ≡ Some c →
+      (columns ≡ replaced_at i (matrix_columns e) (part_columns cx c p))
+      × AreInOrder decides (rows_at (specialise_head p (cx.arity p c.type)) c.place i (matrix_rows e)) rows) →
+      IsSwitching IsType cx V decides m (Waits frames) e i ks cases case now columns rows
+  piece-next frames now e i cases case ks p columns rows (whole, base, front, behind, branches, k, cut, done, a) is entered =
       let last : IsLast front ks p = last-present front ks p (sym k.still) in
       let over : k.pieces ≡ last.front ++ (p, Present) ∷ (last.passed ++ behind) =
       cut ∙ ap (λ r. r ++ behind) last.cut ∙ append_assoc last.front ((p, Present) ∷ last.passed) behind in
@@ -357,7 +372,7 @@ module _ {T : Type 0} (IsType : T → Type 0) (cx : Context T) (V : T → Bool �
           switch = k.switch;
           pieces = k.pieces;
           split = k.split;
-          still = todo ∙ sym last.todo;
+          still = sym last.todo;
           built = k.built;
           walked = k.walked;
           at = k.at;
@@ -376,5 +391,31 @@ module _ {T : Type 0} (IsType : T → Type 0) (cx : Context T) (V : T → Bool �
               behind states.1) done);
         }),
         a,
-        rest,
       )
+
+  -- so it is of a switch as it waits
+  pub piece-begun : (frames : List (Frame T)) (now : List MTree) (l : Looked T) (case : Case) (ks : List MCtor) (p : MCtor)
+      (columns : List (MColumn T)) (rows : List (MRow T)) →
+      IsLeft IsType cx V decides m frames now l.matrix l.column (ks ++ p ∷ []) (map plain_branch l.cases.items) →
+      plain_ctors l.pieces.items ≡ ks → plain_case case ≡ case_of p →
+      ((c : MColumn T) → slice_get (matrix_columns l.matrix) l.column ≡ Some c →
+      (columns ≡ replaced_at l.column (matrix_columns l.matrix) (part_columns cx c p))
+      × AreInOrder decides (rows_at (specialise_head p (cx.arity p c.type)) c.place l.column (matrix_rows l.matrix)) rows) →
+      IsCutOf l → Waits (Switch l case ∷ frames) now columns rows
+  piece-begun frames now l case ks p columns rows left todo is entered rest =
+      with-rest (subst (λ qs. IsSwitching IsType cx V decides m (Waits frames) l.matrix l.column qs
+      (map plain_branch l.cases.items) (plain_case case) now columns rows) (sym todo)
+      (piece-next frames now l.matrix l.column (map plain_branch l.cases.items) (plain_case case) ks p columns rows left is entered))
+    where
+      with-rest : IsSwitching IsType cx V decides m (Waits frames) l.matrix l.column (plain_ctors l.pieces.items)
+          (map plain_branch l.cases.items) (plain_case case) now columns rows → Waits (Switch l case ∷ frames) now columns rows
+      with-rest (cs, qs, b, whole, base, front, behind, branches, k, n, a) =
+          (cs, qs, b, whole, base, front, behind, branches, k, n, a, rest)
+
+  -- and of its case of all pieces that stand in no row
+  pub without-cut : (frames : List (Frame T)) (now : List MTree) (l : Looked T) (case : Case) (columns : List (MColumn T))
+      (rows : List (MRow T)) → Waits (Switch l case ∷ frames) now columns rows →
+      IsSwitching IsType cx V decides m (Waits frames) l.matrix l.column (plain_ctors l.pieces.items)
+      (map plain_branch l.cases.items) (plain_case case) now columns rows
+  without-cut frames now l case columns rows (cs, qs, b, whole, base, front, behind, branches, k, n, a, cut) =
+      (cs, qs, b, whole, base, front, behind, branches, k, n, a)

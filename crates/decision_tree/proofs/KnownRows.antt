@@ -1,5 +1,5 @@
 -- Known rows, each with its part of the heads.
-use Rattle.std.proofs.Common.{◌≡◌, ◌≤◌, ℕ, ◌+◌, ◌-◌, List, [], ◌∷◌, ◌++◌, take, drop, length, ap, ◌∙◌, arith, length-drop}
+use Rattle.std.proofs.Common.{◌≡◌, ◌≤◌, ℕ, ◌+◌, List, [], ◌∷◌, ◌++◌, take, drop, length, ap, ◌∙◌, arith, length-drop}
 use Rattle.std.proofs.lemmas.List.{take_all, take-append-le}
 use Rattle.keyed_matrix.proofs.HeadRuns.{drop-before}
 use Rattle.decision_tree.specs.declared.known.KnownHeads.{KnownHeads}

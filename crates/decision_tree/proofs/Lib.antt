@@ -25,6 +25,7 @@ mod Stepping
 mod FirstMatrix
 mod Looking
 mod Turning
+mod LastCases
 mod Empty
 mod StillInOrder
 mod Apart

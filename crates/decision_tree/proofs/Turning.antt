@@ -61,9 +61,20 @@ last-first xs ys x e = ap reverse e ∙ reverse-append xs (x ∷ [])
 pub map-snoc : {A B : Type 0} (f : A → B) (xs ys : List A) (x : A) → ys ≡ xs ++ x ∷ [] → map f ys ≡ map f xs ++ f x ∷ []
 map-snoc f xs ys x e = ap (map f) e ∙ map-append f xs (x ∷ [])
 
-among-middle : {A : Type 0} (xs ys : List A) (x : A) → Among x (xs ++ x ∷ ys)
+pub among-middle : {A : Type 0} (xs ys : List A) (x : A) → Among x (xs ++ x ∷ ys)
 among-middle [] ys x = inl refl
 among-middle (y ∷ xs) ys x = inr (among-middle xs ys x)
+
+-- no piece is left
+pub none-there : (xs : List Ctor) → length xs ≡ 0 → plain_ctors xs ≡ []
+none-there [] e = refl
+none-there (x ∷ xs) e = absurd (omega (arith, e))
+
+-- one is
+pub one-there : (xs : List Ctor) (x : Ctor) → length xs ≡ 1 → x ≡ get_or xs 0 x → plain_ctors xs ≡ plain_ctor x ∷ []
+one-there [] x l e = absurd (omega (arith, l))
+one-there (y ∷ []) x l e = ap (λ z. plain_ctor z ∷ []) (sym e)
+one-there (y ∷ z ∷ xs) x l e = absurd (omega (arith, l))
 
 -- the indices of cases are those of trees
 pub each-below : (trees : List MTree) (l : List CaseTree) (bs : List MBranch) → Each (IsCaseAt trees) l bs →

@@ -13,10 +13,13 @@ use Rattle.match_model.specs.Lists.{Each}
 use Rattle.match_model.specs.Lowering.{Lowers, Branches, ctors_at, all_wild_at}
 use Rattle.match_model.specs.Matrices.{MColumn, MRow, open_of, part_columns, first_matrix}
 use Rattle.match_model.specs.PieceStates.{HasValue, named_in}
+use Rattle.match_model.specs.Pieces.{ArePieces}
+use Rattle.match_model.specs.Places.{MStep}
 use Rattle.match_model.specs.RowOrder.{AreInOrder}
 use Rattle.match_model.specs.SharedTrees.{WalksAll, case_trees}
 use Rattle.match_model.specs.Steps.{expand_head, specialise_head, default_head, rows_at, replaced_at}
 use Rattle.match_model.specs.Trees.{MCase, ElseCase, MBranch}
+use Rattle.pat_context.specs.Views.{plain_place}
 use Rattle.constructor_sets.specs.Columns.{IsColumnSplit, plain_ctors}
 use Rattle.constructor_sets.specs.Present.{present_piece}
 use Rattle.constructor_sets.specs.declared.piece.PieceState.{PieceState}
@@ -26,14 +29,14 @@ use Rattle.tree_eval.specs.Nodes.{plain_bind, plain_branch, plain_case}
 use Rattle.tree_eval.specs.Tables.{IsFinished}
 use Rattle.decision_tree.specs.declared.frames.Looked.{Looked}
 use Rattle.decision_tree.specs.declared.frames.Frame.{Frame}
-use Rattle.decision_tree.specs.declared.frames.Frame.TheVariants.{Guard, Switch, Note}
+use Rattle.decision_tree.specs.declared.frames.Frame.TheVariants.{Guard, Switch, Last, Others, Note}
 use Rattle.decision_tree.specs.declared.frames.Matrix.{Matrix}
 use Rattle.decision_tree.specs.declared.frames.Turn.{Turn}
 use Rattle.decision_tree.specs.declared.frames.Turn.TheVariants.{Lower, Finished, Done}
 use Rattle.decision_tree.specs.Cuts.{AreCut}
 use Rattle.decision_tree.specs.Known.{IsInScope, known_matrix}
 use Rattle.decision_tree.specs.KnownViews.{plain_known_matrix}
-use Rattle.decision_tree.specs.Matrices.{matrix_columns, matrix_rows, IsGoodMatrix, IsReadyMatrix}
+use Rattle.decision_tree.specs.Matrices.{matrix_columns, matrix_rows, IsGoodMatrix, IsReadyMatrix, IsEntered}
 
 -- the test says whether it is so
 abbrev pub Tells : Bool → Type 0 → Type 0
@@ -112,6 +115,23 @@ module _ {T : Type 0} (IsType : T → Type 0) (cx : Context T) (V : T → Bool �
   abbrev pub Leads : List (MColumn T) → List (MRow T) → List (MColumn T) → List (MRow T) → Type 0
   Leads columns rows cs rs = (t : MTree) → Makes columns rows t → Makes cs rs t
 
+  -- this is the place of column `i`
+  abbrev pub IsPlaceAt : (place : List MStep) → (e : Matrix T) → (i : ℕ) → Type 0
+  IsPlaceAt place e i = (c : MColumn T) → slice_get (matrix_columns e) i ≡ Some c → place ≡ c.place
+
+  -- a case of a switch at column `i` is done next, by the tree of these rows, and then what waits for the switch goes on
+  abbrev pub IsSwitching : (goes_on : List MTree → List (MColumn T) → List (MRow T) → Type 0) → (e : Matrix T) →
+      (i : ℕ) → (todo : List MCtor) → (cases : List MBranch) → MCase → (now : List MTree) → List (MColumn T) →
+      List (MRow T) → Type 0
+  IsSwitching goes_on e i todo cases case now columns rows =
+      (cs : List (MColumn T)) × (rs : List (MRow T)) × Leads columns rows cs rs
+      × (whole : List (MRow T)) × (base : List MTree) × (front : List (MCtor × PieceState))
+      × (behind : List (MCtor × PieceState)) × (branches : MBranches)
+      × (k : IsLooked e i todo cases whole base now front behind branches)
+      × (IsElseNext e i k.column k.pieces case cs rs front behind branches
+      ⊎ IsPieceNext e i k.column k.pieces case cs rs front behind branches)
+      × goes_on base (matrix_columns e) whole
+
   -- where the tree of the rows is finished after `now`, and then what waits for it is, the tree of the match is
   abbrev pub Awaits : List (Frame T) → (now : List MTree) → List (MColumn T) → List (MRow T) → Type 0
   Awaits [] now columns rows = Leads columns rows (first_matrix m).columns (first_matrix m).rows × (now ≡ [])
@@ -128,6 +148,14 @@ module _ {T : Type 0} (IsType : T → Type 0) (cx : Context T) (V : T → Bool �
       × (IsElseNext l.matrix l.column k.column k.pieces (plain_case case) cs rs front behind branches
       ⊎ IsPieceNext l.matrix l.column k.column k.pieces (plain_case case) cs rs front behind branches)
       × Awaits frames base (matrix_columns l.matrix) whole × IsCutOf l
+  Awaits (Last place cases case ∷ frames) now columns rows =
+      (e : Matrix T) × (i : ℕ) × IsPlaceAt (plain_place place.now) e i
+      × IsSwitching (Awaits frames) e i [] (map plain_branch cases.items) (plain_case case) now columns rows
+  Awaits (Others place case next ∷ frames) now columns rows =
+      (e : Matrix T) × (i : ℕ) × (p : MCtor) × IsPlaceAt (plain_place place.now) e i × (plain_case case ≡ case_of p)
+      × IsEntered cx decides i e p next × IsGoodMatrix IsType cx decides next
+      × IsInScope cx m (matrix_columns next) (matrix_rows next)
+      × IsSwitching (Awaits frames) e i (p ∷ []) [] ElseCase now columns rows
   Awaits (Note matrix ∷ frames) now columns rows =
       (cs : List (MColumn T)) × (rs : List (MRow T)) × Leads columns rows cs rs
       × (plain_known_matrix matrix ≡ known_matrix cs rs) × IsInScope cx m cs rs × Awaits frames now cs rs
@@ -145,6 +173,28 @@ module _ {T : Type 0} (IsType : T → Type 0) (cx : Context T) (V : T → Bool �
   abbrev pub IsLeftOf : List (Frame T) → (now : List MTree) → Looked T → Type 0
   IsLeftOf frames now l =
       IsLeft frames now l.matrix l.column (plain_ctors l.pieces.items) (map plain_branch l.cases.items) × IsCutOf l
+
+  -- all cases of a switch at the place are done
+  abbrev pub IsEnded : List (Frame T) → (now : List MTree) → (place : List MStep) → (cases : List MBranch) → Type 0
+  IsEnded frames now place cases =
+      (e : Matrix T) × (i : ℕ) × IsPlaceAt place e i × IsLeft frames now e i [] cases
+
+  -- a switch begins by the case of all pieces that stand in no row
+  pub record IsElseOf (frames : List (Frame T)) (now : List MTree) (l : Looked T) : Type 0 where
+    pub column : MColumn T
+    pub there : slice_get (matrix_columns l.matrix) l.column ≡ Some column
+    pub ready : IsReadyMatrix IsType cx decides l.column l.matrix
+    pub scope : IsInScope cx m (matrix_columns l.matrix) (matrix_rows l.matrix)
+    pub pieces : List (MCtor × PieceState)
+    pub are : ArePieces (cx.set_of column.type) (ctors_at l.column (matrix_rows l.matrix)) (map (λ p. p.0) pieces)
+    pub still : plain_ctors l.pieces.items ≡ filter_map present_piece pieces
+    pub none : map plain_branch l.cases.items ≡ []
+    pub cut : IsCutOf l
+    pub awaits : (columns : List (MColumn T)) (rows : List (MRow T)) →
+        columns ≡ replaced_at l.column (matrix_columns l.matrix) [] →
+        AreInOrder decides (rows_at default_head column.place l.column (matrix_rows l.matrix)) rows →
+        IsSwitching (Awaits frames) l.matrix l.column (plain_ctors l.pieces.items) (map plain_branch l.cases.items) ElseCase
+        now columns rows
 
   -- column `i` is looked at, and some row has a constructor there
   pub record IsOpened (frames : List (Frame T)) (now : List MTree) (i : ℕ) (switchless : Bool) (e : Matrix T) : Type 0 where

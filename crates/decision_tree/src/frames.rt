@@ -2,7 +2,7 @@
 use crate::known::KnownMatrix;
 use constructor_sets::Span;
 use keyed_matrix::{KeyedColumn, KeyedRow};
-use pat_context::Ctor;
+use pat_context::{Ctor, Step};
 use pattern_matrix::Part;
 use tree_eval::{Bind, Case};
 
@@ -33,11 +33,32 @@ pub(crate) struct Looked<'a, T: Copy> {
 #[derive(Drop)]
 pub(crate) enum Frame<'a, T: Copy> {
     // The guard of an arm waits for the tree of the rows behind it.
-    Guard { arm: u32, binds: Vec<Bind> },
-    // A switch waits for the tree of the case.
-    Switch { looked: Looked<'a, T>, case: Case },
+    Guard {
+        arm: u32,
+        binds: Vec<Bind>,
+    },
+    // A switch waits for the tree of a case; others may be to come.
+    Switch {
+        looked: Looked<'a, T>,
+        case: Case,
+    },
+    // A switch at the place waits for the tree of its last case; the others are done with the indices of their trees, the
+    // last one first.
+    Last {
+        place: &'a [Step],
+        cases: Vec<(Case, u64)>,
+        case: Case,
+    },
+    // A switch at the place waits for the tree of its last case, that of all others; its one other case is to come.
+    Others {
+        place: &'a [Step],
+        case: Case,
+        matrix: Matrix<'a, T>,
+    },
     // The tree is known from then on, by what tells its rows.
-    Note { matrix: KnownMatrix<'a> },
+    Note {
+        matrix: KnownMatrix<'a>,
+    },
 }
 
 // What is done next.

@@ -1,5 +1,5 @@
 // The tree of rows. What waits for the trees of other rows stands in a list, so that nothing calls itself.
-ghost use Rattle.std.specs.Prelude.{◌≡◌, ◌<◌, ◌≤◌, ◌^◌, ℕ, [], reverse, drop, length, get_or, Some, slice_get};
+ghost use Rattle.std.specs.Prelude.{◌≡◌, ◌<◌, ◌≤◌, ◌^◌, ◌∷◌, ℕ, [], map, reverse, drop, length, get_or, Some, slice_get};
 ghost use Rattle.std.specs.Prelude.{nat_eq, true, false, IfOk, OnOk};
 ghost use Rattle.std.specs.List.{flat_map, IsDistinct};
 ghost use Rattle.match_model.specs.DecisionTrees.{MTree, all_wild};
@@ -7,10 +7,12 @@ ghost use Rattle.match_model.specs.FewestBranches.{IsFewest};
 ghost use Rattle.match_model.specs.Matrices.{MRow, first_matrix};
 ghost use Rattle.match_model.specs.Numbering.{match_decisions};
 ghost use Rattle.match_model.specs.WellTyped.{IsWellTyped, uids_in};
+ghost use Rattle.pat_context.specs.Views.{plain_ctor, plain_place};
 ghost use Rattle.pattern_arena.specs.Trees.{plain_match};
 ghost use Rattle.keyed_matrix.specs.Deciding.{table_decides};
 ghost use Rattle.keyed_matrix.specs.Views.{plain_columns, plain_row, plain_rows};
 ghost use Rattle.keyed_matrix.specs.declared.rows.KeyedRow.{KeyedRow};
+ghost use Rattle.tree_eval.specs.Nodes.{plain_branch};
 ghost use Rattle.tree_eval.specs.Tables.{IsFinished};
 ghost use Rattle.tree_eval.specs.Trees.{table_trees};
 ghost use Rattle.decision_tree.specs.Asking.{AreAsked};
@@ -18,7 +20,8 @@ ghost use Rattle.decision_tree.specs.Known.{IsInScope};
 ghost use Rattle.decision_tree.specs.KnownTrees.{AreKnown, Keeps};
 ghost use Rattle.decision_tree.specs.KnownViews.{known_entries};
 ghost use Rattle.decision_tree.specs.Matrices.{matrix_columns, matrix_rows, IsGoodMatrix};
-ghost use Rattle.decision_tree.specs.Waiting.{Root, Tells, IsBare, Makes, Awaits, IsLeftOf, IsOpened, IsTurn};
+ghost use Rattle.decision_tree.specs.Waiting.{Root, Tells, IsBare, Makes, Awaits, IsLeft, IsLeftOf, IsEnded, IsElseOf};
+ghost use Rattle.decision_tree.specs.Waiting.{IsOpened, IsTurn};
 ghost use Rattle.decision_tree.specs.declared.frames.Turn.TheVariants.{Finished, Lower};
 
 use crate::binds::{place_by, row_binds};
@@ -30,7 +33,7 @@ use crate::known::{KnownTrees, find_known, none_known, note_known};
 use crate::leaves::{count_asked, is_leaf};
 use crate::lone::lone;
 use crate::pieces::{case_of, is_switchless};
-use crate::steps::{dropped, entered, entered_among, expanded};
+use crate::steps::{dropped, entered, entered_among, expanded, into_dropped, into_entered};
 use crate::tells::known_matrix;
 use crate::thin::thin_rows;
 use crate::wild::without_wild;
@@ -40,7 +43,7 @@ use keyed_matrix::{
     Decisions, KeyedColumn, KeyedRow, are_wild, ctors_at, first_column, first_rows,
 };
 use no_memory::NoMemory;
-use pat_context::PatCx;
+use pat_context::{Ctor, PatCx, Step};
 use pattern_arena::CheckedMatch;
 use pattern_matrix::all_parts;
 use std::alloc::Global;
@@ -194,6 +197,59 @@ fn lower_thin<'a, C: PatCx>(
     Ok(Turn::Lower(Matrix { columns, rows }))
 }
 
+// Finishes the switch at the place, of which all cases are done, the last one first.
+fn finish_switch<'a, C: PatCx>(
+    alloc: Global,
+    cx: &C,
+    decisions: &Decisions,
+    frames: &Vec<Frame<'a, C::Ty>>,
+    table: &mut NodeTable,
+    place: &'a [Step],
+    cases: Vec<(Case, u64)>,
+) -> Result<Turn<'a, C::Ty>, NoMemory>
+    ghost root: { Root C.Ty }
+    requires { IsEnded (C.is_type cx.now) (C.context cx.now) (C.is_value cx.now) (table_decides decisions.now) root
+        (reverse frames.now.items) (table_trees table.old) (plain_place place.now) (map plain_branch cases.items) }
+    ensures turn { IfOk result (λ t. IsTurn (C.is_type cx.now) (C.context cx.now) (C.is_value cx.now)
+        (table_decides decisions.now) root (reverse frames.now.items) (table_trees table.new) t) }
+    ensures keeps { OnOk result (Keeps (table_trees table.old) (table_trees table.new)) }
+{
+    let steps = place_by(alloc, place)?;
+    let mut cases = cases;
+    cases.reverse();
+    let index = table.switch(steps, cases)?;
+    Ok(Turn::Finished(index))
+}
+
+// Goes on with the only case of the switch at the column that is left. No other case needs the matrix, so that its rows are
+// taken over.
+fn last_case<'a, C: PatCx>(
+    alloc: Global,
+    arena: &'a Bump<Global>,
+    cx: &C,
+    decisions: &Decisions,
+    frames: &mut Vec<Frame<'a, C::Ty>>,
+    table: &NodeTable,
+    matrix: Matrix<'a, C::Ty>,
+    i: usize,
+    piece: &Ctor,
+    cases: Vec<(Case, u64)>,
+) -> Result<Turn<'a, C::Ty>, NoMemory>
+    ghost root: { Root C.Ty }
+    requires { IsLeft (C.is_type cx.now) (C.context cx.now) (C.is_value cx.now) (table_decides decisions.now) root
+        (reverse frames.old.items) (table_trees table.now) matrix i (plain_ctor piece.now ∷ [])
+        (map plain_branch cases.items) }
+    ensures { IfOk result (λ t. IsTurn (C.is_type cx.now) (C.context cx.now) (C.is_value cx.now)
+        (table_decides decisions.now) root (reverse frames.new.items) (table_trees table.now) t) }
+{
+    let case = case_of(alloc, piece)?;
+    let place = matrix.columns[i].place;
+    let before = matrix.columns.len();
+    let next = into_entered(alloc, arena, cx, decisions, matrix, i, piece)?;
+    frames.push(Frame::Last { place, cases, case })?;
+    lower_thin(alloc, cx, decisions, frames, table, next, before)
+}
+
 // Goes on with the next case of the switch, from the last to the first; where none is left, the switch is finished.
 fn next_case<'a, C: PatCx>(
     alloc: Global,
@@ -214,11 +270,18 @@ fn next_case<'a, C: PatCx>(
     let mut looked = looked;
     match looked.pieces.pop() {
         Some(piece) => {
-            let case = case_of(alloc, &piece)?;
             let i = looked.column;
             let mut todo = replace(&mut looked.todo, Vec::new(alloc));
             let numbers = next_cut(alloc, &looked.matrix.rows, i, &mut todo, &looked.spans)?;
+            if looked.pieces.is_empty() && numbers.len() > 1 {
+                let matrix = looked.matrix;
+                let cases = looked.cases;
+                return last_case(
+                    alloc, arena, cx, decisions, frames, table, matrix, i, &piece, cases,
+                );
+            }
             looked.todo = todo;
+            let case = case_of(alloc, &piece)?;
             let next = entered_among(
                 alloc,
                 arena,
@@ -234,13 +297,51 @@ fn next_case<'a, C: PatCx>(
             lower_thin(alloc, cx, decisions, frames, table, next, before)
         }
         None => {
-            let place = place_by(alloc, looked.matrix.columns[looked.column].place)?;
-            let mut cases = looked.cases;
-            cases.reverse();
-            let index = table.switch(place, cases)?;
-            Ok(Turn::Finished(index))
+            let place = looked.matrix.columns[looked.column].place;
+            finish_switch(alloc, cx, decisions, frames, table, place, looked.cases)
         }
     }
+}
+
+// Begins the switch, of which a piece that stands in some row is one case, and all others are the other, which is done first.
+// The rows of the piece are made before the others are taken over.
+fn else_first<'a, C: PatCx>(
+    alloc: Global,
+    arena: &'a Bump<Global>,
+    cx: &C,
+    decisions: &Decisions,
+    frames: &mut Vec<Frame<'a, C::Ty>>,
+    table: &NodeTable,
+    looked: Looked<'a, C::Ty>,
+) -> Result<Turn<'a, C::Ty>, NoMemory>
+    ghost root: { Root C.Ty }
+    requires one { length looked.pieces.items ≡ 1 }
+    requires begins { IsElseOf (C.is_type cx.now) (C.context cx.now) (C.is_value cx.now) (table_decides decisions.now) root
+        (reverse frames.old.items) (table_trees table.now) looked }
+    ensures { IfOk result (λ t. IsTurn (C.is_type cx.now) (C.context cx.now) (C.is_value cx.now)
+        (table_decides decisions.now) root (reverse frames.new.items) (table_trees table.now) t) }
+{
+    let Looked {
+        matrix,
+        column: i,
+        pieces,
+        spans,
+        todo,
+        ..
+    } = looked;
+    let mut todo = todo;
+    let piece = &pieces[0];
+    let numbers = next_cut(alloc, &matrix.rows, i, &mut todo, &spans)?;
+    let case = case_of(alloc, piece)?;
+    let place = matrix.columns[i].place;
+    let next = entered_among(alloc, arena, cx, decisions, &matrix, i, piece, &numbers)?;
+    let others = into_dropped(alloc, cx, decisions, matrix, i)?;
+    frames.push(Frame::Others {
+        place,
+        case,
+        matrix: next,
+    })?;
+    Ok(Turn::Lower(others))
 }
 
 // Begins the switch at the column, at which some row has a constructor. Where a piece with a value stands in no row, the last
@@ -276,6 +377,9 @@ fn begin_switch<'a, C: PatCx>(
         cases: Vec::new(alloc),
     };
     if found.missing {
+        if looked.pieces.len() == 1 {
+            return else_first(alloc, arena, cx, decisions, frames, table, looked);
+        }
         let next = dropped(alloc, cx, decisions, &looked.matrix, i)?;
         frames.push(Frame::Switch {
             looked,
@@ -333,7 +437,7 @@ fn look_at<'a, C: PatCx>(
 {
     let e = expanded(alloc, cx, decisions, m, i)?;
     if are_wild(&e.rows, i) {
-        let next = dropped(alloc, cx, decisions, &e, i)?;
+        let next = into_dropped(alloc, cx, decisions, e, i)?;
         return Ok(Turn::Lower(next));
     }
     let set = cx.set(e.columns[i].ty);
@@ -470,6 +574,25 @@ fn resume<'a, C: PatCx>(
         Some(Frame::Guard { arm, binds }) => {
             let asked = table.ask(arm, binds, index)?;
             Ok(Turn::Finished(asked))
+        }
+        Some(Frame::Last { place, cases, case }) => {
+            let mut cases = cases;
+            cases.push((case, index))?;
+            let done = finish_switch(alloc, cx, decisions, frames, table, place, cases)?;
+            Ok(done)
+        }
+        Some(
+            Frame::Others {
+                place,
+                case,
+                matrix,
+            },
+        ) => {
+            let mut cases = Vec::with_capacity(alloc, 2)?;
+            cases.push((Case::Else, index))?;
+            frames.push(Frame::Last { place, cases, case })?;
+            let next = lower_thin(alloc, cx, decisions, frames, table, matrix, 0)?;
+            Ok(next)
         }
         Some(Frame::Note { matrix }) => {
             note_known(known, matrix, index)?;

@@ -17,7 +17,7 @@ use crate::having::listed_rows;
 use bumpalo::Bump;
 use keyed_matrix::{
     Decisions, KeyedRow, are_apart, dropped_columns, dropped_rows, expanded_rows, in_order,
-    piece_columns, piece_rows,
+    into_dropped_rows, into_piece_rows, piece_columns, piece_rows,
 };
 use no_memory::NoMemory;
 use pat_context::{Ctor, PatCx, count_parts};
@@ -67,6 +67,27 @@ pub(crate) fn dropped<'a, C: PatCx>(
     Ok(Matrix { columns, rows })
 }
 
+// The same, of a matrix that nothing else needs: its rows are taken over.
+pub(crate) fn into_dropped<'a, C: PatCx>(
+    alloc: Global,
+    cx: &C,
+    decisions: &Decisions,
+    m: Matrix<'a, C::Ty>,
+    i: usize,
+) -> Result<Matrix<'a, C::Ty>, NoMemory>
+    requires within { i < length m.columns.items }
+    requires ready { IsReadyMatrix (C.is_type cx.now) (C.context cx.now) (table_decides decisions.now) i m }
+    ensures dropped { IfOk result (λ e. IsDropped (table_decides decisions.now) i m.entry e) }
+    ensures good { IfOk result (λ e. IsGoodMatrix (C.is_type cx.now) (C.context cx.now)
+        (table_decides decisions.now) e) }
+{
+    let Matrix { columns, rows } = m;
+    let place = columns[i].place;
+    let rows = into_dropped_rows(alloc, rows, i, place)?;
+    let columns = dropped_columns(alloc, &columns, i)?;
+    Ok(Matrix { columns, rows })
+}
+
 // The rows of the piece, over the columns of its parts and the others.
 pub(crate) fn entered<'a, C: PatCx>(
     alloc: Global,
@@ -89,6 +110,32 @@ pub(crate) fn entered<'a, C: PatCx>(
     let count = count_parts(cx, piece, column.ty);
     let rows = piece_rows(alloc, &m.rows, i, column.place, piece, count)?;
     over_parts(alloc, arena, cx, decisions, m, i, piece, rows)
+}
+
+// The same, of a matrix that nothing else needs: its rows are taken over.
+pub(crate) fn into_entered<'a, C: PatCx>(
+    alloc: Global,
+    arena: &'a Bump<Global>,
+    cx: &C,
+    decisions: &Decisions,
+    m: Matrix<'a, C::Ty>,
+    i: usize,
+    piece: &Ctor,
+) -> Result<Matrix<'a, C::Ty>, NoMemory>
+    requires within { i < length m.columns.items }
+    requires ready { IsReadyMatrix (C.is_type cx.now) (C.context cx.now) (table_decides decisions.now) i m }
+    requires piece { IsPieceAt (C.context cx.now) i m (plain_ctor piece.now) }
+    ensures entered { IfOk result (λ e. IsEntered (C.context cx.now) (table_decides decisions.now) i
+        m.entry (plain_ctor piece.now) e) }
+    ensures good { IfOk result (λ e. IsGoodMatrix (C.is_type cx.now) (C.context cx.now)
+        (table_decides decisions.now) e) }
+{
+    let Matrix { columns, rows } = m;
+    let column = &columns[i];
+    let count = count_parts(cx, piece, column.ty);
+    let rows = into_piece_rows(alloc, rows, i, column.place, piece, count)?;
+    let columns = piece_columns(alloc, arena, cx, &columns, i, column, piece)?;
+    Ok(Matrix { columns, rows })
 }
 
 // The same, of the rows with these numbers alone. Either each row that has the piece is among them, or of these rows the first

@@ -1,4 +1,4 @@
-use Rattle.std.proofs.Common.{◌+◌, ◌++◌, ◌∙◌, length, map, refl, ap, arith}
+use Rattle.std.proofs.Common.{◌+◌, ◌++◌, ◌∙◌, map, refl, ap, arith}
 use Rattle.std.proofs.lemmas.List.{take_all}
 use Rattle.match_model.specs.DecisionTrees.{all_head_binds}
 use Rattle.keyed_matrix.specs.Views.{plain_columns, plain_heads}

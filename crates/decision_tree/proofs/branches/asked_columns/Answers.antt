@@ -1,4 +1,3 @@
-use Rattle.std.proofs.Common.{◌∙◌}
 use Rattle.decision_tree.specs.Asked.{asks}
 use Rattle.decision_tree.proofs.RunTests.{mapped-on}
 use Rattle.decision_tree.proofs.branches.asked_columns.Goals as goal

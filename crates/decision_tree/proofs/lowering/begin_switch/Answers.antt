@@ -23,6 +23,7 @@ use Rattle.decision_tree.specs.Waiting.{Awaits, IsCutOf}
 use Rattle.decision_tree.proofs.Cuts.{cut-begun}
 use Rattle.decision_tree.proofs.Knowing.{dropped-scope}
 use Rattle.decision_tree.proofs.Beginning.{left-begun, else-begun}
+use Rattle.decision_tree.proofs.Going.{without-cut}
 use Rattle.decision_tree.proofs.Looking.{within, read, longer, is-type, sharp, dropped-at}
 use Rattle.decision_tree.proofs.Turning.{last-first, found-at}
 use Rattle.decision_tree.proofs.lowering.begin_switch.Goals as goal
@@ -188,5 +189,60 @@ next_case-requires g c κs inside =
         inside.1,
         left-begun IsType context V decides g.root frames now l o (plain_ctors f.gaps.items) f.missing found c.tables_are_built.ensures
             (ap (map plain_branch) c.new.ensures.items) cut c.if-found.false,
+      ),
+    )
+
+pub else_first-requires : goal.else_first-requires
+else_first-requires g c κs inside =
+    let cx = c.args.cx.now in
+    let IsType = g.C.PatCx.is_type cx in
+    let context = g.C.PatCx.context cx in
+    let V = g.C.PatCx.is_value cx in
+    let decides = table_decides c.args.decisions.now in
+    let frames = reverse c.args.frames.now.items in
+    let now = table_trees c.args.table.now in
+    let values = g.met.C.PatCx.values cx in
+    let e = c.args.e in
+    let i = c.args.i in
+    let o = c.requires.1.1 in
+    let f = c.in_ok-found.found in
+    let l : Looked g.row.C-Ty.Denot = record { matrix = e; column = i; pieces = f.ctors; spans = c.in_ok-spans.spans; todo = c.in_ok-todo.todo; cases = c.new.result } in
+    let n : c.len.result ≡ length (plain_ctors f.ctors.items) =
+    omega (arith, c.len.ensures, f.ctors.ok.0, length-map f.ctors.items plain_ctor) in
+    let cut : IsCutOf l = cut-begun i (matrix_rows e) (plain_ctors f.ctors.items) c.in_ok-spans.spans.items c.in_ok-todo.todo.items
+    c.in_ok-spans.ensures.0
+    (subst (λ ks. AreLeafSpans (plain_ctors ks) (column_leaves i (matrix_rows e)) c.in_ok-spans.ensures.0) c.deref-4.ensures.value
+    (subst (λ rs. AreLeafSpans (plain_ctors c.deref-4.result.now) (column_leaves i (plain_rows rs)) c.in_ok-spans.ensures.0)
+    c.deref-3.ensures.value c.in_ok-spans.ensures.1))
+    (subst (λ (ks : List Ctor). plain_spans c.in_ok-spans.spans.items ≡ map (mirrored (length (plain_ctors ks))) c.in_ok-spans.ensures.0)
+    c.deref-4.ensures.value c.in_ok-spans.ensures.2)
+    (c.in_ok-todo.ensures.pieces ∙ ap (columns_from 0) n)
+    (subst (λ ss. All (IsFull ss) c.in_ok-todo.todo.items) c.deref-6.ensures.value c.in_ok-todo.ensures.full) in
+    let found = found-at IsType context V decides g.root c.index.result.now c.index-2.result.now o.column (plain_ctors c.deref-2.result.now)
+    (ctors_at i (matrix_rows e)) (plain_ctors f.ctors.items) (plain_ctors f.gaps.items) f.missing
+    (read e i o.column o.there c.index.result.now c.index.ensures)
+    (read e i o.column o.there c.index-2.result.now c.index-2.ensures)
+    (ap plain_ctors c.deref-2.ensures.value ∙ c.in_ok-ctors.ensures ∙ ap (λ rs. ctors_at i (plain_rows rs)) c.deref.ensures.value)
+    c.in_ok-found.ensures.found in (
+      inside.0,
+      (
+        inside.1,
+        (
+          omega (arith, c.len-then-found.ensures, c.if-len-eq1.true, f.ctors.ok.0),
+          record {
+            column = o.column;
+            there = o.there;
+            ready = o.ready;
+            scope = o.scope;
+            pieces = found.pieces;
+            are = found.split.are.listed;
+            still = found.present;
+            none = ap (map plain_branch) c.new.ensures.items;
+            cut = cut;
+            awaits = λ columns rows over order. without-cut IsType context V decides g.root frames now l Else columns rows
+                (else-begun IsType context V decides g.root frames now l o (plain_ctors f.gaps.items) f.missing found
+                c.tables_are_built.ensures (ap (map plain_branch) c.new.ensures.items) cut c.if-found.true Else columns rows refl over order);
+          },
+        ),
       ),
     )

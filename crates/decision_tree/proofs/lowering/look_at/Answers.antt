@@ -28,8 +28,8 @@ are_wild-requires g c =
     subst (λ rs. AreLonger i (plain_rows rs)) (sym c.deref.ensures.value)
     (longer IsType context V values decides i e f.column c.in_ok-e.ensures.ready there)
 
-pub dropped-requires-clause-within : goal.dropped-requires-clause-within
-dropped-requires-clause-within g c =
+pub into_dropped-requires-clause-within : goal.into_dropped-requires-clause-within
+into_dropped-requires-clause-within g c =
     let cx = c.args.cx.now in
     let IsType = g.C.PatCx.is_type cx in
     let context = g.C.PatCx.context cx in

@@ -1,11 +1,10 @@
 use Rattle.std.proofs.Common.{◌≡◌, ◌<◌, ◌∙◌, ◌∷◌, ◌++◌, suc, [], reverse, subst, refl, sym, ap, map, length, arith}
 use Rattle.std.specs.Global.{Vec}
 use Rattle.std.specs.List.{All}
+use Rattle.std.proofs.lemmas.Bool.{eqb-true}
 use Rattle.std.proofs.lemmas.List.{length-map}
-use Rattle.indexmap.proofs.ReorderLemmas.{map-reverse}
 use Rattle.match_model.specs.Steps.{specialise_head, rows_at}
-use Rattle.pat_context.specs.Places.{steps_of}
-use Rattle.pat_context.specs.Views.{plain_ctor, plain_place}
+use Rattle.pat_context.specs.Views.{plain_ctor}
 use Rattle.constructor_sets.specs.Columns.{plain_ctors}
 use Rattle.constructor_sets.specs.Spans.{plain_span}
 use Rattle.pattern_matrix.specs.Halving.{leaves_with}
@@ -16,7 +15,6 @@ use Rattle.keyed_matrix.specs.Deciding.{table_decides}
 use Rattle.keyed_matrix.specs.Steps.{AreLonger}
 use Rattle.keyed_matrix.specs.Views.{plain_row, plain_rows}
 use Rattle.tree_eval.specs.Nodes.{plain_branch}
-use Rattle.tree_eval.specs.Tables.{AreBelow, FinishesSwitch}
 use Rattle.tree_eval.specs.Trees.{table_trees}
 use Rattle.decision_tree.specs.declared.frames.Frame.TheVariants.{Switch}
 use Rattle.decision_tree.specs.declared.frames.Looked.{Looked}
@@ -24,13 +22,13 @@ use Rattle.decision_tree.specs.Matrices.{matrix_columns, matrix_rows}
 use Rattle.decision_tree.specs.Cuts.{listed_at, AreCut}
 use Rattle.decision_tree.specs.Cutting.{IsCutPart, AreLed}
 use Rattle.decision_tree.specs.Fronts.{IsFront}
-use Rattle.decision_tree.specs.Waiting.{Awaits, IsCutOf}
+use Rattle.decision_tree.specs.Waiting.{Awaits, IsCutOf, IsLeft}
 use Rattle.decision_tree.proofs.Cuts.{next-number, next-spans, next-front, led-within, cut-next}
-use Rattle.decision_tree.proofs.Knowing.{entered-scope, switch-keeps}
+use Rattle.decision_tree.proofs.Knowing.{entered-scope}
 use Rattle.decision_tree.proofs.Fronts.{front-leads}
-use Rattle.decision_tree.proofs.Going.{leads-more, switch-done, piece-begun}
+use Rattle.decision_tree.proofs.Going.{leads-more, piece-begun}
 use Rattle.decision_tree.proofs.Looking.{read, longer, entered-at}
-use Rattle.decision_tree.proofs.Turning.{last-first, map-snoc, left-last, left-none, left-within, left-below, piece-there}
+use Rattle.decision_tree.proofs.Turning.{last-first, map-snoc, left-last, left-none, left-within, none-there, piece-there}
 use Rattle.decision_tree.proofs.lowering.next_case.Goals as goal
 
 pub entered_among-requires-clause-piece : goal.entered_among-requires-clause-piece
@@ -207,8 +205,8 @@ index-requires g c =
           (map plain_branch l.cases.items) c.requires.1.1.0,
     )
 
-pub switch-requires : goal.switch-requires
-switch-requires g c =
+pub entered_among-requires-clause-within : goal.entered_among-requires-clause-within
+entered_among-requires-clause-within g c =
     let cx = c.args.cx.now in
     let IsType = g.C.PatCx.is_type cx in
     let context = g.C.PatCx.context cx in
@@ -217,12 +215,11 @@ switch-requires g c =
     let frames = reverse c.args.frames.now.items in
     let now = table_trees c.args.table.now in
     let l = c.args.looked in
-    subst (AreBelow (length now))
-    (sym (ap (map plain_branch) c.reverse.ensures.items ∙ map-reverse plain_branch l.cases.items))
-    (left-below IsType context V decides g.root frames now l.matrix l.column (plain_ctors l.pieces.items) (map plain_branch l.cases.items) c.requires.1.1.0)
+    left-within IsType context V decides g.root frames now l.matrix l.column (plain_ctors l.pieces.items)
+    (map plain_branch l.cases.items) c.requires.1.1.0
 
-pub returns-clause-turn : goal.returns-clause-turn
-returns-clause-turn g c =
+pub last_case-requires : goal.last_case-requires
+last_case-requires g c κs inside =
     let cx = c.args.cx.now in
     let IsType = g.C.PatCx.is_type cx in
     let context = g.C.PatCx.context cx in
@@ -231,20 +228,22 @@ returns-clause-turn g c =
     let frames = reverse c.args.frames.now.items in
     let now = table_trees c.args.table.now in
     let l = c.args.looked in
+    let new = c.pop.new.self in
+    let piece = c.in-Some.piece in
+    let p = plain_ctor piece in
     let cases = map plain_branch l.cases.items in
-    let place = plain_place (steps_of c.in_ok-place-in-None.place) in
-    let index = c.in_ok-index-in-None.index in
-    let new = table_trees c.switch.new.self in
-    switch-done IsType context V decides g.root frames now new l.matrix l.column cases place index
-    (left-none IsType context V decides g.root frames now l.matrix l.column l.pieces.items cases
-    (omega (arith, l.pieces.ok.0, c.in-None.ensures.cases.0)) c.requires.1.1.0)
-    (λ d there. ap plain_place c.in_ok-place-in-None.ensures
-    ∙ ap (λ q. q.place) (read l.matrix l.column d there c.index.result.now c.index.ensures))
-    (subst (λ bs. FinishesSwitch now place bs index new)
-    (ap (map plain_branch) c.reverse.ensures.items ∙ map-reverse plain_branch l.cases.items) c.in_ok-index-in-None.ensures.finished)
+    let none = none-there new.items (omega (arith, eqb-true new.len 0 (sym c.is_empty.ensures ∙ c.if-is_empty.true), new.ok.0)) in (
+      inside.0,
+      (
+        inside.1,
+        subst (λ ks. IsLeft IsType context V decides g.root frames now l.matrix l.column (ks ++ p ∷ []) cases) none
+            (left-last IsType context V decides g.root frames now l.matrix l.column l.pieces.items new.items piece cases
+            c.in-Some.ensures.items c.requires.1.1.0),
+      ),
+    )
 
-pub returns-clause-keeps : goal.returns-clause-keeps
-returns-clause-keeps g c =
+pub finish_switch-requires : goal.finish_switch-requires
+finish_switch-requires g c κs inside =
     let cx = c.args.cx.now in
     let IsType = g.C.PatCx.is_type cx in
     let context = g.C.PatCx.context cx in
@@ -253,12 +252,16 @@ returns-clause-keeps g c =
     let frames = reverse c.args.frames.now.items in
     let now = table_trees c.args.table.now in
     let l = c.args.looked in
-    let cases = map plain_branch l.cases.items in
-    let place = plain_place (steps_of c.in_ok-place-in-None.place) in
-    let index = c.in_ok-index-in-None.index in
-    let new = table_trees c.switch.new.self in
-    switch-keeps IsType context V decides g.root frames now new l.matrix l.column cases place index
-    (left-none IsType context V decides g.root frames now l.matrix l.column l.pieces.items cases
-    (omega (arith, l.pieces.ok.0, c.in-None.ensures.cases.0)) c.requires.1.1.0)
-    (subst (λ bs. FinishesSwitch now place bs index new)
-    (ap (map plain_branch) c.reverse.ensures.items ∙ map-reverse plain_branch l.cases.items) c.in_ok-index-in-None.ensures.finished)
+    let cases = map plain_branch l.cases.items in (
+      inside.0,
+      (
+        inside.1,
+        (
+          l.matrix,
+          l.column,
+          λ d there. ap (λ q. q.place) (read l.matrix l.column d there c.index.result.now c.index.ensures),
+          left-none IsType context V decides g.root frames now l.matrix l.column l.pieces.items cases
+              (omega (arith, l.pieces.ok.0, c.in-None.ensures.cases.0)) c.requires.1.1.0,
+        ),
+      ),
+    )
