@@ -1,6 +1,6 @@
 -- Heads that stand side by side.
-use Rattle.std.proofs.Common.{◌≡◌, ◌<◌, ◌≤◌, ℕ, zero, suc, ◌+◌, ◌-◌, List, [], ◌∷◌, ◌++◌, take, drop, length, get_or, replicate, refl, sym, ap, ◌∙◌, arith, Some, None, slice_get, append_assoc, append-nil}
-use Rattle.std.specs.List.{insert, remove}
+use Rattle.std.proofs.Common.{◌≡◌, ◌<◌, ◌≤◌, ℕ, zero, suc, ◌+◌, ◌-◌, List, [], ◌∷◌, ◌++◌, take, drop, length, get_or, replicate, refl, sym, ap, ◌∙◌, arith, Some, None, slice_get, slice_set, slice_index_or, append_assoc, append-nil}
+use Rattle.std.specs.List.{swap_remove}
 use Rattle.std.proofs.lemmas.List.{length-append, length-drop, take_all, drop_all}
 use Rattle.std.proofs.lemmas.Option.{slice_get_within}
 use Rattle.match_model.specs.Steps.{replaced_at}
@@ -229,14 +229,29 @@ module _ {T : Type 0} where
         ∙ ap (λ hs. hs ++ (end ++ last)) (sym (append_assoc front start (wildcards count)))
         ∙ replaced-there (wildcards count)
 
-  -- the heads with another run in place of one
-  pub put-run : (xs : List (HeadRun T)) (k : ℕ) (x : HeadRun T) → k < length xs → plain_heads (insert (remove xs k) k x)
-      ≡ plain_heads (take k xs) ++ (plain_run x ++ plain_heads (drop (k + 1) xs))
-  put-run [] k x l = absurd (omega (arith, l))
-  put-run (y ∷ xs) zero x l = refl
-  put-run (y ∷ xs) (suc k) x l =
-      ap (λ hs. plain_run y ++ hs) (put-run xs k x (omega (arith, l)))
-      ∙ sym (append_assoc (plain_run y) (plain_heads (take k xs)) (plain_run x ++ plain_heads (drop (k + 1) xs)))
-      ∙ ap (λ n. plain_heads (take (suc k) (y ∷ xs)) ++ (plain_run x ++ plain_heads (drop n (y ∷ xs)))) (sym (after k))
+module _ {A : Type 0} where
+  last-got : (xs : List A) (x d : A) → slice_index_or (xs ++ x ∷ []) (length xs) d ≡ x
+  last-got [] x d = refl
+  last-got (y ∷ xs) x d = last-got xs x d
+
+  set-before : (xs : List A) (k : ℕ) (x y : A) → k < length xs →
+      take (length xs) (slice_set (xs ++ x ∷ []) k y) ≡ take k xs ++ y ∷ drop (k + 1) xs
+  set-before [] k x y l = absurd (omega (arith, l))
+  set-before (z ∷ xs) zero x y l = ap (λ zs. y ∷ zs) (all-before xs x)
+    where
+      all-before : (zs : List A) (x : A) → take (length zs) (zs ++ x ∷ []) ≡ zs
+      all-before [] x = refl
+      all-before (z ∷ zs) x = ap (λ us. z ∷ us) (all-before zs x)
+  set-before (z ∷ xs) (suc k) x y l =
+      ap (λ zs. z ∷ zs) (set-before xs k x y (omega (arith, l)))
+      ∙ ap (λ n. z ∷ take k xs ++ y ∷ drop n (z ∷ xs)) (sym (after k))
+
+  -- a list with another thing in place of one
+  pub swapped-in : (xs : List A) (k : ℕ) (x d : A) → k < length xs →
+      swap_remove (xs ++ x ∷ []) k d ≡ take k xs ++ x ∷ drop (k + 1) xs
+  swapped-in xs k x d l =
+      let long : length (xs ++ x ∷ []) - 1 ≡ length xs = (let e = length-append xs (x ∷ []) in omega (arith, e)) in
+      ap (λ n. take n (slice_set (xs ++ x ∷ []) k (slice_index_or (xs ++ x ∷ []) n d))) long
+      ∙ ap (λ y. take (length xs) (slice_set (xs ++ x ∷ []) k y)) (last-got xs x d) ∙ set-before xs k x x l
 
 pub ruleset head_runs = (heads-more, heads-append, length-wilds, get-wild, take-wilds, drop-wilds, both-wilds, append_assoc, append-nil)

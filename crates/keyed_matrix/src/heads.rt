@@ -272,8 +272,8 @@ pub(crate) fn into_rewilded_heads<'a, T: Copy>(
     match recounted(&heads[k], count) {
         Some(run) => {
             let mut heads = heads;
-            let _before = heads.remove(k);
-            heads.insert(k, run)?;
+            heads.push(run)?;
+            let _before = heads.swap_remove(k);
             Ok(heads)
         }
         None => {

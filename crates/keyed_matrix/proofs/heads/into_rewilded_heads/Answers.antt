@@ -1,7 +1,7 @@
-use Rattle.std.proofs.Common.{◌≡◌, ◌<◌, ◌+◌, ◌∙◌, get_or, take, length, ap, sym, subst}
-use Rattle.std.specs.List.{insert}
+use Rattle.std.proofs.Common.{◌≡◌, ◌<◌, ◌+◌, ◌∷◌, ◌∙◌, get_or, take, drop, length, ap, sym, subst}
+use Rattle.std.specs.List.{swap_remove}
 use Rattle.keyed_matrix.specs.Views.{plain_run, plain_heads}
-use Rattle.keyed_matrix.proofs.HeadRuns.{rewilded-there, put-run}
+use Rattle.keyed_matrix.proofs.HeadRuns.{heads-append, rewilded-there, swapped-in}
 use Rattle.keyed_matrix.proofs.heads.into_rewilded_heads.Goals as goal
 
 pub returns-in-Some : goal.returns-in-Some
@@ -16,7 +16,9 @@ returns-in-Some g c =
     subst (λ ys. c.args.i ≡ length (plain_heads (take k ys)) + left) c.deref.ensures.value c.run_of-k.ensures.before in
     let inside : left < length (plain_run x) = subst (λ y. left < length (plain_run y)) (sym c.index.ensures)
     (subst (λ ys. left < length (plain_run (get_or ys k x))) c.deref.ensures.value (c.run_of-k.ensures.inside x)) in
-    ap plain_heads (c.in_ok-insert-in-Some.ensures.items ∙ ap (λ ys. insert ys k run) c.remove-before.ensures.items)
-    ∙ put-run xs k run within
+    ap plain_heads (c.swap_remove-before.ensures.items
+    ∙ ap (λ ys. swap_remove ys k c.swap_remove-before.result) c.in_ok-push-in-Some.ensures.items
+    ∙ swapped-in xs k run c.swap_remove-before.result within)
+    ∙ heads-append (take k xs) (run ∷ drop (k + 1) xs)
     ∙ rewilded-there xs k left c.args.i x within c.index.ensures before inside run c.args.count
     (c.in-Some.ensures left inside)
