@@ -7,7 +7,7 @@ ghost use Rattle.pat_context.specs.Toy.{toy_set, toy_arity};
 use bumpalo::Bump;
 use keyed_matrix::{
     KeyedColumn, are_wild, ctors_at, decisions_of, dropped_columns, dropped_rows, expanded_rows,
-    first_column, first_rows, piece_columns, piece_rows,
+    first_column, first_rows, into_dropped_rows, into_piece_rows, piece_columns, piece_rows,
 };
 use no_memory::NoMemory;
 use pat_context::toy::{Toy, ToyTy};
@@ -70,6 +70,23 @@ fn take_rows_apart(rt: HostRuntime) -> Result<(), NoMemory> {
     assert!(rt; !are_wild(&rows, 0));
     let ctors = ctors_at(alloc, &rows, 0)?;
     assert_eq!(rt; ctors.len(), 1);
+    Ok(())
+}
+
+// The same of rows that no one else needs.
+#[test]
+fn take_rows_over(rt: HostRuntime) -> Result<(), NoMemory> {
+    let alloc = rt.alloc();
+    let arena = Bump::new(alloc);
+    let placer = Placer::new(&arena);
+    let m = either_flag(&placer)?;
+    let column = first_column(&m);
+    let rows = first_rows(alloc, &m)?;
+    let entered = into_piece_rows(alloc, rows, 0, column.place, &Ctor::Flag(true), 0)?;
+    assert_eq!(rt; entered.len(), 1);
+    let rows = first_rows(alloc, &m)?;
+    let dropped = into_dropped_rows(alloc, rows, 0, column.place)?;
+    assert_eq!(rt; dropped.len(), 1);
     Ok(())
 }
 
