@@ -11,7 +11,7 @@ import tempfile
 
 import constructors
 from constructors import over_families, told
-from measuring import least, write
+from measuring import least_so_far, write
 
 HERE = pathlib.Path(__file__).resolve().parent
 ROOT = HERE.parent
@@ -108,8 +108,8 @@ def build(target, crates, name, main):
 
 
 def took(program, path, count, runs):
-    """The processor time of doing so many times more than once what the program does with the match, as the least of some runs."""
-    often, once = (least(["sh", "-c", f"exec {program} {k} < {path}"], runs)[0] for k in (count + 1, 1))
+    """The processor time of doing so many times more than once what the program does with the match, each the least of all runs so far."""
+    often, once = (least_so_far(["sh", "-c", f"exec {program} {k} < {path}"], runs) for k in (count + 1, 1))
     return max(often - once, 0.0)
 
 

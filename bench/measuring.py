@@ -14,6 +14,7 @@ def read_words(description, times, first=()):
     """The words of the command line: `--only`, `--times`, those that are named first, and the built program."""
     reader = argparse.ArgumentParser(description=description)
     reader.add_argument("--only", default="", help="just the kinds whose name has this text")
+    reader.add_argument("--without", default="", help="not the kind of this name")
     reader.add_argument("--times", type=int, default=times, help="so many runs each")
     for word in first:
         reader.add_argument(word)
@@ -52,6 +53,17 @@ def run(command):
         os.execvp(command[0], command)
     _, status, usage = os.wait4(pid, 0)
     return usage.ru_utime + usage.ru_stime, usage.ru_maxrss / 1024, os.waitstatus_to_exitcode(status)
+
+
+SO_FAR = {}
+
+
+def least_so_far(command, times):
+    """The least processor time of all runs of the command so far, of which so many are made now. Where times are taken from one another, each is to be the
+    least first: of differences the least would be one whose smaller time came out long."""
+    key = " ".join(command)
+    SO_FAR[key] = min(least(command, times)[0], SO_FAR.get(key, float("inf")))
+    return SO_FAR[key]
 
 
 def least(command, times, wanted=(0, 1)):

@@ -17,7 +17,7 @@ import sys
 
 sys.path.insert(0, os.path.dirname(os.path.dirname(os.path.abspath(__file__))))
 from constructors import Reader, over_families, told
-from measuring import least, write
+from measuring import least_so_far, write
 
 # The families, with the least N.
 FAMILIES = [
@@ -36,7 +36,7 @@ def ours(words, name, n):
     """The program's time for a family."""
     whole, broken = Reader(told(words.engine, name, n)).source()
     judged, refused = write(f"family_{name}_{n}.rs", whole), write(f"family_{name}_{n}_broken.rs", broken)
-    times = [least([words.program, "check", path], words.times)[0] for path in (judged, refused)]
+    times = [least_so_far([words.program, "check", path], words.times) for path in (judged, refused)]
     return max(times[0] - times[1], 0.0)
 
 

@@ -1,7 +1,7 @@
 #!/usr/bin/env python3
 """Measures lowering alone, beside an engine in plain Rust, over the families of run.py, at N, 2N and 4N.
 
-    bench/trees/alone.py [--only TEXT] [--times N] ENGINE [PROGRAM]
+    bench/trees/alone.py [--only TEXT] [--without NAME] [--times N] ENGINE [PROGRAM]
     bench/trees/alone.py --build PROGRAM
 
 ENGINE is the program that run.py takes. PROGRAM reads a match in the form of tests/engine/README.md and lowers it to its decision tree so

@@ -14,7 +14,7 @@ import sys
 
 sys.path.insert(0, os.path.dirname(os.path.dirname(os.path.abspath(__file__))))
 from constructors import Reader, over_families, told
-from measuring import least, write
+from measuring import least_so_far, write
 
 # The families, with the least N.
 FAMILIES = [
@@ -29,7 +29,7 @@ FAMILIES = [
 def ours(words, name, n):
     """The program's time for a family."""
     path = write(f"family_{name}_{n}.rs", Reader(told(words.engine, name, n)).source()[0])
-    times = [least([words.program, command, path], words.times)[0] for command in ("trees", "check")]
+    times = [least_so_far([words.program, command, path], words.times) for command in ("trees", "check")]
     return max(times[0] - times[1], 0.0)
 
 
