@@ -1,13 +1,18 @@
 -- One piece further in the bytes of a text.
-use Rattle.std.proofs.Common.{◌≤◌, ◌≡◌, ℕ, ◌+◌, ◌-◌, ◌<◌, List, [], ◌∷◌, ◌++◌, length, chars, encode_utf8_all, Ok, Err, sym, ap, subst, ◌∙◌, append_assoc, length-append, inr, arith}
+use Rattle.std.proofs.Common.{◌≤◌, ◌≡◌, ℕ, ◌+◌, ◌-◌, ◌<◌, List, [], ◌∷◌, ◌++◌, length, chars, encode_utf8_all, Result, Option, None, Some, Ok, Err, true, refl, sym, ap, subst, ◌∙◌, append_assoc, length-append, inr, arith}
+use denote.Ref.{Bor}
 use Rattle.std.specs.Str.{IsUtf8}
+use Rattle.decl_lexer.specs.Gaps.{is_space}
+use Rattle.decl_lexer.specs.Text.{skip_while}
+use Rattle.decl_lexer.specs.declared.read.ReadToken.{ReadToken}
+use Rattle.decl_lexer.specs.Views.{read_token_view}
 use Rattle.std.proofs.lemmas.Str.{encodes-append}
 use Rattle.decl_lexer.specs.Begins.{Lexeme, Piece, Gap, Token, Begins}
 use Rattle.decl_lexer.specs.Pieces.{piece_at}
-use Rattle.decl_lexer.specs.Lexing.{Placed, width, First, Found, Broken, Finds, takes, fails, skips, Lexes, goes_on, Faults, here, mark_width, without_mark, HasTokens, HasFault}
+use Rattle.decl_lexer.specs.Lexing.{Placed, width, First, End, Found, Broken, Finds, takes, fails, skips, Lexes, goes_on, Faults, here, mark_width, without_mark, HasTokens, HasFault}
 use Rattle.decl_lexer.specs.declared.token.LexFault.{LexFault}
 use Rattle.decl_lexer.specs.declared.token.LexFault.TheVariants.{Rule, NoMemory}
-use Rattle.decl_lexer.specs.Tokens.{IsFaultOf, IsKnown, FaultComesFirst}
+use Rattle.decl_lexer.specs.Tokens.{IsFaultOf, IsKnown, FaultComesFirst, FindsFirst}
 use Rattle.decl_lexer.proofs.Rests.{EndsIn, Rests, IsPieceRule}
 use Rattle.decl_lexer.proofs.PieceRests.{piece_rests}
 use Rattle.decl_lexer.proofs.Firsts.{wide, width_parts, ahead}
@@ -41,6 +46,24 @@ pub gap_found : (at c : ℕ) (rest behind after : List ℕ) (x : First) → char
 gap_found at c rest behind after x e k read found =
     let to : at + (length rest - length after) ≡ at + width (c ∷ k.front) = omega (arith, k.long) in
     rw e (skips at c (chars behind) k.front (chars after) x read k.same (rw to at found))
+
+space_gap : (c : ℕ) (cs : List ℕ) → is_space c ≡ true → piece_at c cs ≡ Ok (Gap, skip_while is_space cs)
+unfolding piece_at
+space_gap c cs h = rw h refl
+
+-- what comes first behind whitespace comes first
+pub past_spaces : (at c : ℕ) (rest behind after : List ℕ) (x : First) → is_space c ≡ true → IsUtf8 rest → IsUtf8 after → chars rest ≡ c ∷ chars behind → chars after ≡ skip_while is_space (chars behind)
+    → Finds (at + (length rest - length after)) (chars after) x → Finds at (chars rest) x
+past_spaces at c rest behind after x space u v e same found =
+    let read : piece_at c (chars behind) ≡ Ok (Gap, chars after) = rw same (space_gap c (chars behind) space) in
+    gap_found at c rest behind after x e (cut c rest behind after Gap u v e read) read found
+
+-- what is found first behind whitespace is found first
+pub first_behind : (at from : ℕ) (cs ds : List ℕ) (r : Result (Option (ReadToken × Bor (List ℕ))) LexFault) → ((x : First) → Finds from ds x → Finds at cs x) → FindsFirst from ds r → FindsFirst at cs r
+first_behind at from cs ds (Ok None) h found = h End found
+first_behind at from cs ds (Ok (Some p)) h found = h (Found (read_token_view p.0) (chars p.1.now)) found
+first_behind at from cs ds (Err NoMemory) h found = tt
+first_behind at from cs ds (Err (Rule rule place)) h found = h (Broken rule place) found
 
 -- where a fault stands
 pub record IsWithin (c : ℕ) (rest behind faulty : List ℕ) : Type 0 where

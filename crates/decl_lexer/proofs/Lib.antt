@@ -4,6 +4,7 @@ pub mod LexLaws
 pub mod LexLemmas
 pub mod NameLemmas
 pub mod PieceRests
+pub mod PlainLemmas
 pub mod Rests
 pub mod Sources
 pub mod BoolLemmas

@@ -8,6 +8,7 @@ pub mod Marks
 pub mod Names
 pub mod Numbers
 pub mod Pieces
+pub mod Plain
 pub mod Stored
 pub mod Tables
 pub mod Text

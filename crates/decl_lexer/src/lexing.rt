@@ -1,12 +1,14 @@
 //! The tokens of a source, one after the other.
 ghost use Rattle.std.specs.Prelude.{◌≡◌, ◌<◌, ◌≤◌, ◌+◌, ◌^◌, length, IfOk, IfErr, chars, string_bytes, encode_utf8_all};
 ghost use Rattle.unicode_normalization.specs.Forms.{nfc};
-ghost use Rattle.decl_lexer.specs.Lexing.{HasTokens, without_mark, mark_width, AreInOrder};
+ghost use Rattle.decl_lexer.specs.Lexing.{First, Finds, HasTokens, without_mark, mark_width, AreInOrder};
 ghost use Rattle.decl_lexer.specs.Stored.{tokens_view};
 ghost use Rattle.decl_lexer.specs.Tokens.{IsFaultOf, IsKnown, FindsFirst};
 
+use crate::gaps::{is_space, skip_spaces};
 use crate::names::in_nfc;
 use crate::pieces::{Piece, PieceError, piece_at};
+use crate::plain::plain_token;
 use crate::read::ReadToken;
 use crate::stored::Tokens;
 use crate::text::split_first;
@@ -38,7 +40,7 @@ pub fn lex(alloc: Global, source: &[u8]) -> Result<Tokens, LexFault>
     let mut rest = skip_mark(text);
     let mut at = (text.len() - rest.len()) as u64;
     'tokens: loop {
-        let found = match first_token(alloc, at, rest) {
+        let found = match next_token(alloc, at, rest) {
             Ok(found) => found,
             Err(fault) => return Err(fault),
         };
@@ -66,6 +68,53 @@ pub fn name_form(alloc: Global, text: &str) -> Result<String, NoMemory>
 }
 
 /// The first token of the rest, which begins at byte `at` of its source, and the text behind the token.
+#[inline(always)]
+fn next_token(alloc: Global, at: u64, rest: &str) -> Result<Option<(ReadToken<'_>, &str)>, LexFault>
+    requires { at + length rest.now < 2 ^ 64 }
+    ensures { FindsFirst at (chars rest.now) result }
+{
+    let (from, behind) = behind_spaces(at, rest);
+    token_at(alloc, from, behind)
+}
+
+/// The rest from its first character on that is no whitespace, and where that begins.
+#[inline(always)]
+fn behind_spaces(at: u64, rest: &str) -> (u64, &str)
+    requires { at + length rest.now < 2 ^ 64 }
+    ensures first { (x : First) → Finds result.0 (chars result.1.now) x → Finds at (chars rest.now) x }
+    ensures place { result.0 + length result.1.now ≡ at + length rest.now }
+{
+    match split_first(rest) {
+        Some((first, behind)) if is_space(first) => {
+            let after = skip_spaces(behind);
+            (at + (rest.len() - after.len()) as u64, after)
+        }
+        _ => (at, rest),
+    }
+}
+
+/// The first token of the rest, which begins at byte `at` of its source, and the text behind the token. A token that its
+/// first character tells is read at once.
+#[inline(always)]
+fn token_at(alloc: Global, at: u64, rest: &str) -> Result<Option<(ReadToken<'_>, &str)>, LexFault>
+    requires { at + length rest.now < 2 ^ 64 }
+    ensures { FindsFirst at (chars rest.now) result }
+{
+    let Some((first, behind)) = split_first(rest) else {
+        return Ok(None);
+    };
+    match plain_token(alloc, rest, first, behind) {
+        Ok(Some((kind, after))) => {
+            let to = at + (rest.len() - after.len()) as u64;
+            Ok(Some((ReadToken { kind, from: at, to }, after)))
+        }
+        Ok(None) => first_token(alloc, at, rest),
+        Err(_) => Err(LexFault::NoMemory),
+    }
+}
+
+/// The first token of the rest, which begins at byte `at` of its source, and the text behind the token.
+#[inline(never)]
 fn first_token(
     alloc: Global,
     at: u64,

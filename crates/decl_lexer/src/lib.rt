@@ -20,6 +20,7 @@ mod marks;
 mod names;
 mod numbers;
 mod pieces;
+mod plain;
 mod read;
 mod stored;
 mod text;

@@ -44,7 +44,8 @@ pub fn raw_name_at<'a>(
 }
 
 /// What a name is: a keyword, the mark `_`, or a name.
-fn kind_of(alloc: Global, name: &str) -> Result<ReadKind<'_>, AllocError>
+#[inline(always)]
+pub fn kind_of(alloc: Global, name: &str) -> Result<ReadKind<'_>, AllocError>
     ensures { IfOk result (λ kind. read_view kind ≡ lexeme_of (chars name.now)) }
 {
     if name == "_" {
@@ -57,6 +58,7 @@ fn kind_of(alloc: Global, name: &str) -> Result<ReadKind<'_>, AllocError>
 }
 
 /// A name with this text, which is copied only where it is not ASCII.
+#[inline(always)]
 fn named(alloc: Global, text: &str, raw: bool) -> Result<ReadKind<'_>, AllocError>
     ensures { IfOk result (λ kind. read_view kind ≡ Named (encode_utf8_all (nfc (chars text.now))) raw) }
 {

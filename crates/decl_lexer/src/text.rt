@@ -42,14 +42,27 @@ pub fn skip_first(text: &str) -> &str
     }
 }
 
+/// Whether the character may stand within an identifier. The table of Unicode is asked beyond ASCII alone.
+#[inline(always)]
+fn continues_name(c: char) -> bool
+    ensures { result ≡ is_xid_continue c }
+{
+    if c.is_ascii() {
+        c.is_ascii_alphanumeric() || c == '_'
+    } else {
+        unicode_ident::is_xid_continue(c)
+    }
+}
+
 /// The text behind the identifier characters that it begins with.
+#[inline(always)]
 pub fn skip_name(text: &str) -> &str
     ensures rest { chars result.now ≡ skip_while is_xid_continue (chars text.now) }
     ensures shorter { length result.now ≤ length text.now }
 {
     let mut rest = text;
     while let Some((first, others)) = split_first(rest) {
-        if !unicode_ident::is_xid_continue(first) {
+        if !continues_name(first) {
             break;
         }
         rest = others;
@@ -58,6 +71,7 @@ pub fn skip_name(text: &str) -> &str
 }
 
 /// Cuts the text behind the identifier characters that it begins with.
+#[inline(always)]
 pub fn split_name(text: &str) -> (&str, &str)
     ensures name { chars result.0.now ≡ take_while is_xid_continue (chars text.now) }
     ensures bytes { result.0.now ≡ encode_utf8_all (take_while is_xid_continue (chars text.now)) }

@@ -11,28 +11,28 @@ use Rattle.decl_lexer.proofs.Firsts.{ahead, IsAhead}
 use Rattle.decl_lexer.proofs.Sources.{width_is, tokens_in_order}
 use Rattle.decl_lexer.proofs.lexing.lex.Goals as goal
 
-pub returns-in-Err-first_token-clause-fault : goal.returns-in-Err-first_token-clause-fault
-returns-in-Err-first_token-clause-fault c =
+pub returns-in-Err-next_token-clause-fault : goal.returns-in-Err-next_token-clause-fault
+returns-in-Err-next_token-clause-fault c =
     let source = c.args.source.now in
     let text = c.in-Ok.text.now in
     let first = c.skip_mark-rest.result.now in
     let start : IsStart source text first = record { utf8 = c.in-Ok.ensures.cases.1; same = c.in-Ok.ensures.cases.0; rest_is = c.skip_mark-rest.ensures.rest; width_is = c.skip_mark-rest.ensures.width } in
-    fault_of c.tokens.at (chars c.tokens.rest.now) source c.in-Err-first_token.fault c.in-Err-first_token.ensures
+    fault_of c.tokens.at (chars c.tokens.rest.now) source c.in-Err-next_token.fault c.in-Err-next_token.ensures
     (λ rule place f. whole_fault source text first rule place start (c.tokens.invariant.fault rule place f))
 
-pub returns-in-Err-first_token-clause-known : goal.returns-in-Err-first_token-clause-known
-returns-in-Err-first_token-clause-known c =
+pub returns-in-Err-next_token-clause-known : goal.returns-in-Err-next_token-clause-known
+returns-in-Err-next_token-clause-known c =
     let rest = c.tokens.rest.now in
     let end : c.tokens.at + width (chars rest) ≡ length c.args.source.now =
     omega (arith, c.tokens.invariant.place, width_is rest c.tokens.invariant.utf8, ap length c.in-Ok.ensures.cases.0, c.skip_mark-rest.ensures.width) in
-    let P : ℕ → Type 0 = λ n. IsKnown n c.in-Err-first_token.fault in
-    subst P end (first_known c.tokens.at (chars rest) c.in-Err-first_token.fault c.in-Err-first_token.ensures)
+    let P : ℕ → Type 0 = λ n. IsKnown n c.in-Err-next_token.fault in
+    subst P end (first_known c.tokens.at (chars rest) c.in-Err-next_token.fault c.in-Err-next_token.ensures)
 
 pub tokens-smaller : goal.tokens-smaller
 tokens-smaller c =
     let behind = c.in-Some.behind.now in
     let u : IsUtf8 behind = search rules in
-    let found : Finds c.tokens.at (chars c.tokens.rest.now) (Found (read_token_view c.in-Some.token) (chars behind)) = rw c.in-Some.is at c.in-Ok-first_token.ensures in
+    let found : Finds c.tokens.at (chars c.tokens.rest.now) (Found (read_token_view c.in-Some.token) (chars behind)) = rw c.in-Some.is at c.in-Ok-next_token.ensures in
     let known : IsAhead c.tokens.at (chars c.tokens.rest.now) (read_token_view c.in-Some.token) (chars behind) = ahead _ _ _ found in
     omega (arith, known.begins, known.some, known.place, width_is behind u, width_is c.tokens.rest.now c.tokens.invariant.utf8)
 
@@ -41,7 +41,7 @@ tokens-preserved c =
     let behind = c.in-Some.behind.now in
     let rest = c.tokens.rest.now in
     let u : IsUtf8 behind = search rules in
-    let found : Finds c.tokens.at (chars rest) (Found (read_token_view c.in-Some.token) (chars behind)) = rw c.in-Some.is at c.in-Ok-first_token.ensures in
+    let found : Finds c.tokens.at (chars rest) (Found (read_token_view c.in-Some.token) (chars behind)) = rw c.in-Some.is at c.in-Ok-next_token.ensures in
     let known : IsAhead c.tokens.at (chars rest) (read_token_view c.in-Some.token) (chars behind) = ahead _ _ _ found in
     let added : tokens_view c.push.new.self ≡ tokens_view c.tokens.tokens ++ read_token_view c.in-Some.token ∷ [] = c.in_ok-push-in-Some.ensures.view in
     record {
@@ -58,7 +58,7 @@ returns-in-None-clause-tokens c =
     let text = c.in-Ok.text.now in
     let first = c.skip_mark-rest.result.now in
     let start : IsStart source text first = record { utf8 = c.in-Ok.ensures.cases.1; same = c.in-Ok.ensures.cases.0; rest_is = c.skip_mark-rest.ensures.rest; width_is = c.skip_mark-rest.ensures.width } in
-    let found : Finds c.tokens.at (chars c.tokens.rest.now) End = rw c.in-None.is at c.in-Ok-first_token.ensures in
+    let found : Finds c.tokens.at (chars c.tokens.rest.now) End = rw c.in-None.is at c.in-Ok-next_token.ensures in
     whole_tokens source text first (tokens_view c.tokens.tokens) start (rw append-nil at (c.tokens.invariant.tokens [] (ends c.tokens.at (chars c.tokens.rest.now) found)))
 
 pub returns-in-None-clause-order : goal.returns-in-None-clause-order

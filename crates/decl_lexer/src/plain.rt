@@ -1,0 +1,92 @@
+//! Tokens that their first character tells.
+ghost use Rattle.std.specs.Prelude.{◌≡◌, ◌<◌, ◌∷◌, IfOk, IfSome, true, chars};
+ghost use Rattle.decl_lexer.specs.Begins.{Marked, token};
+ghost use Rattle.decl_lexer.specs.Marks.{mark_at};
+ghost use Rattle.decl_lexer.specs.Pieces.{piece_at};
+ghost use Rattle.decl_lexer.specs.Plain.{is_plain_start, is_plain_mark, GivesPlain};
+
+use crate::marks::Mark;
+use crate::names::kind_of;
+use crate::read::ReadKind;
+use crate::text::{split_first, split_name};
+use std::alloc::{AllocError, Global};
+
+/// The token that the text begins with, and the text behind it, where its first character tells of what kind it is. Where
+/// that tells nothing, `None`. `behind` is the text behind that character.
+#[inline(always)]
+pub fn plain_token<'a>(
+    alloc: Global,
+    text: &'a str,
+    first: char,
+    behind: &'a str,
+) -> Result<Option<(ReadKind<'a>, &'a str)>, AllocError>
+    requires { chars text.now ≡ first ∷ chars behind.now }
+    ensures { IfOk result (GivesPlain (piece_at first (chars behind.now))) }
+{
+    if starts_plain_name(first) {
+        let (name, after) = split_name(text);
+        let kind = kind_of(alloc, name)?;
+        return Ok(Some((kind, after)));
+    }
+    match plain_mark(first, behind) {
+        Some((mark, after)) => Ok(Some((ReadKind::Mark(mark), after))),
+        None => Ok(None),
+    }
+}
+
+/// Whether a text that begins with the character begins with a name, a keyword or `_`, whatever stands behind it. The letters `b`,
+/// `c` and `r` are left out, since they may stand before a quote.
+#[inline(always)]
+fn starts_plain_name(c: char) -> bool
+    ensures value { result ≡ is_plain_start c }
+    ensures ascii { result ≡ true → c < 128 }
+{
+    matches!(c, 'a' | 'd'..='q' | 's'..='z' | 'A'..='Z' | '_')
+}
+
+/// The mark that a text begins with, and the text behind it, for the first characters that most marks begin with.
+/// `behind` is the text behind that character.
+#[inline(always)]
+fn plain_mark(first: char, behind: &str) -> Option<(Mark, &str)>
+    ensures mark { IfSome result (λ p. mark_at (first ∷ chars behind.now) ≡ token (Marked p.0) (chars p.1.now)) }
+    ensures first { IfSome result (λ _. is_plain_mark first ≡ true) }
+    ensures ascii { IfSome result (λ _. first < 128) }
+{
+    match first {
+        '(' => Some((Mark::OpenRound, behind)),
+        ')' => Some((Mark::CloseRound, behind)),
+        '{' => Some((Mark::OpenCurly, behind)),
+        '}' => Some((Mark::CloseCurly, behind)),
+        '[' => Some((Mark::OpenSquare, behind)),
+        ']' => Some((Mark::CloseSquare, behind)),
+        ',' => Some((Mark::Comma, behind)),
+        ';' => Some((Mark::Semicolon, behind)),
+        '#' => Some((Mark::Hash, behind)),
+        ':' => Some(colon(behind)),
+        '=' => Some(equals_sign(behind)),
+        _ => None,
+    }
+}
+
+/// The mark that begins with a `:` before this text, and the text behind it.
+#[inline(always)]
+fn colon(behind: &str) -> (Mark, &str)
+    ensures { mark_at (58 ∷ chars behind.now) ≡ token (Marked result.0) (chars result.1.now) }
+{
+    match split_first(behind) {
+        Some((':', after)) => (Mark::PathSeparator, after),
+        _ => (Mark::Colon, behind),
+    }
+}
+
+/// The mark that begins with a `=` before this text, and the text behind it.
+#[inline(always)]
+fn equals_sign(behind: &str) -> (Mark, &str)
+    ensures { mark_at (61 ∷ chars behind.now) ≡ token (Marked result.0) (chars result.1.now) }
+{
+    match split_first(behind) {
+        Some(('>', after)) => (Mark::FatArrow, after),
+        Some(('=', after)) => (Mark::Equal, after),
+        _ => (Mark::Assign, behind),
+    }
+}
