@@ -8,7 +8,7 @@ ghost use Rattle.decl_parser.specs.ArmReading.{guard_at, block_at, value_at, bod
 use crate::parts::{attributes_at, pattern_at};
 use crate::runs::{Until, run_at, skip_tokens};
 use decl_lexer::{Mark, Word};
-use decl_syntax::{Arm, Cursor, Stop, behind, behind_word, skip_mark};
+use decl_syntax::{Arm, Cursor, Stop, behind, behind_word, expect, skip_mark};
 use std::alloc::Global;
 
 /// Whether a guard stands here, and the place behind it.
@@ -31,10 +31,8 @@ fn block_at(alloc: Global, at: Cursor<'_>) -> Result<Cursor<'_>, Stop>
     ensures { Gives left result (block_at (left at.entry)) }
 {
     let rest = skip_tokens(alloc, at, Until::Bracket)?;
-    match behind(rest, Mark::CloseCurly) {
-        Some(rest) => Ok(skip_mark(rest, Mark::Comma)),
-        None => Err(Stop::Syntax),
-    }
+    let rest = expect(rest, Mark::CloseCurly)?;
+    Ok(skip_mark(rest, Mark::Comma))
 }
 
 /// The place behind a body that is no block, and its comma; a `}` ends it and stays.
@@ -46,10 +44,8 @@ fn value_at(alloc: Global, at: Cursor<'_>) -> Result<Cursor<'_>, Stop>
     if let Some(after) = behind(rest, Mark::Comma) {
         return Ok(after);
     }
-    match behind(rest, Mark::CloseCurly) {
-        Some(_) => Ok(rest),
-        None => Err(Stop::Syntax),
-    }
+    expect(rest, Mark::CloseCurly)?;
+    Ok(rest)
 }
 
 /// The place behind a body.
@@ -71,9 +67,7 @@ fn arm_at(alloc: Global, at: Cursor<'_>) -> Result<(Arm, Cursor<'_>), Stop>
     let (attrs, rest) = attributes_at(alloc, at)?;
     let (pat, rest) = pattern_at(alloc, rest)?;
     let (guarded, rest) = guard_at(alloc, rest)?;
-    let Some(rest) = behind(rest, Mark::FatArrow) else {
-        return Err(Stop::Syntax);
-    };
+    let rest = expect(rest, Mark::FatArrow)?;
     let rest = body_at(alloc, rest)?;
     let arm = Arm {
         attrs,

@@ -13,7 +13,7 @@ use crate::params::skip_params;
 use crate::parts::attributes_at;
 use crate::runs::{Until, run_at};
 use decl_lexer::{Mark, Name, Word};
-use decl_syntax::{Cursor, Form, Stop, Variant, behind, behind_word};
+use decl_syntax::{Cursor, Form, Stop, Variant, behind, expect, expect_word};
 use std::alloc::Global;
 
 /// The place behind the number of a variant, if it is written, and else this one.
@@ -82,10 +82,8 @@ pub fn struct_form_at(alloc: Global, at: Cursor<'_>) -> Result<(Form, Cursor<'_>
 {
     let (form, rest) = form_at(alloc, at)?;
     if ends_in_semicolon(&form) {
-        return match behind(rest, Mark::Semicolon) {
-            Some(rest) => Ok((form, rest)),
-            None => Err(Stop::Syntax),
-        };
+        let rest = expect(rest, Mark::Semicolon)?;
+        return Ok((form, rest));
     }
     Ok((form, rest))
 }
@@ -95,9 +93,7 @@ pub fn struct_form_at(alloc: Global, at: Cursor<'_>) -> Result<(Form, Cursor<'_>
 pub fn head_at(word: Word, at: Cursor<'_>) -> Result<(Name, Cursor<'_>), Stop>
     ensures { Gives (λ x. (rc_str_bytes x.0, left x.1)) result (head_at word (left at.entry)) }
 {
-    let Some(rest) = behind_word(at, word) else {
-        return Err(Stop::Syntax);
-    };
+    let rest = expect_word(at, word)?;
     let (name, rest) = owned_name_at(rest)?;
     match skip_params(rest) {
         Some(rest) => Ok((name, rest)),

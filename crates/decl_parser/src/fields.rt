@@ -12,7 +12,7 @@ use crate::names::owned_name_at;
 use crate::parts::{attributes_at, type_at};
 use crate::runs::{Until, run_at};
 use decl_lexer::{Mark, Name, TokenKind, Word};
-use decl_syntax::{Cursor, Field, Form, Seen, Stop, behind, behind_word, fitted};
+use decl_syntax::{Cursor, Field, Form, Seen, Stop, behind, behind_word, expect, fitted};
 use std::alloc::Global;
 
 /// Whether a word comes next that begins what stands between the brackets of a visibility.
@@ -52,10 +52,8 @@ fn skip_scope(alloc: Global, at: Cursor<'_>) -> Result<Cursor<'_>, Stop>
             None => return Err(Stop::Syntax),
         },
     };
-    match behind(rest, Mark::CloseRound) {
-        Some(rest) => Ok(rest),
-        None => Err(Stop::Syntax),
-    }
+    let rest = expect(rest, Mark::CloseRound)?;
+    Ok(rest)
 }
 
 /// The place behind what restricts a visibility, if something does.
@@ -94,10 +92,8 @@ fn label_at(braced: bool, at: Cursor<'_>) -> Result<(Option<Name>, Cursor<'_>), 
         return Ok((None, at));
     }
     let (name, rest) = owned_name_at(at)?;
-    match behind(rest, Mark::Colon) {
-        Some(rest) => Ok((Some(name), rest)),
-        None => Err(Stop::Syntax),
-    }
+    let rest = expect(rest, Mark::Colon)?;
+    Ok((Some(name), rest))
 }
 
 /// A field, and the place behind it.

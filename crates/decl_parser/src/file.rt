@@ -13,7 +13,7 @@ use crate::items::item_at;
 use crate::runs::{Until, run_at};
 use crate::widths::item_is_wide;
 use decl_lexer::{Mark, Tokens};
-use decl_syntax::{Cursor, File, Item, Stop, behind};
+use decl_syntax::{Cursor, File, Item, Stop, expect};
 use std::alloc::{AllocError, AllocFailed, Global};
 
 /// Why tokens spell no file. `item` counts the items before the fault, and `at` is the byte offset of the first
@@ -112,18 +112,9 @@ fn start_of_items(alloc: Global, at: Cursor<'_>) -> Result<Cursor<'_>, ParseFaul
 fn skip_file_attribute(alloc: Global, at: Cursor<'_>) -> Result<Cursor<'_>, Stop>
     ensures { Gives left result (file_attribute_at (left at.entry)) }
 {
-    let Some(rest) = behind(at, Mark::Hash) else {
-        return Err(Stop::Syntax);
-    };
-    let Some(rest) = behind(rest, Mark::Bang) else {
-        return Err(Stop::Syntax);
-    };
-    let Some(rest) = behind(rest, Mark::OpenSquare) else {
-        return Err(Stop::Syntax);
-    };
+    let rest = expect(at, Mark::Hash)?;
+    let rest = expect(rest, Mark::Bang)?;
+    let rest = expect(rest, Mark::OpenSquare)?;
     let rest = run_at(alloc, rest, Until::Bracket)?;
-    match behind(rest, Mark::CloseSquare) {
-        Some(rest) => Ok(rest),
-        None => Err(Stop::Syntax),
-    }
+    expect(rest, Mark::CloseSquare)
 }

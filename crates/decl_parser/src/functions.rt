@@ -12,7 +12,7 @@ use crate::parts::type_at;
 use crate::runs::{Until, run_at};
 use decl_lexer::{Mark, Name, Word};
 use decl_syntax::{
-    Arm, Cursor, Stop, Ty, behind, behind_word, fitted, name_at, skip_mark, skip_word,
+    Arm, Cursor, Stop, Ty, behind, expect, expect_word, fitted, name_at, skip_mark, skip_word,
 };
 use std::alloc::Global;
 
@@ -37,9 +37,7 @@ pub fn function_at(alloc: Global, at: Cursor<'_>) -> Result<(Body, Cursor<'_>), 
     let rest = returned_at(alloc, rest)?;
     let (deref, rest) = head_at(name, rest)?;
     let (arms, rest) = arms_at(alloc, rest)?;
-    let Some(rest) = behind(rest, Mark::CloseCurly) else {
-        return Err(Stop::Syntax);
-    };
+    let rest = expect(rest, Mark::CloseCurly)?;
     let arms = fitted(arms);
     Ok((Body { param, deref, arms }, rest))
 }
@@ -50,21 +48,15 @@ fn parameter_at(alloc: Global, at: Cursor<'_>) -> Result<(&Name, Ty, Cursor<'_>)
     ensures { Gives (λ x. (record { name = rc_str_bytes x.0.now; type = type_view x.1 }, left x.2)) result
         (parameter_at (left at.entry)) }
 {
-    let Some(rest) = behind(at, Mark::OpenRound) else {
-        return Err(Stop::Syntax);
-    };
+    let rest = expect(at, Mark::OpenRound)?;
     let (_, rest) = skip_word(rest, Word::Mut);
     let Some((name, rest)) = name_at(rest) else {
         return Err(Stop::Syntax);
     };
-    let Some(rest) = behind(rest, Mark::Colon) else {
-        return Err(Stop::Syntax);
-    };
+    let rest = expect(rest, Mark::Colon)?;
     let (param, rest) = type_at(alloc, rest)?;
-    match behind(skip_mark(rest, Mark::Comma), Mark::CloseRound) {
-        Some(rest) => Ok((name, param, rest)),
-        None => Err(Stop::Syntax),
-    }
+    let rest = expect(skip_mark(rest, Mark::Comma), Mark::CloseRound)?;
+    Ok((name, param, rest))
 }
 
 /// The place behind what is returned, if that is written.
@@ -84,9 +76,7 @@ fn scrutinee_at(at: Cursor<'_>) -> Result<(Option<u64>, &Name, Cursor<'_>), Stop
     ensures { Gives (λ x. (record { deref = x.0; name = rc_str_bytes x.1.now }, left x.2)) result
         (scrutinee_at (left at.entry)) }
 {
-    let Some(at) = behind_word(at, Word::Match) else {
-        return Err(Stop::Syntax);
-    };
+    let at = expect_word(at, Word::Match)?;
     if let Some(rest) = behind(at, Mark::Star) {
         return match name_at(rest) {
             Some((name, rest)) => Ok((Some(at.from()), name, rest)),
@@ -105,17 +95,13 @@ fn scrutinee_at(at: Cursor<'_>) -> Result<(Option<u64>, &Name, Cursor<'_>), Stop
 fn head_at<'a>(name: &Name, at: Cursor<'a>) -> Result<(Option<u64>, Cursor<'a>), Stop>
     ensures { Gives (λ x. (x.0, left x.1)) result (head_at (rc_str_bytes name.now) (left at.entry)) }
 {
-    let Some(rest) = behind(at, Mark::OpenCurly) else {
-        return Err(Stop::Syntax);
-    };
+    let rest = expect(at, Mark::OpenCurly)?;
     let (deref, scrutinee, rest) = scrutinee_at(rest)?;
     if scrutinee.as_str() != name.as_str() {
         return Err(Stop::Syntax);
     }
-    match behind(rest, Mark::OpenCurly) {
-        Some(rest) => Ok((deref, rest)),
-        None => Err(Stop::Syntax),
-    }
+    let rest = expect(rest, Mark::OpenCurly)?;
+    Ok((deref, rest))
 }
 
 /// Tokens begin with at most one function from its `(` on, and one place stands behind it.

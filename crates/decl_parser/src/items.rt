@@ -11,8 +11,8 @@ use crate::names::{names_at, owned_name_at};
 use crate::parts::attributes_at;
 use decl_lexer::{Mark, Word};
 use decl_syntax::{
-    Cursor, EnumItem, FnItem, Item, ItemKind, Stop, StructItem, UseItem, behind, behind_word,
-    fitted,
+    Cursor, EnumItem, FnItem, Item, ItemKind, Stop, StructItem, UseItem, behind_word, expect,
+    expect_word, fitted,
 };
 use std::alloc::Global;
 
@@ -54,9 +54,7 @@ fn enum_at(alloc: Global, at: Cursor<'_>) -> Result<(ItemKind, Cursor<'_>), Stop
     ensures { Gives (λ x. (kind_view x.0, left x.1)) result (enum_at (left at.entry)) }
 {
     let (name, rest) = head_at(Word::Enum, at)?;
-    let Some(rest) = behind(rest, Mark::OpenCurly) else {
-        return Err(Stop::Syntax);
-    };
+    let rest = expect(rest, Mark::OpenCurly)?;
     let (variants, rest) = variants_at(alloc, rest)?;
     let variants = fitted(variants);
     Ok((ItemKind::Enum(EnumItem { name, variants }), rest))
@@ -77,18 +75,12 @@ fn struct_at(alloc: Global, at: Cursor<'_>) -> Result<(ItemKind, Cursor<'_>), St
 fn import_at(alloc: Global, at: Cursor<'_>) -> Result<(ItemKind, Cursor<'_>), Stop>
     ensures { Gives (λ x. (kind_view x.0, left x.1)) result (import_at (left at.entry)) }
 {
-    let Some(rest) = behind_word(at, Word::Use) else {
-        return Err(Stop::Syntax);
-    };
+    let rest = expect_word(at, Word::Use)?;
     let (owner, rest) = owned_name_at(rest)?;
-    let Some(rest) = behind(rest, Mark::PathSeparator) else {
-        return Err(Stop::Syntax);
-    };
+    let rest = expect(rest, Mark::PathSeparator)?;
     let (names, rest) = names_at(alloc, rest)?;
-    match behind(rest, Mark::Semicolon) {
-        Some(rest) => Ok((ItemKind::Import(UseItem { owner, names }), rest)),
-        None => Err(Stop::Syntax),
-    }
+    let rest = expect(rest, Mark::Semicolon)?;
+    Ok((ItemKind::Import(UseItem { owner, names }), rest))
 }
 
 /// A function, and the place behind it.

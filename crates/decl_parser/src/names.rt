@@ -6,7 +6,7 @@ ghost use Rattle.decl_syntax.specs.Reading.{Gives};
 ghost use Rattle.decl_parser.specs.DeclarationReading.{name_list_at, names_at};
 
 use decl_lexer::{Mark, Name};
-use decl_syntax::{Cursor, Stop, behind, fitted, name_at};
+use decl_syntax::{Cursor, Stop, behind, expect, fitted, name_at};
 use std::alloc::Global;
 
 /// A name, and the place behind it.
@@ -52,9 +52,7 @@ pub fn names_at(alloc: Global, at: Cursor<'_>) -> Result<(Option<Vec<Name>>, Cur
     if let Some(rest) = behind(at, Mark::Star) {
         return Ok((None, rest));
     }
-    let Some(rest) = behind(at, Mark::OpenCurly) else {
-        return Err(Stop::Syntax);
-    };
+    let rest = expect(at, Mark::OpenCurly)?;
     let (names, rest) = name_list_at(alloc, rest)?;
     Ok((Some(fitted(names)), rest))
 }

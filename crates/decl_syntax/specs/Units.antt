@@ -13,7 +13,8 @@ use Rattle.decl_lexer.specs.Views.{lexeme_view}
 use Rattle.decl_lexer.specs.Lexing.{Placed}
 use Rattle.decl_lexer.specs.Stored.{rest_view}
 use Rattle.decl_syntax.specs.declared.cursor.Cursor.{Cursor}
-use Rattle.decl_syntax.specs.declared.cursor.Half.{Half}
+use Rattle.decl_syntax.specs.declared.cursor.Place.{Place}
+use Rattle.decl_syntax.specs.declared.cursor.Place.TheVariants as places
 use Rattle.decl_syntax.specs.declared.cursor.Unit as declared
 use Rattle.decl_syntax.specs.declared.cursor.Seen.{Seen}
 use Rattle.decl_syntax.specs.declared.cursor.Seen.TheVariants as seen
@@ -38,14 +39,29 @@ unfoldable pub units : List Placed → List Placed
 units [] = []
 units (t ∷ ts) = halves t (doubled_mark t.lexeme) ++ units ts
 
--- the mark of a token of two that is still to be read
-abbrev pub pending_view : Option Half → List Placed
-pending_view None = []
-pending_view (Some half) = second_half half.mark half.to ∷ []
+-- what is left of a token behind the first of its two marks, and all of it where it is not two
+abbrev pub later_half : Placed → Option Mark → List Placed
+later_half t None = t ∷ []
+later_half t (Some mark) = second_half mark t.to ∷ []
+
+-- the same of the first of these tokens, and the others
+unfoldable pub units_within : List Placed → List Placed
+units_within [] = []
+units_within (t ∷ ts) = later_half t (doubled_mark t.lexeme) ++ units ts
+
+-- the tokens from the one on before or within which a place stands
+abbrev pub tokens_of : Place → List Placed
+tokens_of (places.Before rest) = rest_view rest
+tokens_of (places.Within rest) = rest_view rest
 
 -- the tokens behind a place
+abbrev pub place_view : Place → List Placed
+place_view (places.Before rest) = units (rest_view rest)
+place_view (places.Within rest) = units_within (rest_view rest)
+
+-- the same of a place in a source
 unfoldable pub left : Cursor → List Placed
-left c = pending_view c.pending ++ units (rest_view c.rest)
+left c = place_view c.place
 
 -- a token without where its text lies in memory
 abbrev pub seen_view : Seen → Lexeme

@@ -9,7 +9,7 @@ ghost use Rattle.decl_syntax.specs.Reading.{Gives};
 ghost use Rattle.decl_syntax.specs.Runs.{part_of, part_view, mark_of, behind_part, or_else, text_of, Tracks, SpellsAttributes};
 ghost use Rattle.decl_syntax.specs.RunReading.{word_at, attribute_at, attributes_at};
 
-use crate::cursor::{Cursor, Seen, Unit, behind};
+use crate::cursor::{Cursor, Seen, Unit, behind, expect};
 use crate::stop::Stop;
 use crate::tree::Attr;
 use decl_lexer::{Mark, Name, TokenKind};
@@ -137,19 +137,13 @@ fn attribute_at(alloc: Global, at: Cursor<'_>) -> Result<(Attr, Cursor<'_>), Sto
     ensures { Gives (λ x. (attr_view x.0, left x.1)) result (attribute_at (left at.entry)) }
 {
     let from = at.from();
-    let Some(rest) = behind(at, Mark::Hash) else {
-        return Err(Stop::Syntax);
-    };
-    let Some(rest) = behind(rest, Mark::OpenSquare) else {
-        return Err(Stop::Syntax);
-    };
+    let rest = expect(at, Mark::Hash)?;
+    let rest = expect(rest, Mark::OpenSquare)?;
     if behind(rest, Mark::CloseSquare).is_some() {
         return Err(Stop::Syntax);
     }
     let (word, rest) = word_at(alloc, rest)?;
-    let Some(rest) = behind(rest, Mark::CloseSquare) else {
-        return Err(Stop::Syntax);
-    };
+    let rest = expect(rest, Mark::CloseSquare)?;
     let word = text_of(alloc, word)?;
     Ok((Attr { from, word }, rest))
 }

@@ -29,7 +29,8 @@ mod widths;
 
 pub use attributes::{mark_of, read_attributes, track};
 pub use cursor::{
-    Cursor, Seen, Unit, behind, behind_lifetime, behind_word, name_at, skip_mark, skip_word,
+    Cursor, Seen, Unit, behind, behind_lifetime, behind_word, expect, expect_word, name_at,
+    skip_mark, skip_word,
 };
 pub use items::{
     Arm, EnumItem, Field, File, FnItem, Form, Item, ItemKind, StructItem, UseItem, Variant,

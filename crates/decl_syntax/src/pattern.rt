@@ -13,7 +13,7 @@ ghost use Rattle.decl_syntax.specs.PatternGrammar.{path_shape, SpellsPattern};
 ghost use Rattle.decl_lexer.specs.declared.marks.Mark.TheVariants as marks;
 
 use crate::attributes::attributes_at;
-use crate::cursor::{Cursor, Seen, Unit, behind, name_at, skip_mark, skip_word};
+use crate::cursor::{Cursor, Seen, Unit, behind, expect, name_at, skip_mark, skip_word};
 use crate::ends::{begins_end, literal_at, negated_at, path_at, range_at};
 use crate::levels::fits;
 use crate::lists::fitted;
@@ -152,9 +152,7 @@ fn label_at(alloc: Global, at: Cursor<'_>) -> Result<(Name, Cursor<'_>), Stop>
     let Some((first, rest)) = at.next() else {
         return Err(Stop::Syntax);
     };
-    let Some(rest) = behind(rest, Mark::Colon) else {
-        return Err(Stop::Syntax);
-    };
+    let rest = expect(rest, Mark::Colon)?;
     let name = field_name(alloc, first)?;
     Ok((name, rest))
 }
@@ -445,9 +443,7 @@ fn tuple_behind(
     ensures { Gives (λ x. (shape_view x.0, left x.1)) result
         (tuple_behind (plain_at levels) (pattern_view first) (left at.entry)) }
 {
-    let Some(rest) = behind(at, Mark::Comma) else {
-        return Err(Stop::Syntax);
-    };
+    let rest = expect(at, Mark::Comma)?;
     let (mut items, rest) = items_at(alloc, levels, false, rest)?;
     items.insert(0, first)?;
     Ok((PatKind::Tuple(fitted(items)), rest))

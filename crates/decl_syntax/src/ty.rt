@@ -11,7 +11,7 @@ ghost use Rattle.decl_syntax.specs.TypeReading.{argument_at, arguments_at, type_
 ghost use Rattle.decl_lexer.specs.declared.marks.Mark.TheVariants as marks;
 
 use crate::cursor::{
-    Cursor, behind, behind_lifetime, integer_at, name_at, skip_lifetime, skip_word,
+    Cursor, behind, behind_lifetime, expect, integer_at, name_at, skip_lifetime, skip_word,
 };
 use crate::lists::fitted;
 use crate::stop::Stop;
@@ -89,9 +89,7 @@ fn round_type(alloc: Global, levels: u32, at: Cursor<'_>) -> Result<(Ty, Cursor<
     if let Some(rest) = behind(rest, Mark::CloseRound) {
         return Ok((first, rest));
     }
-    let Some(rest) = behind(rest, Mark::Comma) else {
-        return Err(Stop::Syntax);
-    };
+    let rest = expect(rest, Mark::Comma)?;
     let (mut parts, rest) = tuple_parts(alloc, levels, rest)?;
     parts.insert(0, first)?;
     Ok((Ty::Tuple(fitted(parts)), rest))
@@ -107,15 +105,11 @@ fn square_type(alloc: Global, levels: u32, at: Cursor<'_>) -> Result<(Ty, Cursor
     if let Some(rest) = behind(rest, Mark::CloseSquare) {
         return Ok((Ty::Slice(item), rest));
     }
-    let Some(rest) = behind(rest, Mark::Semicolon) else {
-        return Err(Stop::Syntax);
-    };
+    let rest = expect(rest, Mark::Semicolon)?;
     let Some((len, suffix, rest)) = integer_at(rest) else {
         return Err(Stop::Syntax);
     };
-    let Some(rest) = behind(rest, Mark::CloseSquare) else {
-        return Err(Stop::Syntax);
-    };
+    let rest = expect(rest, Mark::CloseSquare)?;
     let suffix = String::from_str(alloc, suffix)?;
     let size = Box::new(alloc, ArraySize { len, suffix })?;
     Ok((Ty::Array { item, size }, rest))
