@@ -10,7 +10,7 @@ use Rattle.pattern_arena.proofs.TreeFacts.{tree_out}
 use Rattle.keyed_matrix.specs.Choosing.{choice_after, choices_after, choices_of_each}
 
 -- a pattern that is no or-pattern
-alone : {T : Type 0} (c : MCtor) (alternatives self : List (Choice T)) → is_or_ctor c ≡ false →
+pub alone : {T : Type 0} (c : MCtor) (alternatives self : List (Choice T)) → is_or_ctor c ≡ false →
     choices_by c alternatives self ≡ self
 alone OrCtor a s h = cc
 alone _ a s h = refl

@@ -1,5 +1,5 @@
 -- A decision put among ascending ones.
-use Rattle.std.proofs.Common.{◌≡◌, ◌<◌, ◌≤◌, ◌+◌, ℕ, zero, suc, Bool, true, false, List, [], ◌∷◌, ◌++◌, map, take, drop, length, get_or, nat_eq, nat_lt, Option, Some, None, cond, refl, sym, ap, subst, ◌∙◌, arith, drop-cons, add-one}
+use Rattle.std.proofs.Common.{◌≡◌, ◌<◌, ◌≤◌, ◌+◌, ℕ, zero, suc, Bool, true, false, List, [], ◌∷◌, ◌++◌, map, take, drop, length, get_or, nat_eq, nat_lt, slice_index_or, Option, Some, None, cond, refl, sym, ap, subst, ◌∙◌, arith, drop-cons, add-one}
 use Rattle.std.proofs.lemmas.List.{map-append, take-append-drop, take_all, drop_all}
 use Rattle.std.proofs.lemmas.Bool.Decides.{nat_tests}
 use Rattle.match_model.specs.Lists.{Every}
@@ -13,7 +13,7 @@ use Rattle.keyed_matrix.proofs.KeysInOrder.{equal-tests, other-tests, not-decide
 is-equal : (a b : ℕ) → nat_eq a b ≡ true → a ≡ b
 is-equal a b e = grind (arith, nat_tests)
 
-is-less : (a b : ℕ) → nat_lt a b ≡ true → a < b
+pub is-less : (a b : ℕ) → nat_lt a b ≡ true → a < b
 is-less a b e = grind (arith, nat_tests)
 
 is-greater : (a b : ℕ) → nat_eq a b ≡ false → nat_lt b a ≡ false → a < b
@@ -139,6 +139,34 @@ module _ (d : Decided) (xs : List Decided) (i : ℕ) (k : put_decision (plain_de
       sym (k ∙ ap (λ r. map plain_decision (take i xs) ++ put_decision (plain_decision d) (map plain_decision r)) (drop_all i xs l)
       ∙ ap (λ r. map plain_decision r ++ plain_decision d ∷ []) (take_all i xs l)
       ∙ sym (map-append plain_decision xs (d ∷ [])))
+
+-- a decision above all others comes last
+pub put-behind : (d : Decision) (ds : List Decision) → Every (λ e. e.number < d.number) ds → put_decision d ds ≡ ds ++ d ∷ []
+put-behind d [] a = refl
+put-behind d (e ∷ es) a =
+    let l : e.number < d.number = a.0 in
+    let over : nat_lt d.number e.number ≡ false = grind (arith, nat_tests) in
+    ap (λ b. cond b (e ∷ es) (cond (nat_lt d.number e.number) (d ∷ e ∷ es) (e ∷ put_decision d es)))
+    (other-tests e.number d.number (λ f. absurd (omega (arith, f, l))))
+    ∙ ap (λ b. cond b (d ∷ e ∷ es) (e ∷ put_decision d es)) over ∙ ap (λ r. e ∷ r) (put-behind d es a.1)
+
+-- nothing is above none
+pub above-none : (xs : List Decided) (n : ℕ) → length xs ≡ 0 → Every (λ d. d.number < n) (map plain_decision xs)
+above-none [] n e = tt
+above-none (x ∷ xs) n e = absurd (omega (arith, e))
+
+-- what is above the last of ascending ones is above all
+pub above-all : (xs : List Decided) (k n : ℕ) (d : Decided) → suc k ≡ length xs → (slice_index_or xs k d).number < n →
+    DoAscend (map plain_decision xs) → Every (λ e. e.number < n) (map plain_decision xs)
+above-all [] k n d e l a = tt
+above-all (y ∷ []) zero n d e l a = (l, tt)
+above-all (y ∷ []) (suc k) n d e l a = absurd (omega (arith, e))
+above-all (y ∷ z ∷ zs) zero n d e l a = absurd (omega (arith, e))
+above-all (y ∷ z ∷ zs) (suc k) n d e l a =
+    let rest = above-all (z ∷ zs) k n d (omega (arith, e)) l a.1 in
+    let one : y.number < z.number = a.0.0 in
+    let two : z.number < n = rest.0 in
+    (omega (arith, one, two), rest)
 
 took : {A : Type 0} (xs : List A) (i : ℕ) (d : A) → i < length xs → take (suc i) xs ≡ take i xs ++ get_or xs i d ∷ []
 took [] i d l = absurd (omega (arith, l))

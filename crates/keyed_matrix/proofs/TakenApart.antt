@@ -1,6 +1,6 @@
 -- The constructors of what stands in place of a pattern, and of rows whose or-patterns are taken apart.
 use denote.Bor.{Bor}
-use Rattle.std.proofs.Common.{◌≡◌, ◌<◌, ℕ, zero, suc, Bool, true, false, List, [], ◌∷◌, ◌++◌, map, drop, length, nat_lt, refl, ap, sym, ◌∙◌, arith, Option, Some, None, slice_get, cond}
+use Rattle.std.proofs.Common.{◌≡◌, ◌<◌, ℕ, zero, suc, Bool, true, false, List, [], ◌∷◌, ◌++◌, map, drop, length, nat_lt, refl, ap, sym, ◌∙◌, arith, Option, Some, None, slice_get, cond, append-nil}
 use Rattle.std.specs.List.{flat_map, cons_option}
 use Rattle.std.specs.Option.{option_to_list}
 use Rattle.std.proofs.lemmas.Option.{slice_get_within, get_or_from_slice_get}
@@ -10,7 +10,7 @@ use Rattle.match_model.specs.Lowering.{ctors_at}
 use Rattle.match_model.specs.Matrices.{MRow}
 use Rattle.match_model.specs.Places.{MStep}
 use Rattle.match_model.specs.Rows.{Head, Choice, choices_of, first_ctor, ctor_unless_wild, is_or_ctor, starts_or}
-use Rattle.match_model.specs.Steps.{Replacement, expand_head, replacements_at, row_replaced, replaced_at, rows_at}
+use Rattle.match_model.specs.Steps.{Replacement, expand_head, replacements_at, row_replaced, replaced_at, rows_at, with_others, with_head}
 use Rattle.pattern_arena.specs.declared.pattern.DePat.{DePat, out-DePat}
 use Rattle.pattern_arena.specs.Trees.{tree, placed_ctor, placed_subs, plain_bound}
 use Rattle.pattern_arena.proofs.TreeFacts.{tree_out}
@@ -19,7 +19,7 @@ use Rattle.keyed_matrix.specs.InColumns.{head_ctors}
 use Rattle.keyed_matrix.specs.Steps.{row_at, put_at, chosen_one, chosen_rows, row_ctors}
 use Rattle.keyed_matrix.specs.Views.{plain_heads, plain_row}
 use Rattle.keyed_matrix.specs.declared.rows.KeyedRow.{KeyedRow}
-use Rattle.keyed_matrix.proofs.ChoiceByChoice.{choices-other, choices-or, after-nothing}
+use Rattle.keyed_matrix.proofs.ChoiceByChoice.{alone, choices-other, choices-or, after-nothing}
 use Rattle.keyed_matrix.proofs.InColumn.{heads-from}
 use Rattle.keyed_matrix.proofs.Replaced.{map-map, replacements-of}
 
@@ -141,3 +141,24 @@ module _ {T : Type 0} where
   or-some row i p e =
       sym (ap starts_or (heads-from (plain_row row).heads i (Some (tree p.now)) e)
       ∙ ap (λ q. starts_or (Some q ∷ drop (suc i) (plain_heads row.heads.items))) (tree_out p.now))
+
+  -- ---- a row without an or-pattern in the column is not changed when it is expanded
+
+  expand-plain : (h : Head T) (hs : List (Head T)) → starts_or (h ∷ hs) ≡ false →
+      expand_head h ≡ record { heads = h ∷ []; chosen = []; binds = [] } ∷ []
+  expand-plain None hs e = refl
+  expand-plain (Some (de_pat c t uid at subs binds)) hs e =
+      ap (map (λ (x : Choice T). record { heads = Some x.pat ∷ []; chosen = x.chosen; binds = x.binds }))
+      (alone c _ (record { pat = de_pat c t uid at subs binds; chosen = []; binds = [] } ∷ []) e)
+
+  plain-at : (i : ℕ) (hs : List (Head T)) → i < length hs → starts_or (drop i hs) ≡ false →
+      replacements_at expand_head i hs ≡ record { heads = hs; chosen = []; binds = [] } ∷ []
+  plain-at i [] l e = absurd (omega (arith, l))
+  plain-at zero (h ∷ hs) l e = ap (map (with_others hs)) (expand-plain h hs e)
+  plain-at (suc i) (h ∷ hs) l e = ap (map (with_head h)) (plain-at i hs (omega (arith, l)) e)
+
+  pub plain-row : (place : List MStep) (i : ℕ) (r : MRow T) → i < length r.heads → starts_or (drop i r.heads) ≡ false →
+      row_at expand_head place i r ≡ r ∷ []
+  plain-row place i r l e =
+      ap (map (row_replaced place r)) (plain-at i r.heads l e)
+      ∙ ap (λ x. x ∷ []) (rw (append-nil r.chosen, append-nil r.caught) refl)

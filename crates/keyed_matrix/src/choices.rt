@@ -41,7 +41,9 @@ fn choosing(
 ) -> Result<SmallVec<u64, 2>, NoMemory>
     ensures { IfOk result (λ c. c.items ≡ chosen.now ++ cond several (uid ∷ []) []) }
 {
-    let mut all = SmallVec::from_slice(alloc, chosen)?;
+    let room = chosen.len().saturating_add(1);
+    let mut all = SmallVec::with_capacity(alloc, room)?;
+    all.extend_from_slice(chosen)?;
     if several {
         all.push(uid)?;
     }
@@ -69,18 +71,18 @@ fn add_choices<'a, T: Copy>(
     alloc: Global,
     all: &mut Vec<PatChoice<'a, T>>,
     p: &'a DePat<'a, T>,
-    chosen: &[u64],
+    chosen: SmallVec<u64, 2>,
     binds: &[Bound<'a>],
 ) -> Result<(), NoMemory>
     ensures { OnOk result (plain_choices all.new.items ≡ plain_choices all.old.items
-        ++ choices_after chosen.now (map plain_bound binds.now) (tree p.entry.now)) }
+        ++ choices_after chosen.items (map plain_bound binds.now) (tree p.entry.now)) }
 {
     if is_or(&p.ctor) {
         let several = p.subs.len() > 1;
         let around = both_binds(alloc, binds, p.binds)?;
         for q in p.subs {
-            let more = choosing(alloc, chosen, q.uid, several)?;
-            add_choices(alloc, all, q, more.as_slice(), &around)?;
+            let more = choosing(alloc, chosen.as_slice(), q.uid, several)?;
+            add_choices(alloc, all, q, more, &around)?;
         }
         Ok(())
     } else {
@@ -93,13 +95,12 @@ fn add_choice<'a, T: Copy>(
     alloc: Global,
     all: &mut Vec<PatChoice<'a, T>>,
     p: &'a DePat<'a, T>,
-    chosen: &[u64],
+    chosen: SmallVec<u64, 2>,
     binds: &[Bound<'a>],
 ) -> Result<(), NoMemory>
     ensures { OnOk result (plain_choices all.new.items ≡ plain_choices all.old.items
-        ++ (record { pat = tree p.entry.now; chosen = chosen.now; binds = map plain_bound binds.now }) ∷ []) }
+        ++ (record { pat = tree p.entry.now; chosen = chosen.items; binds = map plain_bound binds.now }) ∷ []) }
 {
-    let chosen = SmallVec::from_slice(alloc, chosen)?;
     let binds = Vec::from_slice(alloc, binds)?;
     all.push(PatChoice {
         pat: p,
@@ -118,6 +119,6 @@ pub(crate) fn choices_of<'a, T: Copy>(
     ensures { IfOk result (λ v. plain_choices v.items ≡ choices_of (tree p.entry.now)) }
 {
     let mut all = Vec::new(alloc);
-    add_choices(alloc, &mut all, p, &[], &[])?;
+    add_choices(alloc, &mut all, p, SmallVec::new(alloc), &[])?;
     Ok(all)
 }

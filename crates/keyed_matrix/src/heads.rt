@@ -189,44 +189,54 @@ pub fn replaced_heads<'a, T: Copy>(
     Ok(all)
 }
 
-// The wildcards with so many in place of one of them, where these are wildcards, and some are left that can be counted.
+// How many wildcards stand there with so many in place of one of these, where these are wildcards that no pattern wrote and so
+// many can be counted.
 #[tactic(auto, using(crate::proofs::HeadRuns::head_runs))]
-fn recounted<'a, T: Copy>(one: &HeadRun<'a, T>, count: usize) -> Option<HeadRun<'a, T>>
+fn recounted<'a, T: Copy>(one: &HeadRun<'a, T>, count: usize) -> Option<usize>
     requires { 0 < length (plain_run one.now) }
-    ensures { IfSome result (λ h. (left : ℕ) → left < length (plain_run one.now) → plain_run h
+    ensures { IfSome result (λ n. (left : ℕ) → left < length (plain_run one.now) → wildcards n
         ≡ (take left (plain_run one.now) ++ wildcards count) ++ drop (left + 1) (plain_run one.now)) }
 {
     match one {
         HeadRun::Wilds(size) => {
             let others = *size - 1;
             if count > usize::MAX - others {
-                return None;
-            }
-            let all = others + count;
-            if all == 0 {
                 None
             } else {
-                Some(HeadRun::Wilds(all))
+                Some(others + count)
             }
         }
         HeadRun::Written(_p) => None,
     }
 }
 
-// The heads with this run in place of the one with the number.
-fn with_run<'a, T: Copy>(
+// Adds a run of so many wildcards that no pattern wrote, or none where they are none.
+#[tactic(auto, using(crate::proofs::HeadRuns::head_runs))]
+fn add_wild_run<'a, T: Copy>(all: &mut Vec<HeadRun<'a, T>>, count: usize) -> Result<(), NoMemory>
+    ensures { OnOk result (plain_heads all.new.items ≡ plain_heads all.old.items ++ wildcards count) }
+{
+    if count == 0 {
+        return Ok(());
+    }
+    all.push(HeadRun::Wilds(count))?;
+    Ok(())
+}
+
+// The heads with so many wildcards that no pattern wrote in place of the run with the number. There is room for one more run.
+fn with_wilds<'a, T: Copy>(
     alloc: Global,
     heads: &[HeadRun<'a, T>],
     k: usize,
-    run: HeadRun<'a, T>,
+    count: usize,
 ) -> Result<Vec<HeadRun<'a, T>>, NoMemory>
     requires { k < length heads.now }
     ensures { IfOk result (λ v. plain_heads v.items
-        ≡ plain_heads (take k heads.now) ++ (plain_run run.entry ++ plain_heads (drop (k + 1) heads.now))) }
+        ≡ plain_heads (take k heads.now) ++ (wildcards count ++ plain_heads (drop (k + 1) heads.now))) }
 {
-    let mut all = Vec::with_capacity(alloc, heads.len())?;
+    let room = heads.len().saturating_add(1);
+    let mut all = Vec::with_capacity(alloc, room)?;
     all.extend_from_slice(&heads[..k])?;
-    all.push(run)?;
+    add_wild_run(&mut all, count)?;
     all.extend_from_slice(&heads[k + 1..])?;
     Ok(all)
 }
@@ -244,8 +254,8 @@ pub fn rewilded_heads<'a, T: Copy>(
 {
     let (k, _left) = run_of(heads, i);
     match recounted(&heads[k], count) {
-        Some(run) => {
-            let some = with_run(alloc, heads, k, run)?;
+        Some(total) => {
+            let some = with_wilds(alloc, heads, k, total)?;
             Ok(some)
         }
         None => {
@@ -254,6 +264,26 @@ pub fn rewilded_heads<'a, T: Copy>(
             let others = replaced_heads(alloc, heads, i, &wilds)?;
             Ok(others)
         }
+    }
+}
+
+// Puts so many wildcards that no pattern wrote in place of the run with the number.
+fn put_wilds<'a, T: Copy>(
+    heads: &mut Vec<HeadRun<'a, T>>,
+    k: usize,
+    count: usize,
+) -> Result<(), NoMemory>
+    requires { k < length heads.old.items }
+    ensures { OnOk result (plain_heads heads.new.items
+        ≡ plain_heads (take k heads.old.items) ++ (wildcards count ++ plain_heads (drop (k + 1) heads.old.items))) }
+{
+    if count == 0 {
+        let _before = heads.remove(k);
+        Ok(())
+    } else {
+        heads.push(HeadRun::Wilds(count))?;
+        let _before = heads.swap_remove(k);
+        Ok(())
     }
 }
 
@@ -270,10 +300,9 @@ pub(crate) fn into_rewilded_heads<'a, T: Copy>(
 {
     let (k, _left) = run_of(&heads, i);
     match recounted(&heads[k], count) {
-        Some(run) => {
+        Some(total) => {
             let mut heads = heads;
-            heads.push(run)?;
-            let _before = heads.swap_remove(k);
+            put_wilds(&mut heads, k, total)?;
             Ok(heads)
         }
         None => {

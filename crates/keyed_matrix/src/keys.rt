@@ -1,5 +1,6 @@
 // What was decided of the or-patterns of an arm.
-ghost use Rattle.std.specs.Prelude.{◌≡◌, ℕ, [], ◌∷◌, map, IfOk, OnOk};
+ghost use Rattle.std.specs.Prelude.{◌≡◌, ◌<◌, ℕ, [], ◌∷◌, true, map, IfOk, OnOk};
+ghost use Rattle.match_model.specs.Lists.{Every};
 ghost use Rattle.match_model.specs.Keys.{key_of};
 ghost use Rattle.keyed_matrix.specs.KeyLists.{DoAscend, put_decision};
 ghost use Rattle.keyed_matrix.specs.Deciding.{plain_decision, table_decides};
@@ -34,6 +35,33 @@ fn put_decision(key: &mut Vec<Decided>, decided: Decided) -> Result<(), NoMemory
     Ok(())
 }
 
+// Tells whether the number is above those of all these decisions, which ascend.
+fn is_above(key: &[Decided], number: u64) -> bool
+    requires { DoAscend (map plain_decision key.now) }
+    ensures { result ≡ true → Every (λ d. d.number < number) (map plain_decision key.now) }
+{
+    let count = key.len();
+    if count == 0 {
+        return true;
+    }
+    let last = &key[count - 1];
+    last.number < number
+}
+
+// Puts the decision into the ascending list, where nothing is decided of its or-pattern. Most often it comes last.
+fn add_decision(key: &mut Vec<Decided>, decided: Decided) -> Result<(), NoMemory>
+    requires { DoAscend (map plain_decision key.old.items) }
+    ensures { OnOk result (map plain_decision key.new.items
+        ≡ put_decision (plain_decision decided) (map plain_decision key.old.items)) }
+{
+    if is_above(key, decided.number) {
+        key.push(decided)?;
+        Ok(())
+    } else {
+        put_decision(key, decided)
+    }
+}
+
 // What the alternatives decided, ascending by the numbers of the or-patterns; the first decision of each counts.
 pub(crate) fn key_of(
     alloc: Global,
@@ -44,9 +72,9 @@ pub(crate) fn key_of(
     ensures key { IfOk result (λ k. (o : ℕ) → key_of (map plain_decision k.items) o
         ≡ key_of (map (table_decides decisions.now) chosen.now) o) }
 {
-    let mut key = Vec::new(alloc);
+    let mut key = Vec::with_capacity(alloc, chosen.len())?;
     for uid in chosen {
-        put_decision(&mut key, decisions.decided(*uid))?;
+        add_decision(&mut key, decisions.decided(*uid))?;
     }
     Ok(key)
 }

@@ -36,6 +36,7 @@ pub use looking::{are_wild, ctors_at};
 pub use order::in_order;
 pub use rows::{Caught, HeadRun, KeyedColumn, KeyedRow};
 pub use steps::{
-    add_piece_row, dropped_rows, expanded_rows, into_dropped_rows, into_piece_rows, piece_rows,
+    add_piece_row, dropped_rows, expanded_rows, into_dropped_rows, into_expanded_rows,
+    into_piece_rows, piece_rows,
 };
 pub use taken_apart::are_apart;

@@ -19,10 +19,10 @@ use std::alloc::Global;
 fn both_chosen(alloc: Global, chosen: &[u64], more: &[u64]) -> Result<SmallVec<u64, 2>, NoMemory>
     ensures { IfOk result (λ c. c.items ≡ chosen.now ++ more.now) }
 {
-    let mut all = SmallVec::from_slice(alloc, chosen)?;
-    for uid in more {
-        all.push(*uid)?;
-    }
+    let room = chosen.len().saturating_add(more.len());
+    let mut all = SmallVec::with_capacity(alloc, room)?;
+    all.extend_from_slice(chosen)?;
+    all.extend_from_slice(more)?;
     Ok(all)
 }
 

@@ -13,6 +13,7 @@ use crate::choices::choices_of;
 use crate::heads::{add_wilds, head_at, into_rewilded_heads};
 use crate::looking::is_wild;
 use crate::replacing::{replaced_row, rewilded_row};
+use crate::taken_apart::is_or_at;
 use crate::{HeadRun, KeyedRow};
 use constructor_sets::has_piece;
 use no_memory::NoMemory;
@@ -39,6 +40,45 @@ pub fn expanded_rows<'a, T: Copy>(
         add_expanded(alloc, &mut all, row, i, place)?;
     }
     Ok(all)
+}
+
+/// The rows with their or-patterns in the column with this number, from 0, taken apart, of rows that no one else needs: a row
+/// without an or-pattern there is taken over. The rows are those of `expanded_rows`. The only error is want of memory.
+pub fn into_expanded_rows<'a, T: Copy>(
+    alloc: Global,
+    rows: Vec<KeyedRow<'a, T>>,
+    i: usize,
+    place: &'a [Step],
+) -> Result<Vec<KeyedRow<'a, T>>, NoMemory>
+    requires { AreLonger i (plain_rows rows.items) }
+    ensures { IfOk result (λ v. plain_rows v.items
+        ≡ rows_at expand_head (plain_place place.now) i (plain_rows rows.entry.items)) }
+{
+    let mut all = Vec::with_capacity(alloc, rows.len())?;
+    for row in rows {
+        add_moved_expanded(alloc, &mut all, row, i, place)?;
+    }
+    Ok(all)
+}
+
+// Adds the row once for each choice at the column; it is taken over where no or-pattern stands there.
+fn add_moved_expanded<'a, T: Copy>(
+    alloc: Global,
+    all: &mut Vec<KeyedRow<'a, T>>,
+    row: KeyedRow<'a, T>,
+    i: usize,
+    place: &'a [Step],
+) -> Result<(), NoMemory>
+    requires { i < length (plain_row row).heads }
+    ensures { OnOk result (plain_rows all.new.items ≡ plain_rows all.old.items
+        ++ row_at expand_head (plain_place place.now) i (plain_row row.entry)) }
+{
+    if is_or_at(&row, i) {
+        add_expanded(alloc, all, &row, i, place)
+    } else {
+        all.push(row)?;
+        Ok(())
+    }
 }
 
 /// The rows of a piece of so many parts: those whose head at the column has all of the piece, with the heads of the

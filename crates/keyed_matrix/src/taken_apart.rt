@@ -30,7 +30,7 @@ pub fn are_apart<'a, T: Copy>(rows: &[KeyedRow<'a, T>], i: usize) -> bool
 }
 
 // Tells whether the row has an or-pattern in the column.
-fn is_or_at<'a, T: Copy>(row: &KeyedRow<'a, T>, i: usize) -> bool
+pub(crate) fn is_or_at<'a, T: Copy>(row: &KeyedRow<'a, T>, i: usize) -> bool
     requires { i < length (plain_row row.now).heads }
     ensures { result ≡ starts_or (drop i (plain_row row.now).heads) }
 {

@@ -10,7 +10,7 @@ use Rattle.keyed_matrix.proofs.choices.+add_choices.Goals as goal
 pub returns-after-loop-q : goal.returns-after-loop-q
 returns-after-loop-q g t c =
     let p = c.args.p.now in
-    let chosen = c.args.chosen.now in
+    let chosen = c.args.chosen.items in
     let binds = c.args.binds.now in
     let around = c.in_ok-around.around.items in
     let old = plain_choices c.args.all.now.items in

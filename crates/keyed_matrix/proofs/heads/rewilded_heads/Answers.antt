@@ -2,6 +2,7 @@ use Rattle.std.proofs.Common.{◌<◌, ◌++◌, ◌∙◌, length, ap, sym, sub
 use Rattle.match_model.specs.Rows.{wildcards}
 use Rattle.match_model.specs.Steps.{replaced_at}
 use Rattle.keyed_matrix.specs.Views.{plain_run, plain_heads}
+use Rattle.keyed_matrix.specs.declared.rows.HeadRun.TheVariants.{Wilds}
 use Rattle.keyed_matrix.proofs.HeadRuns.{rewilded-there}
 use Rattle.keyed_matrix.proofs.heads.rewilded_heads.Goals as goal
 
@@ -21,7 +22,7 @@ returns-in_ok-some-in-Some g c =
     subst (λ y. left < length (plain_run y)) (sym c.index-heads-k.is) (c.run_of-k.ensures.inside x) in
     c.in_ok-some-in-Some.ensures
     ∙ rewilded-there c.args.heads.now k left c.args.i x c.run_of-k.ensures.within c.index-heads-k.is c.run_of-k.ensures.before
-    inside c.in-Some.run' c.args.count (c.in-Some.ensures left inside)
+    inside (Wilds c.in-Some.total) c.args.count (c.in-Some.ensures left inside)
 
 pub returns-in_ok-others-in-None : goal.returns-in_ok-others-in-None
 returns-in_ok-others-in-None g c =
