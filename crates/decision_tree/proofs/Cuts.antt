@@ -15,6 +15,7 @@ use Rattle.match_model.specs.Matrices.{MRow}
 use Rattle.match_model.specs.Places.{MStep}
 use Rattle.match_model.specs.Rows.{Head, first_ctor}
 use Rattle.match_model.specs.Steps.{Replacement, specialise_head, replacements_at, row_replaced, rows_at, with_head, with_others}
+use Rattle.match_model.proofs.Basics.{untrue}
 use Rattle.constructor_sets.specs.declared.piece.Span.{Span}
 use Rattle.pattern_matrix.specs.Halving.{AreLeafSpans, span_has, having, leaves_with, leaf_ctors}
 use Rattle.pattern_matrix.specs.Parts.{plain_spans, IsFull, pieces_left}
@@ -26,7 +27,8 @@ use Rattle.pattern_arena.specs.declared.pattern.DePat.{DePat}
 use Rattle.keyed_matrix.specs.Steps.{AreLonger}
 use Rattle.keyed_matrix.specs.Views.{plain_head, plain_row, plain_rows}
 use Rattle.keyed_matrix.specs.declared.rows.KeyedRow.{KeyedRow}
-use Rattle.decision_tree.specs.Cutting.{head_there, IsCutPart, AreLed}
+use Rattle.decision_tree.specs.Cutting.{head_there, takes_by, IsCutPart, AreLed}
+use Rattle.decision_tree.specs.Idle.{is_idle, takes_idly, is_idle_alone, IsIdleFirst}
 use Rattle.decision_tree.specs.Fronts.{IsFront}
 use Rattle.decision_tree.specs.Cuts.{leaf_of, column_leaf, column_leaves, mirrored, listed_at, AreCut}
 use Rattle.decision_tree.proofs.Enough.{full-part, kept-first, taken-row}
@@ -146,11 +148,26 @@ as-many-spans pieces (l ∷ leaves) (s ∷ forward) are = ap suc (as-many-spans 
 as-many-spans pieces [] (s ∷ forward) are = absurd are
 as-many-spans pieces (l ∷ leaves) [] are = absurd are
 
-longer-at : {T : Type 0} (i : ℕ) (rows : List (MRow T)) (q : ℕ) (r : MRow T) → AreLonger i rows → slice_get rows q ≡ Some r →
+pub longer-at : {T : Type 0} (i : ℕ) (rows : List (MRow T)) (q : ℕ) (r : MRow T) → AreLonger i rows → slice_get rows q ≡ Some r →
     i < length r.heads
 longer-at i rows q r longer got =
     subst (λ (x : MRow _). i < length x.heads) (get_or_from_slice_get rows q r r got)
     (longer q r (slice_get_within rows q r got))
+
+-- where one number is left, it is the first of all
+led-first : {T : Type 0} (i : ℕ) (rows : List (MRow T)) (numbers all : List ℕ) (k : ℕ) → numbers ≡ k ∷ [] →
+    AreLed i rows numbers all → (others : List ℕ) × (all ≡ k ∷ others)
+led-first i rows numbers all k one (inl e) = ([], sym e ∙ one)
+led-first i rows numbers all k one (inr l) =
+    let two : l.first ∷ [] ≡ k ∷ [] = sym l.alone ∙ one in
+    let same : l.first ≡ k = cc in
+    (l.others, l.all_are ∙ ap (λ q. q ∷ l.others) same)
+
+-- the row that is taken and binds nothing is there
+idly-there : {T : Type 0} (i : ℕ) (o : Option (MRow T)) → takes_idly i o ≡ true →
+    (r : MRow T) × (o ≡ Some r) × (takes_by is_idle i r ≡ true)
+idly-there i None e = untrue e
+idly-there i (Some r) e = (r, refl, e)
 
 module _ {T : Type 0} (i : ℕ) (rows : List (MRow T)) (ks : List MCtor) (p : MCtor) (spans : List Span) (todo : List Part)
     (cut : AreCut i rows (ks ++ p ∷ []) spans todo) where
@@ -250,6 +267,27 @@ module _ {T : Type 0} (i : ℕ) (rows : List (MRow T)) (ks : List MCtor) (p : MC
         others = listed l.others;
         first = sym (next-rows n place) ∙ ap listed l.all_are ∙ ap (λ xs. xs ++ listed l.others) one;
       })
+
+  -- where there is one number, of a row that is taken and binds nothing, its row is the first of the piece
+  pub next-idle : (numbers : List ℕ) → AreLed i rows numbers (leaves_with (plain_spans spans) (length cut.gone)) →
+      is_idle_alone i rows numbers ≡ true → (k : ℕ) → numbers ≡ k ∷ [] → IsIdleFirst i rows p k
+  next-idle numbers led alone k one =
+      let all = led-first i rows numbers (leaves_with (plain_spans spans) (length cut.gone)) k one led in
+      let r = idly-there i (slice_get rows k) (ap (is_idle_alone i rows) (sym one) ∙ alone) in
+      record {
+        row = r.0;
+        got = r.1;
+        takes = r.2;
+        has =
+            next-has k r.0 r.1 (kept-first (λ q. span_has (length cut.gone) (slice_get (plain_spans spans) q))
+            (columns_from 0 (length (plain_spans spans))) k all.0 all.1);
+        first = λ n place. (
+          listed_at (specialise_head p n) place i rows all.0,
+          sym (next-rows n place) ∙ ap (listed_at (specialise_head p n) place i rows) all.1
+              ∙ ap (λ o. rows_at (specialise_head p n) place i (option_to_list o)
+              ++ listed_at (specialise_head p n) place i rows all.0) r.1,
+        );
+      }
 
 -- ---- the first time
 

@@ -24,79 +24,18 @@ use Rattle.pattern_matrix.specs.Sparse.{head_has}
 use Rattle.pattern_matrix.specs.declared.halving.Part.{Part}
 use Rattle.keyed_matrix.specs.Views.{plain_row, plain_rows}
 use Rattle.keyed_matrix.specs.declared.rows.KeyedRow.{KeyedRow}
+use Rattle.decision_tree.proofs.Passing.{passed-row}
 use Rattle.decision_tree.proofs.Reading.{read-map}
-use Rattle.decision_tree.specs.Cutting.{head_there, is_flat, takes_pieces, TakesPieces, TakesMet, BeginAlike, AreEnough, IsCutPart, IsCutTo, AreLed}
+use Rattle.decision_tree.specs.Cutting.{head_there, parts_pass, takes_pieces, TakesPieces, TakesMet, BeginAlike, AreEnough, IsCutPart, IsCutTo, AreLed}
 
 -- ---- a row that takes its pieces
-
-wild-take : {T : Type 0} (n : ℕ) (hs : List (Head T)) → list_all is_wild hs ≡ true → list_all is_wild (take n hs) ≡ true
-wild-take zero hs e = refl
-wild-take (suc n) [] e = refl
-wild-take (suc n) (h ∷ hs) e =
-    let k = both (is_wild h) (list_all is_wild hs) e in
-    ap (λ b. b && list_all is_wild (take n hs)) k.0 ∙ wild-take n hs k.1
-
-wild-drop : {T : Type 0} (n : ℕ) (hs : List (Head T)) → list_all is_wild hs ≡ true → list_all is_wild (drop n hs) ≡ true
-wild-drop zero hs e = e
-wild-drop (suc n) [] e = refl
-wild-drop (suc n) (h ∷ hs) e = wild-drop n hs (both (is_wild h) (list_all is_wild hs) e).1
-
-wild-wildcards : (T : Type 0) (n : ℕ) → list_all is_wild (wildcards {T = T} n) ≡ true
-wild-wildcards T zero = refl
-wild-wildcards T (suc n) = wild-wildcards T n
-
-wild-both : {T : Type 0} (xs ys : List (Head T)) → list_all is_wild xs ≡ true → list_all is_wild ys ≡ true →
-    list_all is_wild (xs ++ ys) ≡ true
-wild-both xs ys e f = list_all-append is_wild xs ys ∙ ap (λ b. b && list_all is_wild ys) e ∙ f
-
--- the heads of its parts
-wild-parts : {T : Type 0} (c : MCtor) (hs : List (Head T)) (n : ℕ) → list_all is_wild hs ≡ true →
-    list_all is_wild (heads_of c hs n) ≡ true
-wild-parts {T} (RowCtor (LongerShape f b)) hs n e =
-    wild-both (take f hs) (wildcards (n - (f + b)) ++ drop f hs) (wild-take f hs e)
-    (wild-both (wildcards (n - (f + b))) (drop f hs) (wild-wildcards T (n - (f + b))) (wild-drop f hs e))
-wild-parts {T} WildCtor hs n e = wild-wildcards T n
-wild-parts _ hs n e = e
-
--- what stands in place of the head
-wild-head : {T : Type 0} (p : MCtor) (n : ℕ) (h : Head T) → is_flat h ≡ true → head_has p h ≡ true →
-    (y : Replacement T) × (specialise_head p n h ≡ y ∷ []) × (list_all is_wild y.heads ≡ true)
-wild-head {T} p n None flat has =
-    (record { heads = wildcards n; chosen = []; binds = [] }, refl, wild-wildcards T n)
-wild-head {T} p n (Some (de_pat c t uid at subs binds)) flat has =
-    let y : Replacement T = record { heads = heads_of c (map Some (de_pats_list subs)) n; chosen = []; binds = binds } in
-    (y, ap (λ b. cond b (y ∷ []) []) has, wild-parts c (map Some (de_pats_list subs)) n flat)
-
--- what stands in place of all heads
-wild-heads : {T : Type 0} (p : MCtor) (n i : ℕ) (hs : List (Head T)) → i < length hs → is_flat (head_there i hs) ≡ true →
-    head_has p (head_there i hs) ≡ true → list_all is_wild (take i hs) ≡ true → list_all is_wild (drop (i + 1) hs) ≡ true →
-    (y : Replacement T) × (replacements_at (specialise_head p n) i hs ≡ y ∷ []) × (list_all is_wild y.heads ≡ true)
-wild-heads p n i [] l flat has before behind = absurd (omega (arith, l))
-wild-heads p n zero (h ∷ hs) l flat has before behind =
-    let y = wild-head p n h flat has in
-    (with_others hs y.0, ap (map (with_others hs)) y.1, wild-both y.0.heads hs y.2 behind)
-wild-heads p n (suc i) (h ∷ hs) l flat has before behind =
-    let k = both (is_wild h) (list_all is_wild (take i hs)) before in
-    let more : suc i + 1 ≡ suc (i + 1) = omega arith in
-    let y = wild-heads p n i hs (omega (arith, l)) flat has k.1
-    (ap (λ m. list_all is_wild (drop m (h ∷ hs))) (sym more) ∙ behind) in
-    (with_head h y.0, ap (map (with_head h)) y.1, ap (λ b. b && list_all is_wild y.0.heads) k.0 ∙ y.2)
-
-off : (b : Bool) → not b ≡ true → b ≡ false
-off true e = untrue e
-off false e = refl
 
 -- it is taken where a piece that it has is entered
 pub taken-row : {T : Type 0} (p : MCtor) (n : ℕ) (place : List MStep) (i : ℕ) (r : MRow T) → i < length r.heads →
     takes_pieces i r ≡ true → head_has p (head_there i r.heads) ≡ true →
     (y : MRow T) × (rows_at (specialise_head p n) place i (r ∷ []) ≡ y ∷ []) × (all_wild y ≡ true) × (y.guarded ≡ false)
-taken-row {T} p n place i r l takes has =
-    let wild : Bool = list_all is_wild (take i r.heads) && list_all is_wild (drop (i + 1) r.heads) in
-    let a = both (not r.guarded) (is_flat (head_there i r.heads) && wild) takes in
-    let b = both (is_flat (head_there i r.heads)) wild a.1 in
-    let c = both (list_all is_wild (take i r.heads)) (list_all is_wild (drop (i + 1) r.heads)) b.1 in
-    let y = wild-heads p n i r.heads l b.0 has c.0 c.1 in
-    (row_replaced place r y.0, ap (λ ys. map (row_replaced place r) ys ++ []) y.1, y.2, off r.guarded a.0)
+taken-row p n place i r l takes has =
+    let y = passed-row is_wild refl p n place i r l takes has in (y.row, y.alone, y.passes, y.unguarded)
 
 -- ---- what passes a test
 
@@ -352,9 +291,9 @@ listed : {T : Type 0} (ps : List (DePat T)) → map Some (de_pats_list (de_pats_
 listed [] = refl
 listed (p ∷ ps) = ap (λ qs. Some (tree p) ∷ qs) (listed ps)
 
-pub flat-parts : {T : Type 0} (p : DePat T) →
-    list_all is_wild (map (λ q. Some (tree q)) (placed_subs p)) ≡ is_flat (Some (tree p))
-flat-parts p = ap (list_all is_wild) (sym (listed (placed_subs p))) ∙ sym (ap (λ t. is_flat (Some t)) (tree_out p))
+pub flat-parts : {T : Type 0} (q : Head T → Bool) (p : DePat T) →
+    list_all q (map (λ r. Some (tree r)) (placed_subs p)) ≡ parts_pass q (Some (tree p))
+flat-parts q p = ap (list_all q) (sym (listed (placed_subs p))) ∙ sym (ap (λ t. parts_pass q (Some t)) (tree_out p))
 
 -- a list that is not empty is longer than none
 pub some-length : (n : ℕ) → nat_eq n 0 ≡ false → 0 < n

@@ -49,3 +49,5 @@ pub mod ThinLeads
 pub mod ThinMatrix
 mod KnownHeads
 mod KnownRows
+pub mod Passing
+pub mod IdleCases

@@ -11,7 +11,8 @@ use Rattle.keyed_matrix.specs.Views.{plain_run, plain_heads, plain_row, plain_ro
 use Rattle.keyed_matrix.proofs.Replaced.{get-map}
 use Rattle.keyed_matrix.proofs.HeadRuns.{runs-from, runs-until, none-from}
 use Rattle.decision_tree.specs.Asked.{asks}
-use Rattle.decision_tree.specs.Cutting.{open_count}
+use Rattle.decision_tree.specs.Cutting.{count_unless, open_count}
+use Rattle.decision_tree.specs.Idle.{is_idle}
 use Rattle.decision_tree.specs.Known.{head_uid}
 use Rattle.decision_tree.specs.Thin.{is_blank_head, thin_head}
 use Rattle.decision_tree.proofs.Open.{open-append}
@@ -26,6 +27,10 @@ wilds-wild T (suc n) = wilds-wild T n
 pub open-wilds : (T : Type 0) (n : ℕ) → open_count (wildcards {T = T} n) ≡ 0
 open-wilds T zero = refl
 open-wilds T (suc n) = open-wilds T n
+
+pub busy-wilds : (T : Type 0) (n : ℕ) → count_unless is_idle (wildcards {T = T} n) ≡ 0
+busy-wilds T zero = refl
+busy-wilds T (suc n) = busy-wilds T n
 
 pub wild-uids : (T : Type 0) (n : ℕ) → map head_uid (wildcards {T = T} n) ≡ replicate n None
 wild-uids T zero = refl
@@ -72,11 +77,13 @@ module _ {T : Type 0} where
     any-found p whole h w =
         sym (ap (λ b. b || list_any p (plain_heads (drop (k + 1) xs))) w) ∙ sym (any-from p) ∙ h
 
-    pub open-on : (count one whole : ℕ) → count + open_count (plain_heads (drop k xs)) ≡ whole →
-        one ≡ open_count (plain_run x) → (count + one) + open_count (plain_heads (drop (k + 1) xs)) ≡ whole
-    open-on count one whole h o =
-        let s = ap open_count (runs-from xs k x l e)
-        ∙ open-append (plain_run x) (plain_heads (drop (k + 1) xs)) in
+    -- how many do not pass a test
+    pub open-on : (q : Head T → Bool) (count one whole : ℕ) →
+        count + count_unless q (plain_heads (drop k xs)) ≡ whole → one ≡ count_unless q (plain_run x) →
+        (count + one) + count_unless q (plain_heads (drop (k + 1) xs)) ≡ whole
+    open-on q count one whole h o =
+        let s = ap (count_unless q) (runs-from xs k x l e)
+        ∙ open-append q (plain_run x) (plain_heads (drop (k + 1) xs)) in
         omega (arith, s, o, h)
 
     -- what is made of each head
@@ -101,10 +108,10 @@ module _ {T : Type 0} where
       list_any p (plain_heads (drop k xs)) ≡ whole → false ≡ whole
   any-end p xs k whole l h = ap (list_any p) (sym (none-from xs k l)) ∙ h
 
-  pub open-end : (xs : List (HeadRun T)) (k count whole : ℕ) → length xs ≤ k →
-      count + open_count (plain_heads (drop k xs)) ≡ whole → count ≡ whole
-  open-end xs k count whole l h =
-      let none : open_count (plain_heads (drop k xs)) ≡ 0 = ap open_count (none-from xs k l) in
+  pub open-end : (q : Head T → Bool) (xs : List (HeadRun T)) (k count whole : ℕ) → length xs ≤ k →
+      count + count_unless q (plain_heads (drop k xs)) ≡ whole → count ≡ whole
+  open-end q xs k count whole l h =
+      let none : count_unless q (plain_heads (drop k xs)) ≡ 0 = ap (count_unless q) (none-from xs k l) in
       omega (arith, none, h)
 
   pub part-long : (xs : List (HeadRun T)) (k : ℕ) → length (plain_heads (take k xs)) ≤ length (plain_heads xs)
@@ -156,4 +163,4 @@ one-blank h = go (is_blank_head h)
     go true = refl
     go false = refl
 
-pub ruleset run_tests = (wilds-wild, one-wild, open-wilds, wild-uids, thin-wilds, quiet-wilds, blank-wilds, one-blank)
+pub ruleset run_tests = (wilds-wild, one-wild, open-wilds, busy-wilds, wild-uids, thin-wilds, quiet-wilds, blank-wilds, one-blank)

@@ -15,21 +15,33 @@ head_there i [] = None
 head_there zero (h ∷ hs) = h
 head_there (suc i) (h ∷ hs) = head_there i hs
 
+-- all patterns below the head pass the test
+abbrev pub parts_pass : {T : Type 0} → (Head T → Bool) → Head T → Bool
+parts_pass q None = true
+parts_pass q (Some (de_pat c t uid at subs binds)) = list_all q (map Some (de_pats_list subs))
+
+-- how many heads do not pass the test
+abbrev pub count_unless : {T : Type 0} → (Head T → Bool) → List (Head T) → ℕ
+count_unless q [] = 0
+count_unless q (h ∷ hs) = cond (q h) (count_unless q hs) (suc (count_unless q hs))
+
+-- whatever piece of the column is entered that the row has, all its heads pass the test then, and it has no guard: those in
+-- the other columns pass, and the patterns below its head in this one
+abbrev pub takes_by : {T : Type 0} → (Head T → Bool) → (i : ℕ) → MRow T → Bool
+takes_by q i r =
+    not r.guarded && (parts_pass q (head_there i r.heads) && (list_all q (take i r.heads) && list_all q (drop (i + 1) r.heads)))
+
 -- the patterns below the head are wildcards and names
 abbrev pub is_flat : {T : Type 0} → Head T → Bool
-is_flat None = true
-is_flat (Some (de_pat c t uid at subs binds)) = list_all is_wild (map Some (de_pats_list subs))
+is_flat h = parts_pass is_wild h
 
 -- how many heads are neither wildcards nor names
 abbrev pub open_count : {T : Type 0} → List (Head T) → ℕ
-open_count [] = 0
-open_count (h ∷ hs) = cond (is_wild h) (open_count hs) (suc (open_count hs))
+open_count hs = count_unless is_wild hs
 
--- whatever piece of the column is entered that the row has, the row is taken: it has no guard, and only wildcards and names
--- in the other columns and below its head in this one
+-- whatever piece of the column is entered that the row has, the row is taken
 abbrev pub takes_pieces : {T : Type 0} → (i : ℕ) → MRow T → Bool
-takes_pieces i r =
-    not r.guarded && (is_flat (head_there i r.heads) && (list_all is_wild (take i r.heads) && list_all is_wild (drop (i + 1) r.heads)))
+takes_pieces i r = takes_by is_wild i r
 
 -- the row with the number is such a row
 pub record TakesPieces {T : Type 0} (i : ℕ) (rows : List (MRow T)) (number : ℕ) : Type 0 where

@@ -12,3 +12,4 @@ pub mod Asked
 pub mod Cuts
 pub mod Fronts
 pub mod Cutting
+pub mod Idle

@@ -64,7 +64,7 @@ fn add_bound<'a>(
 }
 
 // Adds the names that the pattern binds by itself, at the place.
-fn add_own<'a, T: Copy>(
+pub(crate) fn add_own<'a, T: Copy>(
     alloc: Global,
     all: &mut Vec<Bind>,
     steps: &[Step],
@@ -93,7 +93,11 @@ fn add_bounds<'a>(
 }
 
 // Adds the names that were caught on the way to a row.
-fn add_caught<'a>(alloc: Global, all: &mut Vec<Bind>, caught: &[Caught<'a>]) -> Result<(), NoMemory>
+pub(crate) fn add_caught<'a>(
+    alloc: Global,
+    all: &mut Vec<Bind>,
+    caught: &[Caught<'a>],
+) -> Result<(), NoMemory>
     ensures { OnOk result (map plain_bind all.new.items ≡ map plain_bind all.old.items ++ map plain_caught caught.now) }
 {
     for one in caught {
@@ -166,7 +170,7 @@ fn put(all: &mut Vec<Bind>, bind: Bind) -> Result<(), NoMemory>
 }
 
 // The names ascending.
-fn ascending(alloc: Global, binds: Vec<Bind>) -> Result<Vec<Bind>, NoMemory>
+pub(crate) fn ascending(alloc: Global, binds: Vec<Bind>) -> Result<Vec<Bind>, NoMemory>
     ensures { IfOk result (λ v. map plain_bind v.items ≡ by_name (map plain_bind binds.items)) }
 {
     let mut left = binds;

@@ -13,6 +13,7 @@ mod cutting;
 mod digests;
 mod frames;
 mod having;
+mod idle;
 mod known;
 mod leaves;
 mod lone;

@@ -1,5 +1,5 @@
 // The tree of rows. What waits for the trees of other rows stands in a list, so that nothing calls itself.
-ghost use Rattle.std.specs.Prelude.{◌≡◌, ◌<◌, ◌≤◌, ◌^◌, ◌∷◌, ℕ, [], map, reverse, drop, length, get_or, Some, slice_get};
+ghost use Rattle.std.specs.Prelude.{◌≡◌, ◌<◌, ◌≤◌, ◌^◌, ◌++◌, ◌∷◌, ℕ, [], map, reverse, drop, length, get_or, Some, slice_get};
 ghost use Rattle.std.specs.Prelude.{nat_eq, true, false, IfOk, OnOk};
 ghost use Rattle.std.specs.List.{flat_map, IsDistinct};
 ghost use Rattle.match_model.specs.DecisionTrees.{MTree, all_wild};
@@ -15,12 +15,14 @@ ghost use Rattle.keyed_matrix.specs.declared.rows.KeyedRow.{KeyedRow};
 ghost use Rattle.tree_eval.specs.Nodes.{plain_branch};
 ghost use Rattle.tree_eval.specs.Tables.{IsFinished};
 ghost use Rattle.tree_eval.specs.Trees.{table_trees};
+ghost use Rattle.constructor_sets.specs.Columns.{plain_ctors};
 ghost use Rattle.decision_tree.specs.Asking.{AreAsked};
+ghost use Rattle.decision_tree.specs.Idle.{IsIdleFirst};
 ghost use Rattle.decision_tree.specs.Known.{IsInScope};
 ghost use Rattle.decision_tree.specs.KnownTrees.{AreKnown, Keeps};
 ghost use Rattle.decision_tree.specs.KnownViews.{known_entries};
 ghost use Rattle.decision_tree.specs.Matrices.{matrix_columns, matrix_rows, IsGoodMatrix};
-ghost use Rattle.decision_tree.specs.Waiting.{Root, Tells, IsBare, Makes, Awaits, IsLeft, IsLeftOf, IsEnded, IsElseOf};
+ghost use Rattle.decision_tree.specs.Waiting.{Root, Tells, IsBare, IsCutOf, Makes, Awaits, IsLeft, IsLeftOf, IsEnded, IsElseOf};
 ghost use Rattle.decision_tree.specs.Waiting.{IsOpened, IsTurn};
 ghost use Rattle.decision_tree.specs.declared.frames.Turn.TheVariants.{Finished, Lower};
 
@@ -29,6 +31,7 @@ use crate::branches::place_of;
 use crate::cutting::next_cut;
 use crate::frames::{Frame, Looked, Matrix, Turn};
 use crate::having::row_spans;
+use crate::idle::{idle_binds, is_idle_alone};
 use crate::known::{KnownTrees, find_known, none_known, note_known};
 use crate::leaves::{count_asked, is_leaf};
 use crate::lone::lone;
@@ -40,7 +43,7 @@ use crate::wild::without_wild;
 use bumpalo::Bump;
 use constructor_sets::{present, split_column};
 use keyed_matrix::{
-    Decisions, KeyedColumn, KeyedRow, are_wild, ctors_at, first_column, first_rows,
+    Decisions, KeyedColumn, KeyedRow, are_wild, ctors_at, first_column, first_rows, head_at,
 };
 use no_memory::NoMemory;
 use pat_context::{Ctor, PatCx, Step};
@@ -250,6 +253,39 @@ fn last_case<'a, C: PatCx>(
     lower_thin(alloc, cx, decisions, frames, table, next, before)
 }
 
+// Finishes the case of a piece of which the row with the number comes first, where it is taken and binds nothing in the columns
+// that are open then: neither these nor the places of the piece's parts are made.
+fn take_case<'a, C: PatCx>(
+    alloc: Global,
+    cx: &C,
+    decisions: &Decisions,
+    frames: &mut Vec<Frame<'a, C::Ty>>,
+    table: &mut NodeTable,
+    looked: Looked<'a, C::Ty>,
+    piece: &Ctor,
+    k: usize,
+) -> Result<Turn<'a, C::Ty>, NoMemory>
+    ghost root: { Root C.Ty }
+    requires left { IsLeft (C.is_type cx.now) (C.context cx.now) (C.is_value cx.now) (table_decides decisions.now) root
+        (reverse frames.old.items) (table_trees table.old) looked.matrix looked.column
+        (plain_ctors looked.pieces.items ++ plain_ctor piece.now ∷ []) (map plain_branch looked.cases.items) }
+    requires cut { IsCutOf looked }
+    requires first { IsIdleFirst looked.column (matrix_rows looked.matrix) (plain_ctor piece.now) k }
+    ensures turn { IfOk result (λ t. IsTurn (C.is_type cx.now) (C.context cx.now) (C.is_value cx.now)
+        (table_decides decisions.now) root (reverse frames.new.items) (table_trees table.new) t) }
+    ensures keeps { OnOk result (Keeps (table_trees table.old) (table_trees table.new)) }
+{
+    tables_are_built(table);
+    let case = case_of(alloc, piece)?;
+    let i = looked.column;
+    let row = &looked.matrix.rows[k];
+    let place = looked.matrix.columns[i].place;
+    let binds = idle_binds(alloc, row, head_at(row, i), place)?;
+    let index = table.take(row.arm, binds)?;
+    frames.push(Frame::Switch { looked, case })?;
+    Ok(Turn::Finished(index))
+}
+
 // Goes on with the next case of the switch, from the last to the first; where none is left, the switch is finished.
 fn next_case<'a, C: PatCx>(
     alloc: Global,
@@ -273,6 +309,11 @@ fn next_case<'a, C: PatCx>(
             let i = looked.column;
             let mut todo = replace(&mut looked.todo, Vec::new(alloc));
             let numbers = next_cut(alloc, &looked.matrix.rows, i, &mut todo, &looked.spans)?;
+            looked.todo = todo;
+            if is_idle_alone(&looked.matrix, i, &numbers) {
+                let k = numbers[0];
+                return take_case(alloc, cx, decisions, frames, table, looked, &piece, k);
+            }
             if looked.pieces.is_empty() && numbers.len() > 1 {
                 let matrix = looked.matrix;
                 let cases = looked.cases;
@@ -280,7 +321,6 @@ fn next_case<'a, C: PatCx>(
                     alloc, arena, cx, decisions, frames, table, matrix, i, &piece, cases,
                 );
             }
-            looked.todo = todo;
             let case = case_of(alloc, &piece)?;
             let next = entered_among(
                 alloc,

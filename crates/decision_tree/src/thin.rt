@@ -14,7 +14,7 @@ use pattern_arena::DePat;
 use std::alloc::Global;
 
 // Tells whether the pattern is a wildcard that binds nothing.
-fn is_blank<'a, T: Copy>(pat: &DePat<'a, T>) -> bool
+pub(crate) fn is_blank<'a, T: Copy>(pat: &DePat<'a, T>) -> bool
     ensures { result ≡ is_blank (tree pat.now) }
 {
     match pat.ctor {

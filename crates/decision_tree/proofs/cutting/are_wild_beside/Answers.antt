@@ -10,4 +10,4 @@ returns g c =
     let hs = (plain_row c.args.row.now).heads in
     (λ k. nat_eq (c.count_open.ensures k) (c.own_count.ensures k))
     ∙ ap (λ xs. nat_eq (open_count (plain_heads xs)) (cond (is_wild (plain_head c.head_at-head.result)) 0 1)) c.deref.ensures.value
-    ∙ open-beside c.args.i hs (plain_head c.head_at-head.result) c.head_at-head.ensures
+    ∙ open-beside is_wild c.args.i hs (plain_head c.head_at-head.result) c.head_at-head.ensures

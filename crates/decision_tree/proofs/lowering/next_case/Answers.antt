@@ -23,7 +23,8 @@ use Rattle.decision_tree.specs.Cuts.{listed_at, AreCut}
 use Rattle.decision_tree.specs.Cutting.{IsCutPart, AreLed}
 use Rattle.decision_tree.specs.Fronts.{IsFront}
 use Rattle.decision_tree.specs.Waiting.{Awaits, IsCutOf, IsLeft}
-use Rattle.decision_tree.proofs.Cuts.{next-number, next-spans, next-front, led-within, cut-next}
+use Rattle.decision_tree.proofs.Cuts.{next-number, next-spans, next-front, next-idle, led-within, cut-next}
+use Rattle.decision_tree.proofs.IdleCases.{idle-some, idle-one}
 use Rattle.decision_tree.proofs.Knowing.{entered-scope}
 use Rattle.decision_tree.proofs.Fronts.{front-leads}
 use Rattle.decision_tree.proofs.Going.{leads-more, piece-begun}
@@ -262,6 +263,97 @@ finish_switch-requires g c κs inside =
           λ d there. ap (λ q. q.place) (read l.matrix l.column d there c.index.result.now c.index.ensures),
           left-none IsType context V decides g.root frames now l.matrix l.column l.pieces.items cases
               (omega (arith, l.pieces.ok.0, c.in-None.ensures.cases.0)) c.requires.1.1.0,
+        ),
+      ),
+    )
+
+pub is_idle_alone-requires-clause-longer : goal.is_idle_alone-requires-clause-longer
+is_idle_alone-requires-clause-longer g c =
+    let cx = c.args.cx.now in
+    let l = c.args.looked in
+    let k = c.requires.1.1.0.5 in
+    longer (g.C.PatCx.is_type cx) (g.C.PatCx.context cx) (g.C.PatCx.is_value cx) (g.met.C.PatCx.values cx)
+    (table_decides c.args.decisions.now) l.column l.matrix k.column k.ready k.there
+
+pub is_idle_alone-requires-clause-within : goal.is_idle_alone-requires-clause-within
+is_idle_alone-requires-clause-within g c =
+    let l = c.args.looked in
+    let new = c.pop.new.self.items in
+    let i = l.column in
+    let rows = matrix_rows l.matrix in
+    let spans = l.spans.items in
+    let todo = l.todo.items in
+    let ks = plain_ctors new in
+    let p = plain_ctor c.in-Some.piece in
+    let numbers = c.in_ok-numbers-in-Some.numbers.items in
+    let cut : AreCut i rows (ks ++ p ∷ []) spans todo =
+    subst (λ qs. AreCut i rows qs spans todo) (map-snoc plain_ctor new l.pieces.items c.in-Some.piece c.in-Some.ensures.items)
+    c.requires.1.1.1 in
+    let was : c.replace-todo.result.items ≡ todo = ap (λ (v : Vec Part). v.items) c.replace-todo.ensures.value in
+    let led : AreLed i rows numbers (leaves_with (plain_spans spans) (length cut.gone)) =
+    subst (λ ss. AreLed i rows numbers (leaves_with (plain_spans ss) (length cut.gone))) c.deref-in-Some.ensures.value
+    (subst (λ rs. AreLed i (plain_rows rs) numbers (leaves_with (plain_spans c.deref-in-Some.result.now) (length cut.gone)))
+    c.deref.ensures.value
+    (c.in_ok-numbers-in-Some.ensures.rows (length cut.gone) (columns_from (suc (length cut.gone)) (length ks))
+    (ap pieces_left was ∙ next-number i rows ks p spans todo cut))) in
+    let long : length rows ≡ length l.matrix.rows.items = length-map l.matrix.rows.items plain_row in
+    subst (λ n. All (λ k. k < n) numbers) long (led-within i rows ks p spans todo cut numbers led)
+
+pub index-k-requires : goal.index-k-requires
+index-k-requires g c =
+    let l = c.args.looked in
+    let numbers = c.in_ok-numbers-in-Some.numbers in
+    omega (
+      arith,
+      numbers.ok.0,
+      idle-some l.column (matrix_rows l.matrix) numbers.items (sym c.is_idle_alone.ensures ∙ c.if-is_idle_alone.true),
+    )
+
+pub take_case-requires : goal.take_case-requires
+take_case-requires g c κs inside =
+    let cx = c.args.cx.now in
+    let IsType = g.C.PatCx.is_type cx in
+    let context = g.C.PatCx.context cx in
+    let V = g.C.PatCx.is_value cx in
+    let decides = table_decides c.args.decisions.now in
+    let frames = reverse c.args.frames.now.items in
+    let now = table_trees c.args.table.now in
+    let old = c.args.looked in
+    let new = c.pop.new.self.items in
+    let i = old.column in
+    let rows = matrix_rows old.matrix in
+    let spans = old.spans.items in
+    let todo = old.todo.items in
+    let ks = plain_ctors new in
+    let p = plain_ctor c.in-Some.piece in
+    let numbers = c.in_ok-numbers-in-Some.numbers.items in
+    let k = c.index-k.result.now in
+    let cut : AreCut i rows (ks ++ p ∷ []) spans todo =
+    subst (λ qs. AreCut i rows qs spans todo) (map-snoc plain_ctor new old.pieces.items c.in-Some.piece c.in-Some.ensures.items)
+    c.requires.1.1.1 in
+    let was : c.replace-todo.result.items ≡ todo = ap (λ (v : Vec Part). v.items) c.replace-todo.ensures.value in
+    let next : pieces_left c.replace-todo.result.items ≡ length cut.gone ∷ columns_from (suc (length cut.gone)) (length ks) =
+    ap pieces_left was ∙ next-number i rows ks p spans todo cut in
+    let led : AreLed i rows numbers (leaves_with (plain_spans spans) (length cut.gone)) =
+    subst (λ ss. AreLed i rows numbers (leaves_with (plain_spans ss) (length cut.gone))) c.deref-in-Some.ensures.value
+    (subst (λ rs. AreLed i (plain_rows rs) numbers (leaves_with (plain_spans c.deref-in-Some.result.now) (length cut.gone)))
+    c.deref.ensures.value
+    (c.in_ok-numbers-in-Some.ensures.rows (length cut.gone) (columns_from (suc (length cut.gone)) (length ks)) next)) in
+    let alone = sym c.is_idle_alone.ensures ∙ c.if-is_idle_alone.true in (
+      inside.0,
+      (
+        inside.1,
+        (
+          left-last IsType context V decides g.root frames now old.matrix i old.pieces.items new c.in-Some.piece
+              (map plain_branch old.cases.items) c.in-Some.ensures.items c.requires.1.1.0,
+          (
+            cut-next i rows ks p spans todo cut c.next_cut.new.todo.items
+                (c.in_ok-numbers-in-Some.ensures.left (length cut.gone) (columns_from (suc (length cut.gone)) (length ks)) next)
+                (subst (λ ss. All (IsCutPart i rows ss) c.next_cut.new.todo.items) c.deref-in-Some.ensures.value
+                (subst (λ rs. All (IsCutPart i (plain_rows rs) c.deref-in-Some.result.now) c.next_cut.new.todo.items)
+                c.deref.ensures.value c.in_ok-numbers-in-Some.ensures.parts)),
+            next-idle i rows ks p spans todo cut numbers led alone k (idle-one i rows numbers k alone c.index-k.ensures),
+          ),
         ),
       ),
     )

@@ -8,3 +8,6 @@ ghost-last_case g a = g.root
 
 abbrev pub ghost-finish_switch : goal.ghost-finish_switch
 ghost-finish_switch g a = g.root
+
+abbrev pub ghost-take_case : goal.ghost-take_case
+ghost-take_case g a = g.root
