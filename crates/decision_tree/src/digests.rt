@@ -52,14 +52,14 @@ fn with_heads(digest: u64, heads: &[KnownHeads]) -> u64 {
     let mut digest = digest;
     for some in heads {
         let first = some.first.unwrap_or(0);
-        digest = mixed(mixed(digest, first), some.count);
+        digest = mixed(digest, first ^ some.count.rotate_left(32));
     }
     digest
 }
 
 // The digest with the row.
 fn with_row<'a>(digest: u64, row: &KnownRow<'a>) -> u64 {
-    let arm = mixed(mixed(digest, row.arm as u64), row.size as u64);
+    let arm = mixed(digest, row.arm as u64 ^ (row.size as u64).rotate_left(32));
     let chosen = with_chosen(arm, &row.chosen);
     with_names(chosen, &row.caught)
 }

@@ -16,8 +16,8 @@ use crate::frames::Matrix;
 use crate::having::listed_rows;
 use bumpalo::Bump;
 use keyed_matrix::{
-    Decisions, KeyedRow, are_apart, dropped_columns, dropped_rows, expanded_rows, in_order,
-    into_dropped_rows, into_piece_rows, piece_columns, piece_rows,
+    Decisions, KeyedRow, are_apart, dropped_columns, dropped_rows, in_order, into_dropped_rows,
+    into_expanded_rows, into_piece_rows, piece_columns, piece_rows,
 };
 use no_memory::NoMemory;
 use pat_context::{Ctor, PatCx, count_parts};
@@ -40,12 +40,11 @@ pub(crate) fn expanded<'a, C: PatCx>(
     if are_apart(&m.rows, i) {
         return Ok(m);
     }
-    let rows = expanded_rows(alloc, &m.rows, i, m.columns[i].place)?;
+    let Matrix { columns, rows } = m;
+    let place = columns[i].place;
+    let rows = into_expanded_rows(alloc, rows, i, place)?;
     let rows = in_order(alloc, decisions, rows)?;
-    Ok(Matrix {
-        columns: m.columns,
-        rows,
-    })
+    Ok(Matrix { columns, rows })
 }
 
 // The rows that are wild at the column, over the other columns.

@@ -193,6 +193,15 @@ fn known_columns<'a, T: Copy>(
     Ok(all)
 }
 
+// How many runs of heads the rows have.
+fn count_runs<'a, T: Copy>(rows: &[KeyedRow<'a, T>]) -> usize {
+    let mut count = 0usize;
+    for row in rows {
+        count = count.saturating_add(row.heads.len());
+    }
+    count
+}
+
 // What tells the matrix of the columns and rows.
 pub(crate) fn known_matrix<'a, T: Copy>(
     alloc: Global,
@@ -202,8 +211,8 @@ pub(crate) fn known_matrix<'a, T: Copy>(
     ensures { IfOk result (λ k. plain_known_matrix k ≡ known_matrix (plain_columns columns.now) (plain_rows rows.now)) }
 {
     let columns = known_columns(alloc, columns)?;
-    let mut heads = Vec::with_capacity(alloc, rows.len())?;
-    let mut own = Vec::new(alloc);
+    let mut heads = Vec::with_capacity(alloc, count_runs(rows))?;
+    let mut own = Vec::with_capacity(alloc, columns.len())?;
     let mut all = Vec::with_capacity(alloc, rows.len())?;
     for row in rows {
         list_heads(&mut own, &row.heads)?;
@@ -211,6 +220,7 @@ pub(crate) fn known_matrix<'a, T: Copy>(
         heads.extend_from_slice(&own)?;
         all.push(new)?;
     }
+    heads.shrink_to_fit();
     let digest = digest_of(&columns, &heads, &all);
     Ok(KnownMatrix {
         digest,

@@ -2,7 +2,6 @@ use Rattle.std.proofs.Common.{◌∙◌, refl, sym, ap, subst, arith}
 use Rattle.std.proofs.lemmas.List.{length-map}
 use Rattle.match_model.specs.Lists.{Ordered}
 use Rattle.match_model.specs.RowOrder.{AreInOrder}
-use Rattle.match_model.specs.Steps.{expand_head, rows_at}
 use Rattle.keyed_matrix.specs.Deciding.{table_decides}
 use Rattle.keyed_matrix.specs.Steps.{AreLonger, are_apart}
 use Rattle.keyed_matrix.specs.Turns.{IsOneFirst}
@@ -55,18 +54,16 @@ returns-then-are_apart-clause-ready g c =
       parted = c.requires.good.parted;
     }
 
-pub expanded_rows-requires : goal.expanded_rows-requires
-expanded_rows-requires g c =
+pub into_expanded_rows-requires : goal.into_expanded_rows-requires
+into_expanded_rows-requires g c =
     let long = length-map c.args.m.columns.items plain_column in
-    subst (λ rs. AreLonger c.args.i (plain_rows rs)) (sym c.deref-2.ensures.value)
-    (longer-good (g.C.PatCx.is_type c.args.cx.now) (g.C.PatCx.context c.args.cx.now) (table_decides c.args.decisions.now) c.args.i
-    (matrix_columns c.args.m) (matrix_rows c.args.m) (omega (arith, long, c.requires.within)) c.requires.good.good)
+    longer-good (g.C.PatCx.is_type c.args.cx.now) (g.C.PatCx.context c.args.cx.now) (table_decides c.args.decisions.now) c.args.i
+    (matrix_columns c.args.m) (matrix_rows c.args.m) (omega (arith, long, c.requires.within)) c.requires.good.good
 
 pub in_order-requires : goal.in_order-requires
 in_order-requires g c =
     let there = read-map plain_column c.args.m.columns.items c.args.i c.index.result.now c.requires.within c.index.ensures in
-    let rows = c.in_ok-rows.ensures ∙ ap (λ rs. rows_at expand_head (plain_column c.index.result.now).place c.args.i (plain_rows rs))
-    c.deref-2.ensures.value in
+    let rows = c.in_ok-rows.ensures in
     subst (Ordered (IsOneFirst (table_decides c.args.decisions.now))) (sym rows)
     (expanded-first (g.C.PatCx.is_type c.args.cx.now) (g.C.PatCx.context c.args.cx.now)
     (table_decides c.args.decisions.now) (g.C.PatCx.is_value c.args.cx.now) (g.met.C.PatCx.parts c.args.cx.now)
@@ -76,8 +73,7 @@ in_order-requires g c =
 pub returns-clause-expanded : goal.returns-clause-expanded
 returns-clause-expanded g c =
     let there = read-map plain_column c.args.m.columns.items c.args.i c.index.result.now c.requires.within c.index.ensures in
-    let rows = c.in_ok-rows.ensures ∙ ap (λ rs. rows_at expand_head (plain_column c.index.result.now).place c.args.i (plain_rows rs))
-    c.deref-2.ensures.value in
+    let rows = c.in_ok-rows.ensures in
     record {
       column = plain_column c.index.result.now;
       there = there;
@@ -89,8 +85,7 @@ returns-clause-expanded g c =
 pub returns-clause-ready : goal.returns-clause-ready
 returns-clause-ready g c =
     let there = read-map plain_column c.args.m.columns.items c.args.i c.index.result.now c.requires.within c.index.ensures in
-    let rows = c.in_ok-rows.ensures ∙ ap (λ rs. rows_at expand_head (plain_column c.index.result.now).place c.args.i (plain_rows rs))
-    c.deref-2.ensures.value in
+    let rows = c.in_ok-rows.ensures in
     let order = subst (λ rs. AreInOrder (table_decides c.args.decisions.now) rs (plain_rows c.in_ok-rows-2.rows.items)) rows
     c.in_ok-rows-2.ensures in
     record {

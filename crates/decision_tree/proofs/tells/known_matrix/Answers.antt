@@ -52,7 +52,8 @@ loop-row-preserved g c =
 pub returns : goal.returns
 returns g c = λ i. record {
   columns = c.in_ok-columns.ensures i;
-  rows = (c.loop-row.invariant.told
+  rows = (ap (λ hs. plain_known_rows hs c.loop-row.all.items) c.shrink_to_fit.ensures.items
+      ∙ c.loop-row.invariant.told
       ∙ ap (λ rs. map known_row (plain_rows rs))
       (take_all c.loop-row.row-index c.args.rows.now c.loop-row-test.false)) i;
 }
