@@ -7,7 +7,8 @@ ghost use Rattle.pat_context.specs.Toy.{toy_set, toy_arity};
 use bumpalo::Bump;
 use keyed_matrix::{
     KeyedColumn, are_wild, ctors_at, decisions_of, dropped_columns, dropped_rows, expanded_rows,
-    first_column, first_rows, into_dropped_rows, into_piece_rows, piece_columns, piece_rows,
+    first_column, first_rows, into_dropped_rows, into_expanded_rows, into_piece_rows,
+    piece_columns, piece_rows,
 };
 use no_memory::NoMemory;
 use pat_context::toy::{Toy, ToyTy};
@@ -87,6 +88,9 @@ fn take_rows_over(rt: HostRuntime) -> Result<(), NoMemory> {
     let rows = first_rows(alloc, &m)?;
     let dropped = into_dropped_rows(alloc, rows, 0, column.place)?;
     assert_eq!(rt; dropped.len(), 1);
+    let rows = first_rows(alloc, &m)?;
+    let expanded = into_expanded_rows(alloc, rows, 0, column.place)?;
+    assert_eq!(rt; expanded.len(), 3);
     Ok(())
 }
 
