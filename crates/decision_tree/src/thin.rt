@@ -88,6 +88,9 @@ fn add_thin<'a, T: Copy>(
     }
 }
 
+// For so many runs of heads a row has room at first: with fewer, most lists would grow once.
+const ROOM: usize = 8;
+
 // The heads without such wildcards.
 fn thin_heads<'a, T: Copy>(
     alloc: Global,
@@ -95,7 +98,7 @@ fn thin_heads<'a, T: Copy>(
 ) -> Result<Vec<HeadRun<'a, T>>, NoMemory>
     ensures { IfOk result (λ v. plain_heads v.items ≡ map thin_head (plain_heads heads.now)) }
 {
-    let mut all = Vec::new(alloc);
+    let mut all = Vec::with_capacity(alloc, ROOM)?;
     let mut waiting = 0;
     for one in heads {
         waiting = add_thin(&mut all, waiting, one)?;
