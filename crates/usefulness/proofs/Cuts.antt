@@ -102,7 +102,7 @@ module _ {T : Type 0} (missing : Bool) (a : Apart T) (count : ℕ) (l : SparseLe
   abbrev pub columns : List ℕ
   columns = columns_from a.next count ++ other_numbers a
 
-  one_bare : is_bare_at a.taken.number x.row l ≡ true → has_heads one.row.heads ≡ false
+  pub one_bare : is_bare_at a.taken.number x.row l ≡ true → has_heads one.row.heads ≡ false
   one_bare e = ap has_heads (bare_opened a.taken.number a.next count x.row l e)
 
   -- an idle one is guarded and brings nothing new

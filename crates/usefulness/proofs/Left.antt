@@ -1,7 +1,7 @@
 -- What is left of rows is listed, as the code does it.
-use Rattle.std.proofs.Common.{◌≡◌, ℕ, suc, ◌+◌, Bool, true, false, List, [], ◌∷◌, ◌++◌, filter, length, take, refl, ap, sym, subst, ◌∙◌, arith}
+use Rattle.std.proofs.Common.{◌≡◌, ℕ, suc, ◌+◌, Bool, true, false, List, [], ◌∷◌, ◌++◌, filter, length, take, drop, refl, ap, sym, subst, ◌∙◌, arith}
 use Rattle.std.proofs.lemmas.List.{map-append, length-map}
-use Rattle.std.specs.List.{All}
+use Rattle.std.specs.List.{All, list_any}
 use Rattle.match_model.specs.Values.{MValue}
 use Rattle.match_model.specs.Constructors.{MCtor}
 use Rattle.match_model.specs.Contexts.{Context, Open}
@@ -141,6 +141,27 @@ nothing_listed IsValue scope a apart m cx piece missing enter enough =
     none_enough IsValue scope a apart m cx piece missing enter (numbered_from a.next os) (numbers_from a.next os ∙ ap (columns_from a.next) (length-below (part_open cx (apart_place a) piece) count)) (places_from a.next os) (enough count)
 
 -- a piece of whose leaves no row stays was listed, though none of its columns was opened
+pub none_stays : {T : Type 0} (IsValue : T → Bool → MValue → Type 0) (scope : Scope T) (a : Apart T) → IsApart scope a → (old now : Question → Bool) (kept : List (SparseAsked T)) (closed : Bool) (end : ℕ) (cx : Context T) (piece : MCtor) (missing : Bool) →
+    IsEnterable IsValue cx a piece → (some : List (SparseLeaf T)) → end ≡ 0 → list_any (λ (x : SparseAsked T). x.wanted) (drop end kept) ≡ false →
+    StandFor old (length (columns_from a.next (cx.arity piece a.taken.column.ty) ++ other_numbers a))
+    (asked_views (columns_from a.next (cx.arity piece a.taken.column.ty) ++ other_numbers a) (opened missing a.taken.number a.next (cx.arity piece a.taken.column.ty) (apart_rows a) (filter (λ h. head_has piece h.head) (apart_leaves a))))
+    (asked_views (columns_from a.next (cx.arity piece a.taken.column.ty) ++ other_numbers a) (opened missing a.taken.number a.next (cx.arity piece a.taken.column.ty) (apart_rows a) some)) →
+    IsListing old now (columns_from a.next (cx.arity piece a.taken.column.ty) ++ other_numbers a) (opened missing a.taken.number a.next (cx.arity piece a.taken.column.ty) (apart_rows a) some) kept closed →
+    IsListedAs IsValue old now (piece_view cx a missing piece) []
+none_stays IsValue scope a apart old now kept closed end cx piece missing enter some none unwanted d l =
+    let os = parts_open cx (apart_place a) piece in
+    let count = cx.arity piece a.taken.column.ty in
+    let opens = numbered_from a.next os in
+    let numbered = numbers_from a.next os ∙ ap (columns_from a.next) (length-below (part_open cx (apart_place a) piece) count) in
+    let placed = places_from a.next os in
+    let through = opened missing a.taken.number a.next count (apart_rows a) some in
+    let shown_all = shown IsValue scope a apart old cx piece missing enter opens numbered placed in
+    stood IsValue scope a apart old cx piece missing enter opens numbered placed now some [] d
+    (subst (λ n. IsListedAs IsValue old now (sub_view shown_all through) (subs_of shown_all (take n kept))) none
+    (listing_ends IsValue old now shown_all through kept (some_shown IsValue scope a apart old cx piece missing enter opens numbered placed) closed end
+    (subst (λ ns. IsListing old now ns through kept closed) (sym (shown_numbers IsValue scope a apart old cx piece missing enter opens numbered placed)) l) unwanted))
+
+-- the same of rows that were listed
 pub piece_over : {T : Type 0} (IsValue : T → Bool → MValue → Type 0) (scope : Scope T) (a : Apart T) → IsApart scope a → (old : Question → Bool) (m : Reached T) (l : Listing T) (cx : Context T) (piece : MCtor) (missing : Bool) →
     IsEnterable IsValue cx a piece → (some : List (SparseLeaf T)) → l.end ≡ 0 →
     StandFor old (length (columns_from a.next (cx.arity piece a.taken.column.ty) ++ other_numbers a))
@@ -149,15 +170,4 @@ pub piece_over : {T : Type 0} (IsValue : T → Bool → MValue → Type 0) (scop
     IsListed scope old m (columns_from a.next (cx.arity piece a.taken.column.ty) ++ other_numbers a) (opened missing a.taken.number a.next (cx.arity piece a.taken.column.ty) (apart_rows a) some) l →
     IsListedAs IsValue old (is_noted m) (piece_view cx a missing piece) []
 piece_over IsValue scope a apart old m l cx piece missing enter some none d i =
-    let os = parts_open cx (apart_place a) piece in
-    let count = cx.arity piece a.taken.column.ty in
-    let opens = numbered_from a.next os in
-    let numbered = numbers_from a.next os ∙ ap (columns_from a.next) (length-below (part_open cx (apart_place a) piece) count) in
-    let placed = places_from a.next os in
-    let kept = plain_askeds l.rows.items in
-    let through = opened missing a.taken.number a.next count (apart_rows a) some in
-    let shown_all = shown IsValue scope a apart old cx piece missing enter opens numbered placed in
-    stood IsValue scope a apart old cx piece missing enter opens numbered placed (is_noted m) some [] d
-    (subst (λ n. IsListedAs IsValue old (is_noted m) (sub_view shown_all through) (subs_of shown_all (take n kept))) none
-    (listing_ends IsValue old (is_noted m) shown_all through kept (some_shown IsValue scope a apart old cx piece missing enter opens numbered placed) l.closed l.end
-    (subst (λ ns. IsListing old (is_noted m) ns through kept l.closed) (sym (shown_numbers IsValue scope a apart old cx piece missing enter opens numbered placed)) i.listed) i.kept.end))
+    none_stays IsValue scope a apart old (is_noted m) (plain_askeds l.rows.items) l.closed l.end cx piece missing enter some none i.kept.end d i.listed

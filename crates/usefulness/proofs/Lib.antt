@@ -37,6 +37,7 @@ pub mod Pieces
 pub mod Enough
 pub mod Cuts
 pub mod Trims
+pub mod LoneRows
 pub mod Numbered
 pub mod Stacking
 pub mod Openings

@@ -174,6 +174,31 @@ module _ {T : Type 0} (IsValue : T → Bool → MValue → Type 0) where
     listed = listed_both then more left others new b.listed (listed_later now then left new b.grow a.listed);
   }
 
+  -- some are listed behind others, and nothing is left of any
+  pub none_behind : (old now then : Question → Bool) (left more : List (Submatrix T)) → AreAllListed IsValue old now left [] → AreAllListed IsValue now then more [] → AreAllListed IsValue old then (left ++ more) []
+  none_behind old now then left more a b = record {
+    grow = λ q m. b.grow q (a.grow q m);
+    right = λ q m. elim (b.right q m) [
+      | inl k ↦ elim (a.right q k) [
+        | inl o ↦ inl o
+        | inr (n, i, c) ↦ inr (n, in_left left more n i, c)
+      ]
+      | inr (n, i, c) ↦ inr (n, in_right left more n i, c)
+    ];
+    listed = listed_both then left more [] [] (listed_later now then left [] b.grow a.listed) b.listed;
+  }
+
+  -- marks that come of some of them change nothing of them all
+  pub all_still : (old now : Question → Bool) (some rest : List (Submatrix T)) → AreAllListed IsValue old now some [] → AreAllListed IsValue old now (some ++ rest) (some ++ rest)
+  all_still old now some rest a = record {
+    grow = a.grow;
+    right = λ q m. elim (a.right q m) [
+      | inl o ↦ inl o
+      | inr (n, i, c) ↦ inr (n, in_left some rest n i, c)
+    ];
+    listed = (self_listed now (some ++ rest)).listed;
+  }
+
 module _ {T : Type 0} (IsType : T → Type 0) (IsValue : T → Bool → MValue → Type 0) (cx : Context T) where
   pub stood_fit : (is_marked : Question → Bool) (n m : Submatrix T) → IsFit IsType IsValue cx n → m.places ≡ n.places → StandFor is_marked (length n.places) n.rows m.rows → IsFit IsType IsValue cx m
   stood_fit is_marked n m f e d =

@@ -6,7 +6,7 @@ use Rattle.match_model.specs.ArenaPatterns.{de_pat, MDePats, no_de_pats, more_de
 use Rattle.match_model.specs.Rows.{Head, is_wild}
 use Rattle.constructor_sets.specs.declared.piece.Span.{Span}
 use Rattle.pattern_matrix.specs.Sparse.{SparseRow, SparseLeaf, columns_from, leaves_listed, without}
-use Rattle.pattern_matrix.specs.Halving.{span_meets, having, leaves_with}
+use Rattle.pattern_matrix.specs.Halving.{span_has, span_meets, having, leaves_with}
 use Rattle.pattern_matrix.specs.Parts.{plain_spans, pieces_in}
 use Rattle.pattern_matrix.specs.declared.halving.Part.{Part}
 use Rattle.pattern_matrix.specs.declared.halving.PieceLeaves.{PieceLeaves}
@@ -65,6 +65,11 @@ is_over_at is_marked missing column x l =
 abbrev pub entered_rows : {T : Type 0} → (missing : Bool) → Apart T → (count : ℕ) → List (SparseLeaf T) → List (WantedRow T)
 entered_rows missing a count ls =
     asked_views (columns_from a.next count ++ other_numbers a) (opened missing a.taken.number a.next count (apart_rows a) ls)
+
+-- no span before has the piece, and this one has
+pub record IsFirstWith (spans : List (ℕ × ℕ)) (piece number : ℕ) : Type 0 where
+  pub before : (j : ℕ) → j < number → span_has piece (slice_get spans j) ≡ false
+  pub has : span_has piece (slice_get spans number) ≡ true
 
 -- some of the leaves do for all: whatever piece is entered, their rows do for those of all, so that what is left out brings
 -- nothing new there and stops nothing that is not stopped without it

@@ -1,6 +1,7 @@
 // What is left of rows when a column is taken apart.
-ghost use Rattle.std.specs.Prelude.{◌≡◌, [], Bool, false, length, IfOk, OnOk};
-ghost use Rattle.std.specs.List.{All, list_all};
+ghost use Rattle.std.specs.Prelude.{◌≡◌, [], Bool, false, length, map, IfOk, OnOk, IfSome};
+ghost use Rattle.std.specs.List.{All, list_all, flat_map};
+ghost use Rattle.std.specs.Option.{option_to_list};
 ghost use Rattle.match_model.specs.Rows.{starts_wild};
 ghost use Rattle.constructor_sets.specs.Columns.{plain_ctors};
 ghost use Rattle.constructor_sets.specs.Present.{AreFound};
@@ -10,10 +11,12 @@ ghost use Rattle.pattern_matrix.specs.Sparse.{columns_from};
 ghost use Rattle.pattern_matrix.specs.Counting.{Question};
 ghost use Rattle.pattern_matrix.specs.Searching.{IsFit, IsLookedAt, heads_in};
 ghost use Rattle.usefulness.specs.Cutting.{IsCutPart, parts_left};
-ghost use Rattle.usefulness.specs.Stack.{IsFresh, IsOpened, opened_views};
-ghost use Rattle.usefulness.specs.States.{IsApart, apart_leaves, apart_place, apart_view, is_noted, scope_of};
+ghost use Rattle.usefulness.specs.Listing.{AreAllListed};
+ghost use Rattle.usefulness.specs.Stack.{IsFresh, IsOpened, IsPending, opened_views, pending_views};
+ghost use Rattle.usefulness.specs.States.{IsApart, IsEnterable, apart_leaves, apart_place, apart_view, piece_view, is_noted, scope_of};
 
 use crate::frames::{Apart, Opened, Pending, Reached};
+use crate::lone::enter_all;
 use crate::wild::wild_child;
 use constructor_sets::{PresentPieces, Span};
 use no_memory::NoMemory;
@@ -82,6 +85,31 @@ fn open_pieces<'a, T: Copy>(
     })
 }
 
+// What is left of the pieces that were found at the column: all of them, or nothing where of each one row alone mattered.
+fn left_pieces<'a, C: PatCx>(
+    alloc: Global,
+    cx: &C,
+    reached: &mut Reached<'a, C::Ty>,
+    a: Apart<'a, C::Ty>,
+    found: PresentPieces<'a>,
+    spans: Vec<Span>,
+) -> Result<Option<Pending<'a, C::Ty>>, NoMemory>
+    requires apart { IsApart (scope_of reached.old) a }
+    requires ty { C.is_type cx.now a.taken.column.ty }
+    requires pieces { All (IsEnterable (C.is_value cx.now) (C.context cx.now) a) (plain_ctors found.ctors.items) }
+    requires spans { AreLeafSpans (plain_ctors found.ctors.items) (apart_leaves a) (plain_spans spans.items) }
+    ensures scope { OnOk result (scope_of reached.new ≡ scope_of reached.old) }
+    ensures good { IfOk result (λ o. IfSome o (λ p. IsPending (C.is_type cx.now) (C.is_value cx.now) (C.context cx.now) (scope_of reached.old) (is_noted reached.new) p)) }
+    ensures listed { IfOk result (λ o. AreAllListed (C.is_value cx.now) (is_noted reached.old) (is_noted reached.new)
+        (map (piece_view (C.context cx.now) a.entry found.entry.missing) (plain_ctors found.entry.ctors.items)) (flat_map (pending_views (C.context cx.now)) (option_to_list o))) }
+{
+    if enter_all(cx, reached, &a, &found.ctors, &spans, found.missing)? {
+        return Ok(None);
+    }
+    let pieces = open_pieces(alloc, reached.arms, a, found, spans)?;
+    Ok(Some(pieces))
+}
+
 // What is left of the pieces that were found at the column, and where one is missing of values in no head.
 fn split_column<'a, C: PatCx>(
     alloc: Global,
@@ -101,18 +129,21 @@ fn split_column<'a, C: PatCx>(
     ensures good { IfOk result (λ o. IsOpened (C.is_type cx.now) (C.is_value cx.now) (C.context cx.now) (scope_of reached.old) (is_noted reached.new) o) }
     ensures looked { IfOk result (λ o. IsLookedAt (C.is_type cx.now) (C.is_value cx.now) (C.context cx.now) (is_noted reached.old) (is_noted reached.new) (apart_view a.entry) (opened_views (C.context cx.now) o)) }
 {
+    let count = found.ctors.len();
     if found.missing {
         let wild = wild_child(alloc, cx, reached, &a)?;
-        let pieces = open_pieces(alloc, reached.arms, a, found, spans)?;
+        let pieces = left_pieces(alloc, cx, reached, a, found, spans)?;
         Ok(Opened {
-            pieces: Some(pieces),
+            pieces,
             wild,
+            count,
         })
     } else {
-        let pieces = open_pieces(alloc, reached.arms, a, found, spans)?;
+        let pieces = left_pieces(alloc, cx, reached, a, found, spans)?;
         Ok(Opened {
-            pieces: Some(pieces),
+            pieces,
             wild: None,
+            count,
         })
     }
 }
@@ -133,7 +164,11 @@ fn dropped_column<'a, C: PatCx>(
     ensures looked { IfOk result (λ o. IsLookedAt (C.is_type cx.now) (C.is_value cx.now) (C.context cx.now) (is_noted reached.old) (is_noted reached.new) (apart_view a.now) (opened_views (C.context cx.now) o)) }
 {
     let wild = wild_child(alloc, cx, reached, a)?;
-    Ok(Opened { pieces: None, wild })
+    Ok(Opened {
+        pieces: None,
+        wild,
+        count: 0,
+    })
 }
 
 // What is left of the rows.

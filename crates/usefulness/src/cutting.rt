@@ -61,7 +61,11 @@ fn is_bare<'a, T: Copy>(row: &Row<'a, T>, leaf: &Leaf<'a, T>, column: usize) -> 
 }
 
 // Tells whether something new is looked for in the leaf's row.
-fn is_wanted<'a, T: Copy>(asked: &Asked<'a, T>, leaf: &Leaf<'a, T>, missing: bool) -> bool
+pub(crate) fn is_wanted<'a, T: Copy>(
+    asked: &Asked<'a, T>,
+    leaf: &Leaf<'a, T>,
+    missing: bool,
+) -> bool
     ensures { result ≡ is_wanted_at missing (plain_asked asked.now) (plain_leaf leaf.now) }
 {
     let wild = is_wild_leaf(leaf.head);
@@ -93,7 +97,7 @@ fn is_idle<'a, T: Copy>(
 }
 
 // Tells whether the leaf stops all values in each piece that it has.
-fn is_last<'a, T: Copy>(asked: &Asked<'a, T>, leaf: &Leaf<'a, T>, column: usize) -> bool
+pub(crate) fn is_last<'a, T: Copy>(asked: &Asked<'a, T>, leaf: &Leaf<'a, T>, column: usize) -> bool
     ensures { result ≡ is_last_at column (plain_asked asked.now) (plain_leaf leaf.now) }
 {
     !asked.row.guarded && is_bare(&asked.row, leaf, column)
@@ -121,7 +125,7 @@ fn is_whole<'a, T: Copy>(leaf: &Leaf<'a, T>, span: &Span, part: &Part, row: usiz
 }
 
 // Tells whether the leaf is one of several alternatives of its row.
-fn is_alternative<'a, T: Copy>(leaf: &Leaf<'a, T>) -> bool
+pub(crate) fn is_alternative<'a, T: Copy>(leaf: &Leaf<'a, T>) -> bool
     ensures { result ≡ nat_lt 0 (length (kept_chosen leaf.now.chosen)) }
 {
     leaf.chosen.len() > 0

@@ -85,4 +85,6 @@ pub(crate) enum Todo<'a, T: Copy> {
 pub(crate) struct Opened<'a, T: Copy> {
     pub(crate) pieces: Option<Pending<'a, T>>,
     pub(crate) wild: Option<Frame<'a, T>>,
+    // How many pieces were found, with those that were entered at once.
+    pub(crate) count: usize,
 }

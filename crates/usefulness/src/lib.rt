@@ -9,6 +9,7 @@ mod done;
 mod entering;
 mod frames;
 mod listing;
+mod lone;
 mod look;
 mod marks;
 mod pending;

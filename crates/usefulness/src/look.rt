@@ -103,6 +103,7 @@ fn none_opened<'a, T: Copy>() -> Opened<'a, T>
     Opened {
         pieces: None,
         wild: None,
+        count: 0,
     }
 }
 

@@ -95,7 +95,7 @@ pub(crate) fn add_opened<'a, T: Copy>(
 ) -> Result<(), NoMemory>
     ensures { OnOk result (todo.new.items ≡ todo.old.items ++ opened_todo opened.entry) }
 {
-    let Opened { pieces, wild } = opened;
+    let Opened { pieces, wild, .. } = opened;
     add_some(todo, pieces)?;
     add_rows(todo, wild)
 }

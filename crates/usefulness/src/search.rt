@@ -1,6 +1,6 @@
 // The search for what is reached.
-ghost use Rattle.std.specs.Prelude.{◌≡◌, ◌<◌, ◌+◌, ◌^◌, ◌++◌, ◌∷◌, [], cond, length, map, Some, IfOk, OnOk, true, false};
-ghost use Rattle.std.specs.List.{All, Contains};
+ghost use Rattle.std.specs.Prelude.{◌≡◌, ◌<◌, ◌+◌, ◌^◌, ◌++◌, ◌∷◌, [], cond, length, map, Some, IfOk, IfSome, OnOk, true, false};
+ghost use Rattle.std.specs.List.{Contains};
 ghost use Rattle.match_model.specs.Rows.{is_wild};
 ghost use Rattle.match_model.specs.Values.{MValue};
 ghost use Rattle.match_model.specs.WellTyped.{IsWellTyped};
@@ -18,14 +18,14 @@ ghost use Rattle.usefulness.specs.Scope.{scope_for};
 ghost use Rattle.usefulness.specs.Keys.{told_keys};
 ghost use Rattle.usefulness.specs.Stack.{IsGoing, IsTodo, todo_view, todo_views};
 ghost use Rattle.usefulness.specs.Starting.{asked_from, wanted_all};
-ghost use Rattle.usefulness.specs.States.{is_noted, plain_asked, scope_of, IsListed};
+ghost use Rattle.usefulness.specs.States.{child_views, is_noted, plain_asked, scope_of, IsGood, IsListed};
 ghost use Rattle.usefulness.specs.Told.{IsPinned};
 
 use crate::Marks;
-use crate::frames::{Asked, Listing, OpenColumn, Opened, Reached, Todo};
+use crate::frames::{Asked, Frame, Listing, OpenColumn, Opened, Reached, Todo};
 use crate::listing::{finish, list_row, room_listed};
 use crate::look::look_at;
-use crate::pending::{add_opened, add_rows, next_rows};
+use crate::pending::{add_opened, next_rows};
 use crate::told::{Told, keep_count, none_told};
 use no_memory::NoMemory;
 use pat_context::{Ctor, PatCx, has_value};
@@ -104,28 +104,25 @@ fn first_listing<'a, T: Copy>(
     Ok(listing)
 }
 
-// For so many entries the stack has room at first.
-const ROOM: usize = 16;
-
-// What is to be looked at first.
-fn first_frames<'a, C: PatCx>(
+// The rows that are looked at first, where there are any.
+fn first_frame<'a, C: PatCx>(
     alloc: Global,
     cx: &C,
     reached: &mut Reached<'a, C::Ty>,
     m: &CheckedMatch<'a, C::Ty>,
-) -> Result<Vec<Todo<'a, C::Ty>>, NoMemory>
+) -> Result<Option<Frame<'a, C::Ty>>, NoMemory>
     requires typed { IsWellTyped (C.is_type cx.now) (C.context cx.now) (plain_match m.now) }
     requires value { (v : MValue) × C.is_value cx.now m.now.ty (is_sure m.now.validity) v }
     requires scope { scope_of reached.old ≡ scope_for (plain_match m.now).arms }
     requires few { length m.now.arms.now < 2 ^ 32 }
     requires none { (q : Question) → is_noted reached.old q ≡ false }
     ensures scope { OnOk result (scope_of reached.new ≡ scope_for (plain_match m.now).arms) }
-    ensures good { IfOk result (λ v. All (IsTodo (C.is_type cx.now) (C.is_value cx.now) (C.context cx.now) (scope_for (plain_match m.now).arms) (is_noted reached.new)) v.items) }
-    ensures search { IfOk result (λ v. IsSearch (C.is_type cx.now) (C.is_value cx.now) (C.context cx.now) (bare_sub (first_submatrix (plain_match m.now))) (is_noted reached.new) (todo_views (C.context cx.now) v.items) []) }
+    ensures good { IfOk result (λ o. IfSome o (λ f. IsGood (scope_for (plain_match m.now).arms) f)) }
+    ensures search { IfOk result (λ o. IsSearch (C.is_type cx.now) (C.is_value cx.now) (C.context cx.now) (bare_sub (first_submatrix (plain_match m.now))) (is_noted reached.new) (child_views o) []) }
 {
     matches_are_made(m);
     let listing = first_listing(alloc, reached, m)?;
-    let mut columns = Vec::new(alloc);
+    let mut columns = Vec::with_capacity(alloc, 1)?;
     columns.push(OpenColumn {
         number: 0,
         column: Column {
@@ -133,25 +130,20 @@ fn first_frames<'a, C: PatCx>(
             validity: m.validity,
         },
     })?;
-    let mut todo = Vec::with_capacity(alloc, ROOM)?;
-    add_rows(&mut todo, finish(listing, columns, 1))?;
-    Ok(todo)
+    Ok(finish(listing, columns, 1))
 }
 
 // How many submatrices are left, at most.
 fn count_of<'a, T: Copy>(opened: &Opened<'a, T>) -> usize {
-    let pieces = match &opened.pieces {
-        None => 0,
-        Some(p) => p.pieces.len(),
-    };
     match &opened.wild {
-        None => pieces,
-        Some(_frame) => pieces.saturating_add(1),
+        None => opened.count,
+        Some(_frame) => opened.count.saturating_add(1),
     }
 }
 
 // Takes a step: the entry, which was taken from the end of the stack, is looked at, or one of its pieces, and what is left
 // of it is put there.
+#[inline(always)]
 fn step<'a, C: PatCx>(
     alloc: Global,
     cx: &C,
@@ -177,6 +169,33 @@ fn step<'a, C: PatCx>(
     }
 }
 
+// Takes the first step of a search: what is left of it stands on the stack.
+fn first_step<'a, C: PatCx>(
+    alloc: Global,
+    cx: &C,
+    reached: &mut Reached<'a, C::Ty>,
+    told: &mut Told,
+    m: &CheckedMatch<'a, C::Ty>,
+) -> Result<Vec<Todo<'a, C::Ty>>, NoMemory>
+    requires typed { IsWellTyped (C.is_type cx.now) (C.context cx.now) (plain_match m.now) }
+    requires value { (v : MValue) × C.is_value cx.now m.now.ty (is_sure m.now.validity) v }
+    requires scope { scope_of reached.old ≡ scope_for (plain_match m.now).arms }
+    requires few { length m.now.arms.now < 2 ^ 32 }
+    requires none { (q : Question) → is_noted reached.old q ≡ false }
+    requires untold { told_keys told.old ≡ [] }
+    ensures { IfOk result (λ v. IsGoing (C.is_type cx.now) (C.is_value cx.now) (C.context cx.now) (bare_sub (first_submatrix (plain_match m.now)))
+        (scope_for (plain_match m.now).arms) reached.new (told_keys told.new) v.items) }
+{
+    let mut todo = Vec::new(alloc);
+    match first_frame(alloc, cx, reached, m)? {
+        None => Ok(todo),
+        Some(frame) => {
+            step(alloc, cx, reached, told, &mut todo, Todo::Rows(frame))?;
+            Ok(todo)
+        }
+    }
+}
+
 // Searches until nothing is to be looked at any more.
 fn search<'a, C: PatCx>(
     alloc: Global,
@@ -196,7 +215,7 @@ fn search<'a, C: PatCx>(
         marks,
     };
     let mut told = none_told(alloc);
-    let mut todo = first_frames(alloc, cx, &mut reached, m)?;
+    let mut todo = first_step(alloc, cx, &mut reached, &mut told, m)?;
     while let Some(entry) = todo.pop() {
         step(alloc, cx, &mut reached, &mut told, &mut todo, entry)?;
     }

@@ -9,21 +9,12 @@ use Rattle.usefulness.specs.States.{is_noted, scope_of}
 use Rattle.usefulness.specs.Told.{IsPinned}
 use Rattle.usefulness.proofs.Beginning.{search_ends}
 use Rattle.usefulness.proofs.FirstRows.{none_long}
-use Rattle.usefulness.proofs.Stepping.{none_told}
 use Rattle.usefulness.proofs.Pinned.{pinned_by}
 use Rattle.usefulness.proofs.Going.{entry_fits, entry_good}
 use Rattle.usefulness.proofs.search.search.Goals as goal
 
 pub loop-entry-init : goal.loop-entry-init
-loop-entry-init g c =
-    let cx = c.args.cx.now in
-    record {
-      known = c.in_ok-todo.ensures.scope;
-      good = c.in_ok-todo.ensures.good;
-      seen = [];
-      search = c.in_ok-todo.ensures.search;
-      told = none_told (g.C.PatCx.is_type cx) (g.C.PatCx.is_value cx) (g.C.PatCx.context cx) (scope_for (plain_match c.args.m.now).arms) (told_keys c.none_told-told.result) c.none_told-told.ensures;
-    }
+loop-entry-init g c = c.in_ok-todo.ensures
 
 pub step-requires-clause-good : goal.step-requires-clause-good
 step-requires-clause-good g c =
