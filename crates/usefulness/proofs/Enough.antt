@@ -8,8 +8,6 @@ use Rattle.match_model.proofs.Basics.{untrue, either, both, nat_itself}
 use Rattle.pattern_matrix.specs.Counting.{Question, WantedRow, row_answers, row_stops, counts}
 use Rattle.pattern_matrix.specs.Searching.{heads_in, counts_before, is_bare, IsPart, kept, IsDone, DoFor, StandFor}
 use Rattle.pattern_matrix.proofs.ListedRows as listing
-use Rattle.usefulness.specs.Frames.{SparseAsked, asked_view, asked_views}
-use Rattle.usefulness.specs.Listing.{IsListing}
 
 heads_behind : {T : Type 0} (xs ys : List (WantedRow T)) → heads_in (xs ++ ys) ≡ heads_in xs ++ heads_in ys
 heads_behind xs ys = map-append (λ x. x.row.heads) xs ys

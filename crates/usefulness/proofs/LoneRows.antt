@@ -1,18 +1,18 @@
 -- Pieces of which one leaf alone matters, since its row stops all values there.
 use Rattle.std.proofs.Common.{◌≡◌, inl, inr, ◌≤◌, ◌<◌, ℕ, zero, suc, ◌+◌, ◌-◌, Bool, true, false, not, ◌&&◌, ◌||◌, nat_eq, nat_le, nat_lt, List, [], ◌∷◌, ◌++◌, map, filter, cond, length, take, drop, get_or, Some, refl, ap, sym, subst, ◌∙◌, arith, slice_get, append-nil}
 use Rattle.std.proofs.lemmas.Bool.Decides.{nat_tests, eqb_tells}
-use Rattle.std.proofs.lemmas.List.{length-map, map-append, take_more, take_all, take-append-drop}
+use Rattle.std.proofs.lemmas.List.{map-append, take_more, take-append-drop}
 use Rattle.std.proofs.lemmas.List.Elements.{filter-append}
 use Rattle.std.proofs.lemmas.List.Folds.{list_any-append}
 use Rattle.std.proofs.lemmas.Option.{slice_get-get_or}
-use Rattle.std.specs.List.{All, list_any}
+use Rattle.std.specs.List.{list_any}
 use Rattle.match_model.specs.Values.{MValue}
 use Rattle.match_model.specs.Constructors.{MCtor}
 use Rattle.match_model.specs.Contexts.{Context}
 use Rattle.match_model.proofs.Basics.{both, untrue}
 use Rattle.constructor_sets.specs.declared.piece.Span.{Span}
 use Rattle.pattern_matrix.specs.Sparse.{SparseLeaf, columns_from, head_has, leaves_listed}
-use Rattle.pattern_matrix.specs.Halving.{span_has, span_meets, having, leaves_with}
+use Rattle.pattern_matrix.specs.Halving.{span_has, having, leaves_with}
 use Rattle.pattern_matrix.specs.Parts.{plain_spans}
 use Rattle.pattern_matrix.specs.Counting.{Question}
 use Rattle.pattern_matrix.specs.Searching.{Submatrix, StandFor}
@@ -27,7 +27,7 @@ use Rattle.usefulness.specs.Cutting.{is_bare_at, is_wanted_at, is_last_at, enter
 use Rattle.usefulness.specs.Listing.{IsListing, IsListedAs, AreAllListed}
 use Rattle.usefulness.specs.Scope.{Scope}
 use Rattle.usefulness.specs.States.{IsApart, IsEnterable, apart_rows, apart_leaves, other_numbers, piece_view}
-use Rattle.usefulness.proofs.Cuts.{one, columns, at, step_last, cut_begins, one_bare}
+use Rattle.usefulness.proofs.Cuts.{one, at, step_last, cut_begins, one_bare}
 use Rattle.usefulness.proofs.Dropping.{opened_got}
 use Rattle.usefulness.proofs.Left.{none_stays}
 use Rattle.usefulness.proofs.Listed.{listing_begins, noted_last}
@@ -150,7 +150,3 @@ module _ {T : Type 0} (IsValue : T → Bool → MValue → Type 0) (old : Questi
   all_left now i l =
       let whole = sym (map-append view (take i ctors) (drop i ctors)) ∙ ap (map view) (take-append-drop i ctors) in
       subst (λ ss. AreAllListed IsValue old now ss ss) whole (all_still IsValue old now (map view (take i ctors)) (map view (drop i ctors)) l)
-
-  -- nothing is left of all of them
-  pub all_gone : (now : Question → Bool) (i : ℕ) → length ctors ≤ i → AreAllListed IsValue old now (map view (take i ctors)) [] → AreAllListed IsValue old now (map view ctors) []
-  all_gone now i h l = subst (λ cs. AreAllListed IsValue old now (map view cs) []) (take_all i ctors h) l

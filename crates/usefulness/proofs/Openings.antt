@@ -1,8 +1,8 @@
 -- A column that is opened: all its pieces are left.
-use Rattle.std.proofs.Common.{◌≡◌, ◌≤◌, ◌<◌, ℕ, ◌+◌, Bool, Option, None, Some, List, [], ◌∷◌, ◌++◌, map, length, refl, ap, sym, subst, ◌∙◌, arith, append-nil}
+use Rattle.std.proofs.Common.{◌≡◌, Bool, None, List, [], ◌++◌, map, length, ap, sym, ◌∙◌, arith}
 use Rattle.std.proofs.lemmas.List.{length-map}
 use Rattle.std.specs.List.{All, flat_map}
-use Rattle.std.specs.Option.{option_to_list, IfSome}
+use Rattle.std.specs.Option.{option_to_list}
 use Rattle.match_model.specs.Values.{MValue}
 use Rattle.match_model.specs.Contexts.{Context}
 use Rattle.constructor_sets.specs.Columns.{plain_ctors}
@@ -13,15 +13,13 @@ use Rattle.pattern_matrix.specs.Halving.{AreLeafSpans}
 use Rattle.pattern_matrix.specs.Parts.{plain_spans}
 use Rattle.pattern_matrix.specs.Sparse.{columns_from}
 use Rattle.pattern_matrix.specs.Counting.{Question}
-use Rattle.pattern_matrix.specs.Searching.{Submatrix}
 use Rattle.usefulness.specs.declared.frames.Apart.{Apart}
-use Rattle.usefulness.specs.declared.frames.Frame.{Frame}
 use Rattle.usefulness.specs.declared.frames.Opened.{Opened}
 use Rattle.usefulness.specs.declared.frames.Pending.{Pending}
 use Rattle.usefulness.specs.Scope.{Scope}
-use Rattle.usefulness.specs.Cutting.{IsCutPart, parts_left}
+use Rattle.usefulness.specs.Cutting.{parts_left}
 use Rattle.usefulness.specs.Stack.{ctors_at, pending_views, IsPending, IsFresh, IsOpened, opened_views}
-use Rattle.usefulness.specs.States.{child_views, IsGood, IsApart, IsEnterable, apart_leaves, piece_view}
+use Rattle.usefulness.specs.States.{child_views, IsApart, IsEnterable, apart_leaves, piece_view}
 use Rattle.usefulness.proofs.Stacking.{ctors_all, numbers_long, numbers_within}
 
 module _ {T : Type 0} (cx : Context T) where

@@ -1,5 +1,5 @@
 -- Entries of the stack of a search, and what they stand for.
-use Rattle.std.proofs.Common.{◌≡◌, ◌≤◌, ◌<◌, ℕ, zero, suc, ◌+◌, ◌-◌, ◌*◌, ◌^◌, Bool, true, false, List, [], ◌∷◌, ◌++◌, map, cond, filter, length, get_or, Option, Some, None, slice_get, refl, ap, sym, subst, ◌∙◌, arith, append-nil, append_assoc}
+use Rattle.std.proofs.Common.{◌≡◌, ◌≤◌, ◌<◌, ℕ, zero, suc, ◌+◌, ◌-◌, ◌*◌, ◌^◌, Bool, true, List, [], ◌∷◌, ◌++◌, map, cond, length, get_or, Option, Some, None, slice_get, refl, ap, sym, subst, ◌∙◌, arith, append-nil, append_assoc}
 use Rattle.std.proofs.lemmas.List.{map-append, length-map, length-append}
 use Rattle.std.proofs.lemmas.List.Elements.{All-nil, All-cons, All-head, All-tail, All-append}
 use Rattle.std.proofs.lemmas.Grind.{flat_map-append}
@@ -11,13 +11,12 @@ use Rattle.match_model.specs.Contexts.{Context}
 use Rattle.pat_context.specs.declared.ctor.Ctor.{Ctor}
 use Rattle.pat_context.specs.Views.{plain_ctor}
 use Rattle.constructor_sets.specs.Columns.{plain_ctors}
-use Rattle.constructor_sets.specs.declared.piece.PresentPieces.{PresentPieces}
 use Rattle.constructor_sets.specs.declared.piece.Span.{Span}
 use Rattle.pattern_matrix.specs.declared.halving.Part.{Part}
 use Rattle.pattern_matrix.specs.declared.halving.PieceLeaves.{PieceLeaves}
-use Rattle.pattern_matrix.specs.Halving.{AreLeafSpans, leaves_with}
+use Rattle.pattern_matrix.specs.Halving.{AreLeafSpans}
 use Rattle.pattern_matrix.specs.Parts.{plain_spans, pieces_in}
-use Rattle.pattern_matrix.specs.Sparse.{columns_from, head_has, leaves_listed}
+use Rattle.pattern_matrix.specs.Sparse.{columns_from}
 use Rattle.pattern_matrix.specs.Counting.{Question}
 use Rattle.pattern_matrix.specs.Searching.{Submatrix, weight_of, power, work}
 use Rattle.pattern_matrix.proofs.HandingOn.{here, in_cons}
@@ -32,7 +31,7 @@ use Rattle.usefulness.specs.declared.frames.Todo.TheVariants.{Rows, Pieces}
 use Rattle.usefulness.specs.Scope.{Scope}
 use Rattle.usefulness.specs.Cutting.{AreEnough, IsCutPart, parts_left, HasNothing, IsCutOff}
 use Rattle.usefulness.specs.Listing.{IsListedAs, AreAllListed}
-use Rattle.usefulness.specs.Stack.{ctors_at, pending_views, todo_view, todo_views, IsPending, IsFresh, IsTodo, some_parts, more_of, opened_todo, opened_views, IsOpened, AreMadeOf, IsEntered, IsPut, IsTaken}
+use Rattle.usefulness.specs.Stack.{ctors_at, pending_views, todo_view, todo_views, IsPending, IsTodo, some_parts, more_of, opened_todo, opened_views, IsOpened, AreMadeOf, IsEntered, IsPut, IsTaken}
 use Rattle.usefulness.specs.States.{frame_view, child_views, IsGood, IsApart, IsEnterable, apart_leaves, piece_view}
 use Rattle.usefulness.proofs.Looking.{stand_later, none_listed, first_listed, single_listed, both_listed}
 use Rattle.usefulness.proofs.Cuts.{cut_later}

@@ -1,5 +1,5 @@
 -- One step of a search: what is looked at is left out, or what is left of it stands in its place.
-use Rattle.std.proofs.Common.{◌≡◌, ◌⊎◌, inl, inr, ◌≤◌, ◌<◌, ℕ, Bool, true, false, ◌||◌, List, [], ◌∷◌, ◌++◌, cond, length, get_or, ◌≢◌, nat_eq, Some, None, refl, ap, sym, subst, ◌∙◌, arith}
+use Rattle.std.proofs.Common.{◌≡◌, ◌⊎◌, inl, inr, ◌<◌, ℕ, Bool, true, false, ◌||◌, List, [], ◌∷◌, ◌++◌, cond, get_or, ◌≢◌, nat_eq, Some, None, refl, ap, sym, subst, ◌∙◌, arith}
 use Rattle.std.proofs.lemmas.Bool.Decides.{eqb_tells}
 use Rattle.std.proofs.lemmas.List.{append-nil}
 use Rattle.std.proofs.lemmas.List.Elements.{All-head, All-tail}
@@ -10,16 +10,14 @@ use Rattle.match_model.specs.Contexts.{Context, Open}
 use Rattle.match_model.specs.Rows.{is_wild}
 use Rattle.match_model.proofs.Basics.{untrue, either, or_left, or_right, nat_itself}
 use Rattle.pattern_matrix.specs.Sparse.{AreHeadsBelow, head_at}
-use Rattle.pattern_matrix.specs.Counting.{Question, WantedRow, counts}
-use Rattle.pattern_matrix.specs.Searching.{Submatrix, weight_of, IsFit, Comes, StandFor, IsSearch, IsLookedAt}
-use Rattle.pattern_matrix.proofs.SearchSteps.{looks, values_long}
-use Rattle.pattern_matrix.proofs.ListedRows.{part_weighs}
+use Rattle.pattern_matrix.specs.Counting.{Question}
+use Rattle.pattern_matrix.specs.Searching.{Submatrix, weight_of, IsFit, Comes, IsSearch, IsLookedAt}
+use Rattle.pattern_matrix.proofs.SearchSteps.{looks}
 use Rattle.pattern_matrix.proofs.HandingOn.{here, there, in_cons}
 use Rattle.usefulness.specs.declared.frames.Frame.{Frame}
 use Rattle.usefulness.specs.declared.marks.Marks.{Marks}
 use Rattle.usefulness.specs.Frames.{SparseAsked, numbers, sub_view, IsHeadIn, IsRowIn, AreOpen, has_start}
 use Rattle.usefulness.specs.Compact.{lists_at, some_lists, used_of, IsCompact}
-use Rattle.usefulness.specs.Listing.{IsListedAs}
 use Rattle.usefulness.specs.Marking.{is_marked}
 use Rattle.usefulness.specs.Scope.{Scope, patterns_of}
 use Rattle.usefulness.specs.States.{plain_opens, plain_askeds, frame_view, IsGood}

@@ -9,12 +9,12 @@ use Rattle.match_model.proofs.Basics.{both, untrue}
 use Rattle.pattern_matrix.specs.declared.rows.Head.{Head}
 use Rattle.pattern_matrix.specs.Views.{plain_head}
 use Rattle.pattern_matrix.specs.Counting.{Question}
-use Rattle.pattern_matrix.specs.Searching.{IsDone, DoFor}
+use Rattle.pattern_matrix.specs.Searching.{IsDone}
 use Rattle.usefulness.specs.declared.frames.Listing.{Listing}
 use Rattle.usefulness.specs.declared.marks.Marks.{Marks}
 use Rattle.usefulness.specs.declared.frames.Reached.{Reached}
 use Rattle.usefulness.specs.Scope.{Scope}
-use Rattle.usefulness.specs.Frames.{SparseAsked, asked_view, asked_views, has_heads, starts_listed, IsRowIn}
+use Rattle.usefulness.specs.Frames.{SparseAsked, asked_view, has_heads, starts_listed, IsRowIn}
 use Rattle.usefulness.specs.Marking.{is_marked}
 use Rattle.usefulness.specs.Listing.{IsWantedAs, IsListing}
 use Rattle.usefulness.specs.Done.{is_done}

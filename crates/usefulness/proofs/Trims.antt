@@ -1,5 +1,5 @@
 -- Leaves that bring nothing new are left out behind the others, and halves where nothing is left.
-use Rattle.std.proofs.Common.{◌≡◌, ◌==◌, inl, inr, ◌≤◌, ◌<◌, ℕ, zero, suc, ◌+◌, ◌-◌, ◌*◌, Bool, true, false, not, ◌&&◌, ◌||◌, List, [], ◌∷◌, ◌++◌, map, filter, cond, length, take, drop, nat_eq, Option, Some, None, refl, sym, ap, subst, ◌∙◌, arith, slice_get, append-nil, append_assoc}
+use Rattle.std.proofs.Common.{◌≡◌, ◌==◌, inl, inr, ◌≤◌, ◌<◌, ℕ, zero, suc, ◌+◌, ◌-◌, ◌*◌, Bool, true, false, not, ◌&&◌, List, [], ◌∷◌, ◌++◌, map, cond, length, take, drop, Option, Some, None, refl, sym, ap, subst, ◌∙◌, arith, slice_get, append-nil, append_assoc}
 use Rattle.std.proofs.lemmas.Bool.{eqb-true}
 use Rattle.std.proofs.lemmas.List.Elements.{All-nil, All-cons, All-head, All-tail, All-append}
 use Rattle.std.proofs.lemmas.Grind.{flat_map-append}

@@ -15,7 +15,6 @@ use Rattle.pattern_matrix.specs.Sparse.{columns_from}
 use Rattle.pattern_matrix.specs.Counting.{Question}
 use Rattle.pattern_matrix.specs.Searching.{Submatrix, weight_of, work, IsSearch}
 use Rattle.usefulness.specs.declared.frames.Apart.{Apart}
-use Rattle.usefulness.specs.declared.frames.Frame.{Frame}
 use Rattle.usefulness.specs.declared.frames.Pending.{Pending}
 use Rattle.usefulness.specs.declared.frames.Opened.{Opened}
 use Rattle.usefulness.specs.declared.frames.Reached.{Reached}

@@ -1,4 +1,4 @@
-use Rattle.std.proofs.Common.{◌≡◌, ◌++◌, ◌∙◌, map, length, sym, subst, append-nil}
+use Rattle.std.proofs.Common.{◌∙◌, map, sym, subst, append-nil}
 use Rattle.std.proofs.lemmas.List.{length-map}
 use Rattle.constructor_sets.specs.Columns.{plain_ctors}
 use Rattle.constructor_sets.specs.Spans.{plain_span}

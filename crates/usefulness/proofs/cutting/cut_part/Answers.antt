@@ -1,8 +1,8 @@
-use Rattle.std.proofs.Common.{◌≡◌, ◌<◌, ◌+◌, ◌-◌, [], false, sym, ◌∙◌, refl, arith}
+use Rattle.std.proofs.Common.{◌≡◌, ◌+◌, sym, ◌∙◌, arith}
 use Rattle.usefulness.specs.States.{is_noted}
 use Rattle.usefulness.specs.Cutting.{parts_left}
 use Rattle.usefulness.proofs.Cuts.{one_have, one_enough}
-use Rattle.usefulness.proofs.Trims.{part_empty, halves_cut, halves_left, one_piece_left, less_out, less_halved, none_left}
+use Rattle.usefulness.proofs.Trims.{part_empty, halves_cut, halves_left, less_out, less_halved, none_left}
 use Rattle.usefulness.proofs.cutting.cut_part.Goals as goal
 
 pub returns-then-is_empty-clause-cut : goal.returns-then-is_empty-clause-cut

@@ -1,4 +1,4 @@
-use Rattle.std.proofs.Common.{◌≡◌, ◌<◌, true, length, Some, slice_get, ap, sym, subst, ◌∙◌, arith}
+use Rattle.std.proofs.Common.{◌≡◌, true, slice_get, ap, sym, subst, ◌∙◌, arith}
 use Rattle.pattern_matrix.specs.Sparse.{SparseLeaf}
 use Rattle.pattern_matrix.specs.Views.{plain_leaf}
 use Rattle.usefulness.specs.States.{plain_asked, apart_rows, is_noted, scope_of}

@@ -1,6 +1,5 @@
 use Rattle.std.proofs.Common.{None, Some, [], ◌∷◌, ◌++◌, sym, subst}
 use Rattle.pattern_matrix.specs.Parts.{pieces_in}
-use Rattle.std.specs.List.{All}
 use Rattle.std.proofs.lemmas.List.Elements.{All-pop}
 use Rattle.usefulness.specs.States.{is_noted}
 use Rattle.usefulness.specs.Cutting.{IsCutPart, IsCutOff, parts_left}

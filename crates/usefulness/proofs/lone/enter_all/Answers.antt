@@ -1,10 +1,10 @@
-use Rattle.std.proofs.Common.{◌≡◌, ◌<◌, ◌≤◌, ◌∙◌, length, map, refl, sym, subst, arith}
+use Rattle.std.proofs.Common.{◌<◌, ◌∙◌, length, map, refl, sym, subst, arith}
 use Rattle.std.proofs.lemmas.List.{length-map}
 use Rattle.pat_context.specs.Views.{plain_ctor}
 use Rattle.constructor_sets.specs.Columns.{plain_ctors}
 use Rattle.usefulness.specs.Listing.{AreAllListed}
-use Rattle.usefulness.specs.States.{IsApart, piece_view, is_noted, scope_of}
-use Rattle.usefulness.proofs.LoneRows.{next_gone, all_left, all_gone}
+use Rattle.usefulness.specs.States.{piece_view, is_noted}
+use Rattle.usefulness.proofs.LoneRows.{next_gone, all_left}
 use Rattle.usefulness.proofs.Looking.{none_listed, self_listed}
 use Rattle.usefulness.proofs.lone.enter_all.Goals as goal
 

@@ -1,11 +1,11 @@
-use Rattle.std.proofs.Common.{◌<◌, ◌^◌, [], ◌∷◌, ◌++◌, ap, sym, subst, arith}
+use Rattle.std.proofs.Common.{◌<◌, ◌^◌, [], ◌∷◌, ◌++◌, sym, subst, arith}
 use Rattle.pattern_arena.specs.Trees.{plain_match}
 use Rattle.pattern_matrix.specs.Searching.{work, IsSearch, first_submatrix}
 use Rattle.usefulness.specs.Keys.{told_keys}
 use Rattle.usefulness.specs.Children.{bare_sub}
 use Rattle.usefulness.specs.Scope.{scope_for}
 use Rattle.usefulness.specs.Stack.{IsGoing, IsTodo, todo_views}
-use Rattle.usefulness.specs.States.{is_noted, scope_of}
+use Rattle.usefulness.specs.States.{is_noted}
 use Rattle.usefulness.specs.Told.{IsPinned}
 use Rattle.usefulness.proofs.Beginning.{search_ends}
 use Rattle.usefulness.proofs.FirstRows.{none_long}
