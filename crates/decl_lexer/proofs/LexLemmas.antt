@@ -15,7 +15,7 @@ use Rattle.decl_lexer.specs.declared.token.LexFault.TheVariants.{Rule, NoMemory}
 use Rattle.decl_lexer.specs.Tokens.{IsFaultOf, IsKnown, FaultComesFirst, FindsFirst}
 use Rattle.decl_lexer.proofs.Rests.{EndsIn, Rests, IsPieceRule}
 use Rattle.decl_lexer.proofs.PieceRests.{piece_rests}
-use Rattle.decl_lexer.proofs.Firsts.{wide, width_parts, ahead}
+use Rattle.decl_lexer.proofs.Firsts.{wide, width_parts, ahead, IsAhead}
 use Rattle.decl_lexer.proofs.Sources.{width_is}
 
 -- a piece that is read, and its width
@@ -94,6 +94,18 @@ Continues start text at cs front = (more : List Placed) → Lexes at cs more →
 pub past_token : (start : ℕ) (text : List ℕ) (at : ℕ) (cs rest : List ℕ) (front : List Placed) (token : Placed) → Continues start text at cs front → Finds at cs (Found token rest)
     → Continues start text token.to rest (front ++ token ∷ [])
 past_token start text at cs rest front token h found more u = rw append_assoc (h _ (goes_on at cs rest token more found u))
+
+-- what stands behind a token is shorter
+pub token_shorter : (at : ℕ) (rest after : List ℕ) (token : Placed) → IsUtf8 rest → IsUtf8 after → Finds at (chars rest) (Found token (chars after)) → length after < length rest
+token_shorter at rest after token u v found =
+    let known : IsAhead at (chars rest) token (chars after) = ahead _ _ _ found in
+    omega (arith, known.begins, known.some, known.place, width_is after v, width_is rest u)
+
+-- a token stands where the text does
+pub token_place : (at : ℕ) (rest after : List ℕ) (token : Placed) → IsUtf8 rest → IsUtf8 after → Finds at (chars rest) (Found token (chars after)) → token.to + length after ≡ at + length rest
+token_place at rest after token u v found =
+    let known : IsAhead at (chars rest) token (chars after) = ahead _ _ _ found in
+    omega (arith, known.place, width_is after v, width_is rest u)
 
 -- the start of a source
 pub record IsStart (source text rest : List ℕ) : Type 0 where

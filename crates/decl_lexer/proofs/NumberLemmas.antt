@@ -1,5 +1,5 @@
 -- One digit further in a number.
-use Rattle.std.proofs.Common.{◌≡◌, ◌≢◌, ℕ, ◌+◌, ◌*◌, ◌<◌, true, false, ◌||◌, ◌==◌, nat_le, List, ◌∷◌, refl}
+use Rattle.std.proofs.Common.{◌≡◌, ◌≢◌, ℕ, ◌+◌, ◌*◌, ◌<◌, true, false, ◌||◌, ◌==◌, nat_le, List, ◌∷◌, refl, subst, arith}
 use Rattle.std.proofs.lemmas.Bool.{eqb-true, lt-ltb}
 use Rattle.std.specs.Char.{digit_value, is_digit}
 use Rattle.decl_lexer.specs.Numbers.{behind_digits, has_digit, has_other_digit, number_from}
@@ -22,3 +22,6 @@ digit_step radix base c all cs e ne less =
       others = rw (e, plain, digit) refl;
       rest = rw (e, plain, digit) refl;
     }
+
+pub no_underscore : (c : ℕ) → digit_value c < 10 → c ≢ 95
+no_underscore c less same = let false_one : 36 < 10 = subst (λ (d : ℕ). digit_value d < 10) same less in absurd (omega arith)

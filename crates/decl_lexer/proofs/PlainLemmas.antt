@@ -1,17 +1,20 @@
 -- What a text begins with whose first character tells it.
-use Rattle.std.proofs.Common.{◌≡◌, ℕ, zero, suc, ◌<◌, ◌≤◌, Bool, true, false, not, ◌&&◌, ◌||◌, ◌==◌, List, ◌∷◌, refl, ap, ◌∙◌, inl, inr, arith}
+use Rattle.std.proofs.Common.{◌≡◌, ℕ, zero, suc, ◌<◌, ◌≤◌, Bool, true, false, not, ◌&&◌, ◌||◌, ◌==◌, ◌^◌, nat_lt, List, [], ◌∷◌, Some, refl, sym, ap, ◌∙◌, inl, inr, arith}
 use Rattle.std.proofs.Math.Nat.{eq-or-lt_of_le}
 use Rattle.std.specs.Char.{is_ascii_alphabetic, is_digit}
 use Rattle.std.specs.List.{take_while}
-use Rattle.unicode_ident.specs.Ident.{is_xid_continue}
+use Rattle.std.proofs.lemmas.Bool.{lt-ltb, le-ltb, cases_lt, both_ways}
+use Rattle.unicode_ident.specs.Ident.{is_xid_start, is_xid_continue}
 use Rattle.unicode_ident.proofs.IdentLemmas.{is_xid_start-ascii}
 use Rattle.decl_lexer.specs.Gaps.{is_space}
 use Rattle.decl_lexer.specs.Marks.{mark_at}
-use Rattle.decl_lexer.specs.Begins.{Lexeme, token}
-use Rattle.decl_lexer.specs.Text.{skip_while}
+use Rattle.decl_lexer.specs.Begins.{Begins, Lexeme, Integer, token, first_case}
+use Rattle.decl_lexer.specs.Numbers.{behind_digits, number_from, in_128_bits, decimal_cases, decimal_at, integer_at}
+use Rattle.decl_lexer.specs.Text.{skip_while, is_underscore}
 use Rattle.decl_lexer.specs.Names.{is_name_start, name_at, lexeme_of}
 use Rattle.decl_lexer.specs.Pieces.{piece_at}
-use Rattle.decl_lexer.specs.Plain.{is_plain_start, is_plain_mark}
+use Rattle.decl_lexer.specs.Plain.{is_plain_start, is_plain_digit, ends_number, starts_other, is_plain_mark}
+use Rattle.decl_lexer.proofs.NameLemmas.{start_continues}
 
 -- the test holds of each number below this one
 abbrev holds_below : (ℕ → Bool) → ℕ → Bool
@@ -73,6 +76,68 @@ plain_name_first c cs lt plain =
 pub plain_name_gives : (c : ℕ) (cs text name after : List ℕ) (lexeme : Lexeme) → text ≡ c ∷ cs → c < 128 → is_plain_start c ≡ true → lexeme ≡ lexeme_of name
     → name ≡ take_while is_xid_continue text → after ≡ skip_while is_xid_continue text → piece_at c cs ≡ token lexeme after
 plain_name_gives c cs text name after lexeme e lt plain l n a = rw (l, n, a, e) (plain_name_first c cs lt plain)
+
+-- a name goes on behind its first character
+pub plain_name_behind : (c : ℕ) (cs text : List ℕ) → text ≡ c ∷ cs → c < 128 → is_plain_start c ≡ true → skip_while is_xid_continue cs ≡ skip_while is_xid_continue text
+plain_name_behind c cs text e lt plain =
+    let k = both (begins_other c) (begins_name c) (follows (is_plain_start c) (begins_other c && begins_name c) (holds_at name_test 128 c refl lt) plain) in
+    let start = both (is_ascii_alphabetic c || c == 95) _ k.1 in
+    let continues : is_xid_continue c ≡ true = start_continues c (starts_ascii c lt ∙ start.0) in
+    rw (e, continues) refl
+
+abbrev digit_test : ℕ → Bool
+digit_test c = not (is_plain_digit c) || (not (is_space c) && (not (c == 47) && (is_digit c 10 && not (c == 48))))
+
+pub plain_digit_first : (c : ℕ) (cs : List ℕ) → c < 128 → is_plain_digit c ≡ true → piece_at c cs ≡ decimal_at (c ∷ cs)
+unfolding piece_at
+plain_digit_first c cs lt plain =
+    let k = follows (is_plain_digit c) _ (holds_at digit_test 128 c refl lt) plain in
+    let space = both (not (is_space c)) _ k in
+    let slash = both (not (c == 47)) _ space.1 in
+    let digit = both (is_digit c 10) (not (c == 48)) slash.1 in
+    rw (not_true _ space.0, not_true _ slash.0, digit.0, not_true _ digit.1) refl
+
+abbrev end_test : ℕ → Bool
+end_test c =
+    not (ends_number c) || (not (c == 95) && (not (is_digit c 10) && (not (c == 46) && (not (c == 101) && (not (c == 69) && not (is_ascii_alphabetic c))))))
+
+end_ascii : (c : ℕ) → ends_number c ≡ true → c < 128
+end_ascii c h =
+    elim (cases_lt c 128) [
+      | inl lt ↦ lt
+      | inr beyond ↦
+          let above : nat_lt c 128 ≡ false = le-ltb c 128 beyond in
+          let no : ends_number c ≡ false = rw above refl in
+          absurd (both_ways (ends_number c) no h)
+    ]
+
+-- what is a number of n where this stands behind its digits
+abbrev decided : List ℕ → ℕ → List ℕ → Begins
+decided text n behind = first_case (decimal_cases text behind) (integer_at text (in_128_bits n) true behind)
+
+small : (n : ℕ) → n < 2 ^ 32 → in_128_bits n ≡ Some n
+small n lt = rw (lt-ltb n (2 ^ 128) (omega arith)) refl
+
+decided_plain : (text rest : List ℕ) (n : ℕ) → n < 2 ^ 32 → starts_other rest ≡ true → decided text (number_from 10 10 n rest) (behind_digits 10 rest) ≡ token (Integer (Some n) [] true) rest
+decided_plain text [] n lt h = rw (small n lt) refl
+decided_plain text (c ∷ cs) n lt h =
+    let ends : ends_number c ≡ true = h in
+    let ascii : c < 128 = end_ascii c ends in
+    let k = follows (ends_number c) _ (holds_at end_test 128 c refl ascii) ends in
+    let mark = both (not (c == 95)) _ k in
+    let digit = both (not (is_digit c 10)) _ mark.1 in
+    let point = both (not (c == 46)) _ digit.1 in
+    let exponent = both (not (c == 101)) _ point.1 in
+    let others = both (not (c == 69)) (not (is_ascii_alphabetic c)) exponent.1 in
+    let mark_no : is_underscore c ≡ false = not_true _ mark.0 in
+    let start : is_xid_start c ≡ false = is_xid_start-ascii c ascii ∙ not_true _ others.1 in
+    rw (not_true _ mark.0, not_true _ digit.0, not_true _ point.0, not_true _ exponent.0, not_true _ others.0, start, mark_no, small n lt) refl
+
+-- digits that nothing goes on are a number
+pub plain_decimal : (text rest : List ℕ) (n : ℕ) → n < 2 ^ 32 → starts_other rest ≡ true → number_from 10 10 n rest ≡ number_from 10 10 0 text → behind_digits 10 rest ≡ behind_digits 10 text
+    → decimal_at text ≡ token (Integer (Some n) [] true) rest
+plain_decimal text rest n lt h number behind =
+    ap (λ (m : ℕ). decided text m (behind_digits 10 text)) (sym number) ∙ ap (λ (b : List ℕ). decided text (number_from 10 10 n rest) b) (sym behind) ∙ decided_plain text rest n lt h
 
 pub plain_mark_first : (c : ℕ) (cs : List ℕ) → c < 128 → is_plain_mark c ≡ true → piece_at c cs ≡ mark_at (c ∷ cs)
 unfolding piece_at

@@ -10,9 +10,7 @@ use Rattle.indexmap.specs.IndexSet.{insert_key}
 use Rattle.decl_lexer.specs.Lexing.{Placed}
 use Rattle.decl_lexer.specs.declared.stored.Lists.{Lists}
 use Rattle.decl_lexer.specs.declared.stored.Stored.{Stored}
-use Rattle.decl_lexer.specs.declared.read.ReadToken.{ReadToken}
 use Rattle.decl_lexer.specs.Begins.{Named}
-use Rattle.decl_lexer.specs.Views.{read_view, read_token_view}
 use Rattle.decl_lexer.specs.Stored.{lexeme_in, name_entry, placed_in, Grew, Grows, IsEntry}
 
 get_front : {A : Type 0} (xs ys : List A) (i : ℕ) (x : A) → slice_get xs i ≡ Some x → slice_get (xs ++ ys) i ≡ Some x
@@ -87,11 +85,11 @@ one_more lists between longer stored t placed whole g h shown =
 pub name_shown : (keys longer : List (RcStr Global)) (bytes : List ℕ) (n : ℕ) (raw : Bool) → IsEntry bytes (slice_get keys n) → Grew keys longer → name_entry raw (slice_get longer n) ≡ Named bytes raw
 name_shown keys longer bytes n raw e g = ap (name_entry raw) (get_in_longer keys longer n e.0 g e.1) ∙ ap (λ b. Named b raw) e.2
 
--- a token that was read is the last one
-pub pushed : (lists between longer : Lists) (stored new : List Stored) (t : Stored) (token : ReadToken) →
+-- a token that was added is the last one
+pub pushed : (lists between longer : Lists) (stored new : List Stored) (t : Stored) (token : Placed) →
     ((l : Lists) → Grows lists l → map (placed_in l) stored ≡ map (placed_in lists) stored) →
-    Grows lists between → Grows between longer → new ≡ stored ++ t ∷ [] → lexeme_in longer t.kind ≡ read_view token.kind → t.from ≡ token.from → t.to ≡ token.to →
-    map (placed_in longer) new ≡ map (placed_in lists) stored ++ read_token_view token ∷ []
+    Grows lists between → Grows between longer → new ≡ stored ++ t ∷ [] → lexeme_in longer t.kind ≡ token.lexeme → t.from ≡ token.from → t.to ≡ token.to →
+    map (placed_in longer) new ≡ map (placed_in lists) stored ++ token ∷ []
 pushed lists between longer stored new t token whole g h e kind from to =
-    let shown : placed_in longer t ≡ read_token_view token = rw (kind, from, to) refl in
-    ap (map (placed_in longer)) e ∙ one_more lists between longer stored t (read_token_view token) whole g h shown
+    let shown : placed_in longer t ≡ token = rw (kind, from, to) refl in
+    ap (map (placed_in longer)) e ∙ one_more lists between longer stored t token whole g h shown

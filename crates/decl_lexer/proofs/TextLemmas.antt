@@ -1,11 +1,26 @@
 -- Cutting a text before the characters that do not pass.
-use Rattle.std.proofs.Common.{◌≡◌, ℕ, ◌-◌, ◌≤◌, ◌<◌, Bool, true, false, cond, List, [], ◌∷◌, ◌++◌, length, take, refl, sym, ap, ◌∙◌, chars, encode_utf8_all, arith, subst}
+use Rattle.std.proofs.Common.{◌≡◌, ℕ, ◌-◌, ◌≤◌, ◌<◌, Bool, true, false, cond, List, [], ◌∷◌, ◌++◌, Some, length, take, drop, encode_utf8, refl, sym, ap, ◌∙◌, chars, encode_utf8_all, arith, subst}
 use Rattle.std.specs.Str.{IsUtf8, IsCharBoundary}
+use Rattle.std.specs.Prelude.{slice_get}
 use Rattle.std.specs.List.{take_while}
-use Rattle.std.proofs.lemmas.Str.{length-le-encodes, chars-append, encodes-append, encodes-chars, IsCharBoundary-at_seam}
+use Rattle.std.proofs.lemmas.Str.{encode_ascii, chars_past_char, IsCharBoundary-after_ascii, length-le-encodes, chars-append, encodes-append, encodes-chars, IsCharBoundary-at_seam}
 use Rattle.std.proofs.lemmas.List.{append_cancel_right, length-append, take_at}
 use Rattle.std.proofs.lemmas.List.Sums.{take_while-cons}
 use Rattle.decl_lexer.specs.Text.{skip_while, first_passes}
+
+-- a text that begins with a byte of ASCII begins with that character, and may be cut behind it
+pub past_ascii : (text rest : List ℕ) (c : ℕ) → IsUtf8 text → slice_get text 0 ≡ Some c → c < 128 → rest ≡ drop 1 text → chars text ≡ c ∷ chars rest
+past_ascii [] rest c u h lt e = absurd cc
+past_ascii (b ∷ bs) rest c u h lt e =
+    let first : b ≡ c = cc in
+    let parts : b ∷ bs ≡ encode_utf8 c ++ rest = rw (encode_ascii c lt, e, first) refl in
+    chars_past_char (b ∷ bs) rest c u parts
+
+pub cut_ascii : (text : List ℕ) (c : ℕ) → IsUtf8 text → slice_get text 0 ≡ Some c → c < 128 → IsCharBoundary text 1
+cut_ascii [] c u h lt = absurd cc
+cut_ascii (b ∷ bs) c u h lt =
+    let first : b ≡ c = cc in
+    IsCharBoundary-after_ascii (b ∷ bs) 0 u (omega arith) (rw first lt)
 
 pub take-skip_while : (p : ℕ → Bool) (cs : List ℕ) → take_while p cs ++ skip_while p cs ≡ cs
 take-skip_while p [] = refl

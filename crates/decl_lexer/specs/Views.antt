@@ -1,5 +1,5 @@
 -- What a caller sees of pieces and of answers.
-use Rattle.std.specs.Prelude.{◌≡◌, ℕ, true, List, [], Some, chars, String, string_bytes, Result, Ok, Err}
+use Rattle.std.specs.Prelude.{◌≡◌, ℕ, true, false, List, [], Some, chars, String, string_bytes, Result, Ok, Err}
 use Rattle.std.specs.Rc.{rc_str_bytes}
 use denote.Ref.{Bor}
 use Rattle.std.specs.declared.alloc.Global.{Global}
@@ -10,6 +10,9 @@ use Rattle.decl_lexer.specs.declared.token.Token as seen
 use Rattle.decl_lexer.specs.declared.read.ReadKind.{ReadKind}
 use Rattle.decl_lexer.specs.declared.read.ReadKind.TheVariants as read
 use Rattle.decl_lexer.specs.declared.read.ReadToken.{ReadToken}
+use Rattle.decl_lexer.specs.declared.read.PlainKind.{PlainKind}
+use Rattle.decl_lexer.specs.declared.read.PlainKind.TheVariants as plain
+use Rattle.decl_lexer.specs.declared.read.PlainToken.{PlainToken}
 use Rattle.decl_lexer.specs.Lexing.{Placed}
 use Rattle.decl_lexer.specs.declared.pieces.Piece as declared
 use Rattle.decl_lexer.specs.declared.pieces.Piece.TheVariants as pieces
@@ -64,6 +67,17 @@ read_view read.CStr = CText
 -- the same with its place
 abbrev pub read_token_view : ReadToken → Placed
 read_token_view t = record { lexeme = read_view t.kind; from = t.from; to = t.to }
+
+-- the same of a token that its first character tells
+abbrev pub plain_view : PlainKind → Lexeme
+plain_view (plain.Mark mark) = Marked mark
+plain_view (plain.Word word) = Keyword word
+plain_view (plain.Name text) = Named text.now false
+plain_view (plain.Small value) = Integer (Some value) [] true
+
+-- the same with its place
+abbrev pub plain_token_view : PlainToken → Placed
+plain_token_view t = record { lexeme = plain_view t.kind; from = t.from; to = t.to }
 
 -- a piece, without where its text lies in memory
 abbrev pub piece_view : declared.Piece → Piece

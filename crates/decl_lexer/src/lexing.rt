@@ -1,15 +1,17 @@
 //! The tokens of a source, one after the other.
-ghost use Rattle.std.specs.Prelude.{◌≡◌, ◌<◌, ◌≤◌, ◌+◌, ◌^◌, length, IfOk, IfErr, chars, string_bytes, encode_utf8_all};
+ghost use Rattle.std.specs.Prelude.{◌≡◌, ◌<◌, ◌≤◌, ◌+◌, ◌^◌, length, IfOk, IfErr, IfSome, chars, string_bytes, encode_utf8_all};
 ghost use Rattle.unicode_normalization.specs.Forms.{nfc};
-ghost use Rattle.decl_lexer.specs.Lexing.{First, Finds, HasTokens, without_mark, mark_width, AreInOrder};
+ghost use Rattle.decl_lexer.specs.Lexing.{First, Finds, Found, HasTokens, without_mark, mark_width, AreInOrder};
 ghost use Rattle.decl_lexer.specs.Stored.{tokens_view};
+ghost use Rattle.decl_lexer.specs.Views.{plain_token_view};
 ghost use Rattle.decl_lexer.specs.Tokens.{IsFaultOf, IsKnown, FindsFirst};
 
 use crate::gaps::{is_space, skip_spaces};
 use crate::names::in_nfc;
 use crate::pieces::{Piece, PieceError, piece_at};
-use crate::plain::plain_token;
-use crate::read::ReadToken;
+use crate::plain::plain_kind;
+use crate::read::{PlainToken, ReadToken};
+use crate::recent::Recent;
 use crate::stored::Tokens;
 use crate::text::split_first;
 use crate::token::LexFault;
@@ -37,20 +39,25 @@ pub fn lex(alloc: Global, source: &[u8]) -> Result<Tokens, LexFault>
         }
     };
     let mut tokens = Tokens::new(alloc);
+    let mut recent = Recent::new();
     let mut rest = skip_mark(text);
     let mut at = (text.len() - rest.len()) as u64;
     'tokens: loop {
-        let found = match next_token(alloc, at, rest) {
-            Ok(found) => found,
-            Err(fault) => return Err(fault),
-        };
-        match found {
-            Some((token, behind)) => {
+        let (from, behind) = behind_spaces(at, rest);
+        if let Some((token, after)) = plain_token(from, behind) {
+            at = token.to;
+            rest = after;
+            tokens.push_plain(alloc, &mut recent, token)?;
+            continue;
+        }
+        match first_token(alloc, from, behind) {
+            Ok(Some((token, after))) => {
                 at = token.to;
-                rest = behind;
+                rest = after;
                 tokens.push(alloc, token)?;
             }
-            None => return Ok(tokens),
+            Ok(None) => return Ok(tokens),
+            Err(fault) => return Err(fault),
         }
     }
 }
@@ -67,16 +74,6 @@ pub fn name_form(alloc: Global, text: &str) -> Result<String, NoMemory>
     }
 }
 
-/// The first token of the rest, which begins at byte `at` of its source, and the text behind the token.
-#[inline(always)]
-fn next_token(alloc: Global, at: u64, rest: &str) -> Result<Option<(ReadToken<'_>, &str)>, LexFault>
-    requires { at + length rest.now < 2 ^ 64 }
-    ensures { FindsFirst at (chars rest.now) result }
-{
-    let (from, behind) = behind_spaces(at, rest);
-    token_at(alloc, from, behind)
-}
-
 /// The rest from its first character on that is no whitespace, and where that begins.
 #[inline(always)]
 fn behind_spaces(at: u64, rest: &str) -> (u64, &str)
@@ -84,6 +81,9 @@ fn behind_spaces(at: u64, rest: &str) -> (u64, &str)
     ensures first { (x : First) → Finds result.0 (chars result.1.now) x → Finds at (chars rest.now) x }
     ensures place { result.0 + length result.1.now ≡ at + length rest.now }
 {
+    if let Some(b'!'..=b'~') = rest.as_bytes().first() {
+        return (at, rest);
+    }
     match split_first(rest) {
         Some((first, behind)) if is_space(first) => {
             let after = skip_spaces(behind);
@@ -93,24 +93,17 @@ fn behind_spaces(at: u64, rest: &str) -> (u64, &str)
     }
 }
 
-/// The first token of the rest, which begins at byte `at` of its source, and the text behind the token. A token that its
-/// first character tells is read at once.
+/// The first token of the rest, which begins at byte `at` of its source, and the text behind the token, where its first
+/// character tells it.
 #[inline(always)]
-fn token_at(alloc: Global, at: u64, rest: &str) -> Result<Option<(ReadToken<'_>, &str)>, LexFault>
+fn plain_token(at: u64, rest: &str) -> Option<(PlainToken<'_>, &str)>
     requires { at + length rest.now < 2 ^ 64 }
-    ensures { FindsFirst at (chars rest.now) result }
+    ensures { IfSome result (λ p. Finds at (chars rest.now) (Found (plain_token_view p.0) (chars p.1.now))) }
 {
-    let Some((first, behind)) = split_first(rest) else {
-        return Ok(None);
-    };
-    match plain_token(alloc, rest, first, behind) {
-        Ok(Some((kind, after))) => {
-            let to = at + (rest.len() - after.len()) as u64;
-            Ok(Some((ReadToken { kind, from: at, to }, after)))
-        }
-        Ok(None) => first_token(alloc, at, rest),
-        Err(_) => Err(LexFault::NoMemory),
-    }
+    let (first, behind) = split_first(rest)?;
+    let (kind, after) = plain_kind(rest, first, behind)?;
+    let to = at + (rest.len() - after.len()) as u64;
+    Some((PlainToken { kind, from: at, to }, after))
 }
 
 /// The first token of the rest, which begins at byte `at` of its source, and the text behind the token.

@@ -22,6 +22,7 @@ mod numbers;
 mod pieces;
 mod plain;
 mod read;
+mod recent;
 mod stored;
 mod text;
 mod texts;

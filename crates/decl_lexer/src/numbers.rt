@@ -1,9 +1,10 @@
 //! Integer and floating-point literals.
-ghost use Rattle.std.specs.Prelude.{◌≡◌, ◌+◌, ◌*◌, ◌<◌, ◌≤◌, ◌∷◌, ℕ, drop, chars, encode_utf8_all, IfOk, IfSome, MatchOption, Ok, Some, true, false};
+ghost use Rattle.std.specs.Prelude.{◌≡◌, ◌+◌, ◌*◌, ◌<◌, ◌≤◌, ◌∷◌, ℕ, drop, chars, encode_utf8_all, IfOk, IfSome, MatchOption, Ok, Some, [], true, false};
 ghost use Rattle.std.specs.Char.{is_digit};
 ghost use Rattle.decl_lexer.specs.Text.{first_passes};
 ghost use Rattle.decl_lexer.specs.Numbers.{behind_digits, has_digit, has_other_digit, number_from, in_128_bits, suffix_of, behind_suffix, is_exponent_letter, behind_sign, has_exponent, behind_exponent, integer_at, based_at, float_at, fraction_at, is_point, decimal_at, number_at};
-ghost use Rattle.decl_lexer.specs.Begins.{Integer};
+ghost use Rattle.decl_lexer.specs.Begins.{Integer, token};
+ghost use Rattle.decl_lexer.specs.Plain.{ends_number, starts_other};
 ghost use Rattle.decl_lexer.specs.Views.{GivesPiece, read_view};
 
 use crate::names::{is_name_start, starts_name};
@@ -47,6 +48,60 @@ pub fn number_at<'a>(
         return based_at(alloc, 10, 2, text, skip_first(behind));
     }
     decimal_at(alloc, text)
+}
+
+/// The number that the text begins with, and the text behind it, where it is decimal digits alone and few of them. Else `None`.
+#[inline(always)]
+pub fn plain_number(text: &str) -> Option<(u32, &str)>
+    ensures { IfSome result (λ p. decimal_at (chars text.now) ≡ token (Integer (Some p.0) [] true) (chars p.1.now)) }
+{
+    let (number, rest) = few_digits(text)?;
+    if starts_other(rest) {
+        Some((number, rest))
+    } else {
+        None
+    }
+}
+
+/// The number that the decimal digits write that the text begins with, and the text behind them. From some 4 * 10^9 on,
+/// `None`.
+#[inline(always)]
+fn few_digits(text: &str) -> Option<(u32, &str)>
+    ensures number { IfSome result (λ p. number_from 10 10 p.0 (chars p.1.now) ≡ number_from 10 10 0 (chars text.now)) }
+    ensures rest { IfSome result (λ p. behind_digits 10 (chars p.1.now) ≡ behind_digits 10 (chars text.now)) }
+{
+    let mut number = 0u32;
+    let mut rest = text;
+    while let Some((first, behind)) = split_first(rest) {
+        let Some(digit) = first.to_digit(10) else {
+            break;
+        };
+        if 400_000_000 < number {
+            return None;
+        }
+        number = 10 * number + digit;
+        rest = behind;
+    }
+    Some((number, rest))
+}
+
+/// Whether the text is empty or begins with a character that goes on no number.
+#[inline(always)]
+fn starts_other(text: &str) -> bool
+    ensures { result ≡ starts_other (chars text.now) }
+{
+    match split_first(text) {
+        Some((first, _)) => ends_number(first),
+        None => true,
+    }
+}
+
+/// Whether the character is of ASCII, and no letter or digit, `_` or `.`.
+#[inline(always)]
+fn ends_number(c: char) -> bool
+    ensures { result ≡ ends_number c }
+{
+    c < '\u{80}' && !c.is_ascii_alphanumeric() && c != '_' && c != '.'
 }
 
 /// An integer with a prefix for its base at the start of the text, behind which `inside` stands.

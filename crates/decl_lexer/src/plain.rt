@@ -1,36 +1,57 @@
 //! Tokens that their first character tells.
-ghost use Rattle.std.specs.Prelude.{◌≡◌, ◌<◌, ◌∷◌, IfOk, IfSome, true, chars};
+ghost use Rattle.std.specs.Prelude.{◌≡◌, ◌<◌, ◌∷◌, IfSome, true, chars};
 ghost use Rattle.decl_lexer.specs.Begins.{Marked, token};
 ghost use Rattle.decl_lexer.specs.Marks.{mark_at};
+ghost use Rattle.decl_lexer.specs.Names.{lexeme_of};
 ghost use Rattle.decl_lexer.specs.Pieces.{piece_at};
-ghost use Rattle.decl_lexer.specs.Plain.{is_plain_start, is_plain_mark, GivesPlain};
+ghost use Rattle.decl_lexer.specs.Plain.{is_plain_start, is_plain_digit, is_plain_mark, GivesPlain};
+ghost use Rattle.decl_lexer.specs.Views.{plain_view};
 
 use crate::marks::Mark;
-use crate::names::kind_of;
-use crate::read::ReadKind;
-use crate::text::{split_first, split_name};
-use std::alloc::{AllocError, Global};
+use crate::numbers::plain_number;
+use crate::read::PlainKind;
+use crate::text::{name_before, skip_name, split_first};
+use crate::words::word_of;
 
 /// The token that the text begins with, and the text behind it, where its first character tells of what kind it is. Where
-/// that tells nothing, `None`. `behind` is the text behind that character.
+/// that tells nothing, `None`, and so for a name that is not in ASCII. `behind` is the text behind that character.
 #[inline(always)]
-pub fn plain_token<'a>(
-    alloc: Global,
+pub fn plain_kind<'a>(
     text: &'a str,
     first: char,
     behind: &'a str,
-) -> Result<Option<(ReadKind<'a>, &'a str)>, AllocError>
+) -> Option<(PlainKind<'a>, &'a str)>
     requires { chars text.now ≡ first ∷ chars behind.now }
-    ensures { IfOk result (GivesPlain (piece_at first (chars behind.now))) }
+    ensures { GivesPlain (piece_at first (chars behind.now)) result }
 {
     if starts_plain_name(first) {
-        let (name, after) = split_name(text);
-        let kind = kind_of(alloc, name)?;
-        return Ok(Some((kind, after)));
+        let after = skip_name(behind);
+        let kind = name_kind(name_before(text, after))?;
+        return Some((kind, after));
     }
-    match plain_mark(first, behind) {
-        Some((mark, after)) => Ok(Some((ReadKind::Mark(mark), after))),
-        None => Ok(None),
+    if starts_plain_number(first) {
+        let (number, after) = plain_number(text)?;
+        return Some((PlainKind::Small(number), after));
+    }
+    let (mark, after) = plain_mark(first, behind)?;
+    Some((PlainKind::Mark(mark), after))
+}
+
+/// What a name is, where it is in ASCII: a keyword, the mark `_`, or a name.
+#[inline(always)]
+fn name_kind(name: &str) -> Option<PlainKind<'_>>
+    ensures { IfSome result (λ kind. plain_view kind ≡ lexeme_of (chars name.now)) }
+{
+    if name == "_" {
+        return Some(PlainKind::Mark(Mark::Underscore));
+    }
+    if let Some(word) = word_of(name) {
+        return Some(PlainKind::Word(word));
+    }
+    if name.is_ascii() {
+        Some(PlainKind::Name(name))
+    } else {
+        None
     }
 }
 
@@ -42,6 +63,15 @@ fn starts_plain_name(c: char) -> bool
     ensures ascii { result ≡ true → c < 128 }
 {
     matches!(c, 'a' | 'd'..='q' | 's'..='z' | 'A'..='Z' | '_')
+}
+
+/// Whether a text that begins with the character begins with a decimal number, whatever stands behind it.
+#[inline(always)]
+fn starts_plain_number(c: char) -> bool
+    ensures value { result ≡ is_plain_digit c }
+    ensures ascii { result ≡ true → c < 128 }
+{
+    matches!(c, '1'..='9')
 }
 
 /// The mark that a text begins with, and the text behind it, for the first characters that most marks begin with.

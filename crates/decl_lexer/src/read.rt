@@ -3,6 +3,25 @@ use crate::marks::Mark;
 use crate::token::IntToken;
 use crate::words::Word;
 
+/// A token that its first character tells.
+#[derive(Clone, Copy, Debug)]
+pub enum PlainKind<'a> {
+    Mark(Mark),
+    Word(Word),
+    /// A name in ASCII, as it stands in the source.
+    Name(&'a str),
+    /// A decimal integer below 2^32 without a suffix.
+    Small(u32),
+}
+
+/// Such a token, and its place: the byte offsets in the file where it begins and where it ends.
+#[derive(Clone, Copy, Debug)]
+pub struct PlainToken<'a> {
+    pub kind: PlainKind<'a>,
+    pub from: u64,
+    pub to: u64,
+}
+
 /// A token that was read, and its place: the byte offsets in the file where it begins and where it ends.
 #[derive(Debug, Drop)]
 pub struct ReadToken<'a> {

@@ -1,12 +1,13 @@
 //! Tokens as they are kept: 16 bytes each, with their texts in lists beside them.
 ghost use Rattle.std.specs.Prelude.{◌≡◌, ◌++◌, ◌∷◌, [], length, string_bytes, slice_get, option_map, IfOk, OnOk, MatchOption};
 ghost use Rattle.std.specs.Rc.{rc_str_bytes};
-ghost use Rattle.decl_lexer.specs.Views.{read_view, lexeme_view, token_view, read_token_view};
+ghost use Rattle.decl_lexer.specs.Views.{read_view, plain_view, lexeme_view, token_view, read_token_view, plain_token_view};
 ghost use Rattle.decl_lexer.specs.Begins.{mark_of, keyword_of, name_of};
 ghost use Rattle.decl_lexer.specs.Stored.{lexeme_in, Grew, Grows, IsEntry, Shows, IsWhole, tokens_view, rest_view, first_is, first_as, mark_and_end, name_entry, large_entry, integer_entry, text_entry};
 
 use crate::marks::Mark;
-use crate::read::{ReadKind, ReadToken};
+use crate::read::{PlainKind, PlainToken, ReadKind, ReadToken};
+use crate::recent::{Recent, place};
 use crate::token::{IntToken, Name, Token, TokenKind};
 use crate::words::Word;
 use indexmap::IndexSet;
@@ -128,6 +129,28 @@ fn put_name(alloc: Global, names: &mut IndexSet<Name>, text: &str) -> Result<u32
     Ok(number)
 }
 
+/// The same, where the place of the name is asked first at which one like it was found of late.
+fn put_recent(
+    alloc: Global,
+    recent: &mut Recent,
+    names: &mut IndexSet<Name>,
+    text: &str,
+) -> Result<u32, NoMemory>
+    ensures grew { OnOk result (Grew names.old.keys names.new.keys) }
+    ensures entry { IfOk result (λ n. IsEntry text.now (slice_get names.new.keys n)) }
+{
+    let place = place(text);
+    let number = recent.number(place);
+    if let Some(name) = names.get_index(number as usize) {
+        if name.as_str() == text {
+            return Ok(number);
+        }
+    }
+    let number = put_name(alloc, names, text)?;
+    recent.put(place, number);
+    Ok(number)
+}
+
 impl Lists {
     /// No entries.
     fn new(alloc: Global) -> Lists {
@@ -171,6 +194,28 @@ impl Lists {
             ReadKind::Byte(byte) => Ok(StoredKind::Byte(byte)),
             ReadKind::ByteStr => Ok(StoredKind::ByteStr),
             ReadKind::CStr => Ok(StoredKind::CStr),
+        }
+    }
+
+    /// Keeps what a token is that its first character told.
+    #[inline(always)]
+    fn keep_plain(
+        &mut self,
+        alloc: Global,
+        recent: &mut Recent,
+        kind: PlainKind<'_>,
+    ) -> Result<StoredKind, NoMemory>
+        ensures grows { OnOk result (Grows self.old self.new) }
+        ensures shows { IfOk result (λ k. Shows self.new k (plain_view kind.entry)) }
+    {
+        match kind {
+            PlainKind::Mark(mark) => Ok(StoredKind::Mark(mark)),
+            PlainKind::Word(word) => Ok(StoredKind::Word(word)),
+            PlainKind::Small(number) => Ok(StoredKind::Small(number)),
+            PlainKind::Name(text) => {
+                let number = put_recent(alloc, recent, &mut self.names, text)?;
+                Ok(StoredKind::Name(number))
+            }
         }
     }
 
@@ -270,6 +315,25 @@ impl Tokens {
         let from = narrow(token.from)?;
         let to = narrow(token.to)?;
         let kind = self.lists.keep(alloc, token.kind)?;
+        self.stored.push(Stored { kind, from, to })?;
+        Ok(())
+    }
+
+    /// Appends a token that its first character told. Places and entries from 2^32 on are want of memory.
+    #[inline(always)]
+    pub(crate) fn push_plain(
+        &mut self,
+        alloc: Global,
+        recent: &mut Recent,
+        token: PlainToken<'_>,
+    ) -> Result<(), NoMemory>
+        requires { IsWhole self.old }
+        ensures view { OnOk result (tokens_view self.new ≡ tokens_view self.old ++ plain_token_view token.entry ∷ []) }
+        ensures whole { OnOk result (IsWhole self.new) }
+    {
+        let from = narrow(token.from)?;
+        let to = narrow(token.to)?;
+        let kind = self.lists.keep_plain(alloc, recent, token.kind)?;
         self.stored.push(Stored { kind, from, to })?;
         Ok(())
     }

@@ -4,8 +4,21 @@ ghost use Rattle.std.specs.List.{take_while};
 ghost use Rattle.decl_lexer.specs.Text.{skip_while, begins_with};
 ghost use Rattle.unicode_ident.specs.Ident.{is_xid_continue};
 
-/// The first character, and the text behind it.
+/// The first character, and the text behind it. A character of ASCII is its byte, which is not decoded.
+#[inline(always)]
 pub fn split_first(text: &str) -> Option<(char, &str)>
+    ensures cases { MatchOption result (chars text.now ≡ []) (λ p. chars text.now ≡ p.0 ∷ chars p.1.now) }
+    ensures shorter { IfSome result (λ p. length p.1.now < length text.now) }
+{
+    match text.as_bytes().first() {
+        Some(&first) if first < 128 => Some((first as char, &text[1..])),
+        _ => split_decoded(text),
+    }
+}
+
+/// The first character, which is decoded, and the text behind it.
+#[inline(never)]
+fn split_decoded(text: &str) -> Option<(char, &str)>
     ensures cases { MatchOption result (chars text.now ≡ []) (λ p. chars text.now ≡ p.0 ∷ chars p.1.now) }
     ensures shorter { IfSome result (λ p. length p.1.now < length text.now) }
 {
@@ -70,6 +83,16 @@ pub fn skip_name(text: &str) -> &str
     rest
 }
 
+/// The identifier characters that the text begins with; `rest` is the text behind them.
+#[inline(always)]
+pub fn name_before<'a>(text: &'a str, rest: &str) -> &'a str
+    requires { chars rest.now ≡ skip_while is_xid_continue (chars text.now) }
+    ensures name { chars result.now ≡ take_while is_xid_continue (chars text.now) }
+    ensures bytes { result.now ≡ encode_utf8_all (take_while is_xid_continue (chars text.now)) }
+{
+    &text[..text.len() - rest.len()]
+}
+
 /// Cuts the text behind the identifier characters that it begins with.
 #[inline(always)]
 pub fn split_name(text: &str) -> (&str, &str)
@@ -78,6 +101,5 @@ pub fn split_name(text: &str) -> (&str, &str)
     ensures rest { chars result.1.now ≡ skip_while is_xid_continue (chars text.now) }
 {
     let rest = skip_name(text);
-    let name = &text[..text.len() - rest.len()];
-    (name, rest)
+    (name_before(text, rest), rest)
 }

@@ -1,6 +1,7 @@
 use Rattle.std.proofs.Common.{sym, ◌∙◌}
 use Rattle.decl_lexer.specs.declared.stored.Lists.{Lists}
 use Rattle.decl_lexer.specs.declared.stored.Stored.{Stored}
+use Rattle.decl_lexer.specs.Views.{read_token_view}
 use Rattle.decl_lexer.proofs.StoredLemmas.{grows_same, pushed}
 use Rattle.decl_lexer.proofs.stored.Tokens.push.Goals as goal
 
@@ -9,7 +10,7 @@ returns-clause-view c =
     let old = c.args.self.now in
     let lists : Lists = c.keep.new.self in
     let last : Stored = record { kind = c.in_ok-kind.kind; from = c.in_ok-from.from; to = c.in_ok-to.to } in
-    pushed old.lists lists lists old.stored.items c.push.new.self.items last c.args.token c.requires c.in_ok-kind.ensures.grows (grows_same lists) c.in_ok-push.ensures.items
+    pushed old.lists lists lists old.stored.items c.push.new.self.items last (read_token_view c.args.token) c.requires c.in_ok-kind.ensures.grows (grows_same lists) c.in_ok-push.ensures.items
     (c.in_ok-kind.ensures.shows lists (grows_same lists)) c.in_ok-from.ensures c.in_ok-to.ensures
 
 pub returns-clause-whole : goal.returns-clause-whole
@@ -17,6 +18,6 @@ returns-clause-whole c longer g =
     let old = c.args.self.now in
     let lists : Lists = c.keep.new.self in
     let last : Stored = record { kind = c.in_ok-kind.kind; from = c.in_ok-from.from; to = c.in_ok-to.to } in
-    pushed old.lists lists longer old.stored.items c.push.new.self.items last c.args.token c.requires c.in_ok-kind.ensures.grows g c.in_ok-push.ensures.items
+    pushed old.lists lists longer old.stored.items c.push.new.self.items last (read_token_view c.args.token) c.requires c.in_ok-kind.ensures.grows g c.in_ok-push.ensures.items
     (c.in_ok-kind.ensures.shows longer g) c.in_ok-from.ensures c.in_ok-to.ensures
     ∙ sym (returns-clause-view c)

@@ -1,0 +1,34 @@
+//! Where names were found of late.
+
+/// The numbers of names that were looked up of late, each where its first and last byte say. A number is no more than a
+/// hint: whoever takes it compares the name.
+#[derive(Drop)]
+pub struct Recent {
+    numbers: [u32; 256],
+}
+
+impl Recent {
+    /// No name was looked up.
+    pub fn new() -> Recent {
+        Recent { numbers: [0; 256] }
+    }
+
+    /// The number that stands at a place.
+    pub fn number(&self, place: u8) -> u32 {
+        self.numbers[place as usize]
+    }
+
+    /// Puts a number at a place.
+    pub fn put(&mut self, place: u8, number: u32) {
+        self.numbers[place as usize] = number;
+    }
+}
+
+/// The place of a name.
+pub fn place(text: &str) -> u8 {
+    let bytes = text.as_bytes();
+    match (bytes.first(), bytes.last()) {
+        (Some(first), Some(last)) => first.wrapping_mul(28).wrapping_add(*last),
+        _ => 0,
+    }
+}
