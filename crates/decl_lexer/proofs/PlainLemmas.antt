@@ -1,20 +1,22 @@
 -- What a text begins with whose first character tells it.
-use Rattle.std.proofs.Common.{◌≡◌, ℕ, zero, suc, ◌<◌, ◌≤◌, Bool, true, false, not, ◌&&◌, ◌||◌, ◌==◌, ◌^◌, nat_lt, List, [], ◌∷◌, Some, refl, sym, ap, ◌∙◌, inl, inr, arith}
+use Rattle.std.proofs.Common.{◌≡◌, ℕ, zero, suc, ◌<◌, ◌≤◌, Bool, true, false, cond, not, ◌&&◌, ◌||◌, ◌==◌, ◌^◌, nat_lt, List, [], ◌∷◌, drop, Some, refl, sym, ap, ◌∙◌, inl, inr, arith}
 use Rattle.std.proofs.Math.Nat.{eq-or-lt_of_le}
 use Rattle.std.specs.Char.{is_ascii_alphabetic, is_digit}
 use Rattle.std.specs.List.{take_while}
-use Rattle.std.proofs.lemmas.Bool.{lt-ltb, le-ltb, cases_lt, both_ways}
+use Rattle.std.proofs.lemmas.Bool.{eqb-true, lt-ltb, le-ltb, cases_lt, both_ways}
 use Rattle.unicode_ident.specs.Ident.{is_xid_start, is_xid_continue}
 use Rattle.unicode_ident.proofs.IdentLemmas.{is_xid_start-ascii}
 use Rattle.decl_lexer.specs.Gaps.{is_space}
 use Rattle.decl_lexer.specs.Marks.{mark_at}
 use Rattle.decl_lexer.specs.Begins.{Begins, Lexeme, Integer, token, first_case}
 use Rattle.decl_lexer.specs.Numbers.{behind_digits, number_from, in_128_bits, decimal_cases, decimal_at, integer_at}
-use Rattle.decl_lexer.specs.Text.{skip_while, is_underscore}
+use Rattle.decl_lexer.specs.Text.{skip_while, first_passes, begins_with, is_one_of, is_underscore}
+use lib.Chars.{codes}
+use Rattle.decl_lexer.specs.Texts.{is_hash, is_raw_text}
 use Rattle.decl_lexer.specs.Names.{is_name_start, name_at, lexeme_of}
-use Rattle.decl_lexer.specs.Pieces.{piece_at}
-use Rattle.decl_lexer.specs.Plain.{is_plain_start, is_plain_digit, ends_number, starts_other, is_plain_mark}
-use Rattle.decl_lexer.proofs.NameLemmas.{start_continues}
+use Rattle.decl_lexer.specs.Pieces.{piece_at, letter_at, letter_cases}
+use Rattle.decl_lexer.specs.Plain.{is_plain_start, is_letter_name, is_quote_sign, is_plain_digit, ends_number, starts_other, is_plain_mark}
+use Rattle.decl_lexer.proofs.NameLemmas.{either, start_continues}
 
 -- the test holds of each number below this one
 abbrev holds_below : (ℕ → Bool) → ℕ → Bool
@@ -73,11 +75,110 @@ plain_name_first c cs lt plain =
     rw (not_true _ space.0, not_true _ slash.0, not_true _ digit.0, not_true _ quotes.0, not_true _ quotes.1, starts_ascii c lt ∙ start.0, not_true _ b.0, not_true _ others.0, not_true _ others.1) refl
 
 -- the name that is cut off is the token
-pub plain_name_gives : (c : ℕ) (cs text name after : List ℕ) (lexeme : Lexeme) → text ≡ c ∷ cs → c < 128 → is_plain_start c ≡ true → lexeme ≡ lexeme_of name
-    → name ≡ take_while is_xid_continue text → after ≡ skip_while is_xid_continue text → piece_at c cs ≡ token lexeme after
-plain_name_gives c cs text name after lexeme e lt plain l n a = rw (l, n, a, e) (plain_name_first c cs lt plain)
+pub plain_name_gives : (name text after : List ℕ) (lexeme : Lexeme) → lexeme ≡ lexeme_of name → name ≡ take_while is_xid_continue text → after ≡ skip_while is_xid_continue text → name_at text ≡ token lexeme after
+plain_name_gives name text after lexeme l n a = rw (l, n, a) refl
+
+letter_below : (c : ℕ) → is_one_of (codes "bcr") c ≡ true → c < 128
+letter_below c h =
+    elim (either (c == 98) _ h) [
+      | inl b ↦ let same = eqb-true c 98 b in omega (arith, same)
+      | inr other ↦
+          elim (either (c == 99) (c == 114) other) [
+            | inl d ↦ let same = eqb-true c 99 d in omega (arith, same)
+            | inr r ↦ let same = eqb-true c 114 r in omega (arith, same)
+          ]
+    ]
+
+abbrev letter_test : ℕ → Bool
+letter_test c = not (is_one_of (codes "bcr") c) || (begins_other c && (is_ascii_alphabetic c || c == 95))
+
+neither : (a b : Bool) → (a || b) ≡ false → (a ≡ false) × (b ≡ false)
+neither true b h = absurd cc
+neither false b h = (refl, h)
+
+no_first : (a b : Bool) → a ≡ false → (a && b) ≡ false
+no_first a b h = rw h refl
+
+no_second : (a b : Bool) → b ≡ false → (a && b) ≡ false
+no_second true b h = h
+no_second false b h = refl
+
+-- what does not stand first in a text
+record HasNoSign (cs : List ℕ) : Type 0 where
+  quote : begins_with (codes "\"") cs ≡ false
+  hash : begins_with (codes "#") cs ≡ false
+  tick : begins_with (codes "'") cs ≡ false
+  letter : begins_with (codes "r") cs ≡ false
+  raw : is_raw_text cs ≡ false
+
+no_sign : (cs : List ℕ) → first_passes is_quote_sign cs ≡ false → HasNoSign cs
+no_sign [] h = record { quote = refl; hash = refl; tick = refl; letter = refl; raw = refl }
+no_sign (d ∷ ds) h =
+    let quote = neither (d == 34) _ h in
+    let hash = neither (d == 35) _ quote.1 in
+    let others = neither (d == 39) (d == 114) hash.1 in
+    let raw : is_raw_text (d ∷ ds) ≡ false = ap (λ b. begins_with (codes "\"") (cond b (skip_while is_hash ds) (d ∷ ds))) hash.0 ∙ quote.0 in
+    record { quote = quote.0; hash = hash.0; tick = others.0; letter = others.1; raw = raw }
+
+-- none of the cases holds
+abbrev NoneHolds : List (Bool × Begins) → Type 0
+NoneHolds [] = Unit {0}
+NoneHolds (case ∷ cases) = (case.0 ≡ false) × NoneHolds cases
+
+other_case : (cases : List (Bool × Begins)) (other : Begins) → NoneHolds cases → first_case cases other ≡ other
+other_case [] other h = refl
+other_case (case ∷ cases) other h = rw h.0 (other_case cases other h.1)
+
+letter_name : (c : ℕ) (cs : List ℕ) → HasNoSign cs → letter_at c cs ≡ name_at (c ∷ cs)
+letter_name c cs s =
+    let raw = is_raw_text (drop 1 cs) in
+    let name = first_passes is_name_start (drop 1 cs) in
+    other_case (letter_cases c cs) (name_at (c ∷ cs)) (
+      no_second (c == 98) _ s.tick,
+      (
+        no_second (c == 98) _ s.quote,
+        (
+          no_second (c == 99) _ s.quote,
+          (
+            no_second (c == 114) _ s.raw,
+            (
+              no_first _ raw (no_second (c == 98) _ s.letter),
+              (
+                no_first _ raw (no_second (c == 99) _ s.letter),
+                (
+                  no_first _ name (no_second (c == 114) _ s.hash),
+                  tt,
+                ),
+              ),
+            ),
+          ),
+        ),
+      ),
+    )
+
+-- the same of a name that begins with a letter that may stand before a quote
+pub letter_name_first : (c : ℕ) (cs : List ℕ) → is_letter_name c cs ≡ true → piece_at c cs ≡ name_at (c ∷ cs)
+unfolding piece_at
+letter_name_first c cs h =
+    let parts = both (is_one_of (codes "bcr") c) _ h in
+    let lt = letter_below c parts.0 in
+    let k = both (begins_other c) (is_ascii_alphabetic c || c == 95) (follows (is_one_of (codes "bcr") c) _ (holds_at letter_test 128 c refl lt) parts.0) in
+    let space = both (not (is_space c)) _ k.0 in
+    let slash = both (not (c == 47)) _ space.1 in
+    let digit = both (not (is_digit c 10)) _ slash.1 in
+    let quotes = both (not (c == 39)) (not (c == 34)) digit.1 in
+    let name : letter_at c cs ≡ name_at (c ∷ cs) = letter_name c cs (no_sign cs (not_true _ parts.1)) in
+    rw (not_true _ space.0, not_true _ slash.0, not_true _ digit.0, not_true _ quotes.0, not_true _ quotes.1, starts_ascii c lt ∙ k.1) name
 
 -- a name goes on behind its first character
+pub letter_name_behind : (c : ℕ) (cs text : List ℕ) → text ≡ c ∷ cs → is_letter_name c cs ≡ true → skip_while is_xid_continue cs ≡ skip_while is_xid_continue text
+letter_name_behind c cs text e h =
+    let parts = both (is_one_of (codes "bcr") c) _ h in
+    let lt = letter_below c parts.0 in
+    let k = both (begins_other c) (is_ascii_alphabetic c || c == 95) (follows (is_one_of (codes "bcr") c) _ (holds_at letter_test 128 c refl lt) parts.0) in
+    let continues : is_xid_continue c ≡ true = start_continues c (starts_ascii c lt ∙ k.1) in
+    rw (e, continues) refl
+
 pub plain_name_behind : (c : ℕ) (cs text : List ℕ) → text ≡ c ∷ cs → c < 128 → is_plain_start c ≡ true → skip_while is_xid_continue cs ≡ skip_while is_xid_continue text
 plain_name_behind c cs text e lt plain =
     let k = both (begins_other c) (begins_name c) (follows (is_plain_start c) (begins_other c && begins_name c) (holds_at name_test 128 c refl lt) plain) in

@@ -5,12 +5,20 @@ use lib.Chars.{codes}
 use denote.Ref.{Bor}
 use Rattle.decl_lexer.specs.declared.read.PlainKind.{PlainKind}
 use Rattle.decl_lexer.specs.Begins.{Begins, token}
-use Rattle.decl_lexer.specs.Text.{is_one_of}
+use Rattle.decl_lexer.specs.Text.{is_one_of, first_passes}
 use Rattle.decl_lexer.specs.Views.{plain_view}
 
 -- the letters of ASCII but `b`, `c` and `r`, and `_`
 abbrev pub is_plain_start : ℕ → Bool
 is_plain_start c = c == 97 || (nat_le 100 c && nat_le c 113) || (nat_le 115 c && nat_le c 122) || (nat_le 65 c && nat_le c 90) || c == 95
+
+-- what may stand between `b`, `c` or `r` and a quoted piece or a raw name
+abbrev pub is_quote_sign : ℕ → Bool
+is_quote_sign c = is_one_of (codes "\"#'r") c
+
+-- `b`, `c` or `r` with none of these behind it
+abbrev pub is_letter_name : ℕ → List ℕ → Bool
+is_letter_name c cs = is_one_of (codes "bcr") c && not (first_passes is_quote_sign cs)
 
 -- the decimal digits but `0`
 abbrev pub is_plain_digit : ℕ → Bool

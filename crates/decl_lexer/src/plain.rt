@@ -2,9 +2,11 @@
 ghost use Rattle.std.specs.Prelude.{◌≡◌, ◌<◌, ◌∷◌, IfSome, true, chars};
 ghost use Rattle.decl_lexer.specs.Begins.{Marked, token};
 ghost use Rattle.decl_lexer.specs.Marks.{mark_at};
-ghost use Rattle.decl_lexer.specs.Names.{lexeme_of};
+ghost use Rattle.decl_lexer.specs.Names.{lexeme_of, name_at};
 ghost use Rattle.decl_lexer.specs.Pieces.{piece_at};
-ghost use Rattle.decl_lexer.specs.Plain.{is_plain_start, is_plain_digit, is_plain_mark, GivesPlain};
+ghost use Rattle.decl_lexer.specs.Plain.{is_plain_start, is_letter_name, is_quote_sign, is_plain_digit, is_plain_mark, GivesPlain};
+ghost use Rattle.decl_lexer.specs.Text.{skip_while, first_passes};
+ghost use Rattle.unicode_ident.specs.Ident.{is_xid_continue};
 ghost use Rattle.decl_lexer.specs.Views.{plain_view};
 
 use crate::marks::Mark;
@@ -25,9 +27,10 @@ pub fn plain_kind<'a>(
     ensures { GivesPlain (piece_at first (chars behind.now)) result }
 {
     if starts_plain_name(first) {
-        let after = skip_name(behind);
-        let kind = name_kind(name_before(text, after))?;
-        return Some((kind, after));
+        return plain_name(text, behind);
+    }
+    if starts_letter_name(first, behind) {
+        return plain_name(text, behind);
     }
     if starts_plain_number(first) {
         let (number, after) = plain_number(text)?;
@@ -35,6 +38,17 @@ pub fn plain_kind<'a>(
     }
     let (mark, after) = plain_mark(first, behind)?;
     Some((PlainKind::Mark(mark), after))
+}
+
+/// The name or keyword that the text begins with, and the text behind it. `behind` is the text behind its first character.
+#[inline(always)]
+fn plain_name<'a>(text: &'a str, behind: &'a str) -> Option<(PlainKind<'a>, &'a str)>
+    requires { skip_while is_xid_continue (chars behind.now) ≡ skip_while is_xid_continue (chars text.now) }
+    ensures { GivesPlain (name_at (chars text.now)) result }
+{
+    let after = skip_name(behind);
+    let kind = name_kind(name_before(text, after))?;
+    Some((kind, after))
 }
 
 /// What a name is, where it is in ASCII: a keyword, the mark `_`, or a name.
@@ -63,6 +77,26 @@ fn starts_plain_name(c: char) -> bool
     ensures ascii { result ≡ true → c < 128 }
 {
     matches!(c, 'a' | 'd'..='q' | 's'..='z' | 'A'..='Z' | '_')
+}
+
+/// Whether a text begins with a name or a keyword that begins with `b`, `c` or `r`, and with neither a quoted piece nor a raw name.
+/// `behind` is the text behind its first character.
+#[inline(always)]
+fn starts_letter_name(first: char, behind: &str) -> bool
+    ensures { result ≡ is_letter_name first (chars behind.now) }
+{
+    matches!(first, 'b' | 'c' | 'r') && !starts_sign(behind)
+}
+
+/// Whether the text begins with what may stand between such a letter and a quoted piece or a raw name.
+#[inline(always)]
+fn starts_sign(text: &str) -> bool
+    ensures { result ≡ first_passes is_quote_sign (chars text.now) }
+{
+    match split_first(text) {
+        Some((first, _)) => matches!(first, '"' | '#' | '\'' | 'r'),
+        None => false,
+    }
 }
 
 /// Whether a text that begins with the character begins with a decimal number, whatever stands behind it.

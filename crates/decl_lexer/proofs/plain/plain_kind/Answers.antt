@@ -1,21 +1,33 @@
-use Rattle.std.proofs.Common.{chars, sym, ap, ◌∙◌}
+use Rattle.std.proofs.Common.{◌≡◌, ◌∷◌, chars, sym, ap, subst, ◌∙◌}
+use Rattle.decl_lexer.specs.Begins.{Begins}
+use Rattle.decl_lexer.specs.Names.{name_at}
 use Rattle.decl_lexer.specs.Numbers.{decimal_at}
-use Rattle.decl_lexer.specs.Views.{plain_view}
-use Rattle.decl_lexer.proofs.PlainLemmas.{plain_name_behind, plain_name_gives, plain_digit_first, plain_mark_first}
+use Rattle.decl_lexer.specs.Pieces.{piece_at}
+use Rattle.decl_lexer.specs.Plain.{GivesPlain}
+use Rattle.decl_lexer.proofs.PlainLemmas.{plain_name_first, plain_name_behind, letter_name_first, letter_name_behind, plain_digit_first, plain_mark_first}
 use Rattle.decl_lexer.proofs.plain.plain_kind.Goals as goal
 
-pub name_before-requires : goal.name_before-requires
-name_before-requires c =
-    c.skip_name-after.ensures.rest
-    ∙ plain_name_behind c.args.first (chars c.args.behind.now) (chars c.args.text.now) c.requires (c.starts_plain_name.ensures.ascii c.if-starts_plain_name.true) (sym c.starts_plain_name.ensures.value ∙ c.if-starts_plain_name.true)
+pub plain_name-requires : goal.plain_name-requires
+plain_name-requires c =
+    plain_name_behind c.args.first (chars c.args.behind.now) (chars c.args.text.now) c.requires (c.starts_plain_name.ensures.ascii c.if-starts_plain_name.true) (sym c.starts_plain_name.ensures.value ∙ c.if-starts_plain_name.true)
 
 pub returns-then-starts_plain_name : goal.returns-then-starts_plain_name
 returns-then-starts_plain_name c =
-    let ascii = c.starts_plain_name.ensures.ascii c.if-starts_plain_name.true in
-    let plain = sym c.starts_plain_name.ensures.value ∙ c.if-starts_plain_name.true in
-    let behind = c.skip_name-after.ensures.rest ∙ plain_name_behind c.args.first (chars c.args.behind.now) (chars c.args.text.now) c.requires ascii plain in
-    plain_name_gives c.args.first (chars c.args.behind.now) (chars c.args.text.now) (chars c.name_before.result.now) (chars c.skip_name-after.result.now) (plain_view c.in_ok-kind.kind) c.requires
-    ascii plain c.in_ok-kind.ensures c.name_before.ensures.name behind
+    let same : piece_at c.args.first (chars c.args.behind.now) ≡ name_at (c.args.first ∷ chars c.args.behind.now) =
+    plain_name_first c.args.first (chars c.args.behind.now) (c.starts_plain_name.ensures.ascii c.if-starts_plain_name.true) (sym c.starts_plain_name.ensures.value ∙ c.if-starts_plain_name.true) in
+    let P : Begins → Type 0 = λ r. GivesPlain r c.plain_name.result in
+    subst P (sym (same ∙ ap name_at (sym c.requires))) c.plain_name.ensures
+
+pub plain_name-requires-then-starts_letter_name : goal.plain_name-requires-then-starts_letter_name
+plain_name-requires-then-starts_letter_name c =
+    letter_name_behind c.args.first (chars c.args.behind.now) (chars c.args.text.now) c.requires (sym c.starts_letter_name.ensures ∙ c.if-starts_letter_name.true)
+
+pub returns-then-starts_letter_name : goal.returns-then-starts_letter_name
+returns-then-starts_letter_name c =
+    let same : piece_at c.args.first (chars c.args.behind.now) ≡ name_at (c.args.first ∷ chars c.args.behind.now) =
+    letter_name_first c.args.first (chars c.args.behind.now) (sym c.starts_letter_name.ensures ∙ c.if-starts_letter_name.true) in
+    let P : Begins → Type 0 = λ r. GivesPlain r c.plain_name-then-starts_letter_name.result in
+    subst P (sym (same ∙ ap name_at (sym c.requires))) c.plain_name-then-starts_letter_name.ensures
 
 pub returns-then-starts_plain_number : goal.returns-then-starts_plain_number
 returns-then-starts_plain_number c =
