@@ -98,7 +98,8 @@ fn behind_spaces(at: u64, rest: &str) -> (u64, &str)
 #[inline(always)]
 fn plain_token(at: u64, rest: &str) -> Option<(PlainToken<'_>, &str)>
     requires { at + length rest.now < 2 ^ 64 }
-    ensures { IfSome result (λ p. Finds at (chars rest.now) (Found (plain_token_view p.0) (chars p.1.now))) }
+    ensures first { IfSome result (λ p. Finds at (chars rest.now) (Found (plain_token_view p.0) (chars p.1.now))) }
+    ensures order { IfSome result (λ p. p.0.from ≤ p.0.to) }
 {
     let (first, behind) = split_first(rest)?;
     let (kind, after) = plain_kind(rest, first, behind)?;

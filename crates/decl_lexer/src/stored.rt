@@ -1,5 +1,5 @@
 //! Tokens as they are kept: 16 bytes each, with their texts in lists beside them.
-ghost use Rattle.std.specs.Prelude.{◌≡◌, ◌++◌, ◌∷◌, [], length, string_bytes, slice_get, option_map, IfOk, OnOk, MatchOption};
+ghost use Rattle.std.specs.Prelude.{◌≡◌, ◌≤◌, ◌++◌, ◌∷◌, [], length, string_bytes, slice_get, option_map, IfOk, OnOk, MatchOption};
 ghost use Rattle.std.specs.Rc.{rc_str_bytes};
 ghost use Rattle.decl_lexer.specs.Views.{read_view, plain_view, lexeme_view, token_view, read_token_view, plain_token_view};
 ghost use Rattle.decl_lexer.specs.Begins.{mark_of, keyword_of, name_of};
@@ -327,12 +327,13 @@ impl Tokens {
         recent: &mut Recent,
         token: PlainToken<'_>,
     ) -> Result<(), NoMemory>
-        requires { IsWhole self.old }
+        requires whole { IsWhole self.old }
+        requires order { token.from ≤ token.to }
         ensures view { OnOk result (tokens_view self.new ≡ tokens_view self.old ++ plain_token_view token.entry ∷ []) }
         ensures whole { OnOk result (IsWhole self.new) }
     {
-        let from = narrow(token.from)?;
         let to = narrow(token.to)?;
+        let from = token.from as u32;
         let kind = self.lists.keep_plain(alloc, recent, token.kind)?;
         self.stored.push(Stored { kind, from, to })?;
         Ok(())

@@ -35,7 +35,7 @@ pub tokens-smaller-in-Some : goal.tokens-smaller-in-Some
 tokens-smaller-in-Some c =
     let after = c.in-Some.after.now in
     let u : IsUtf8 after = search rules in
-    token_shorter c.tokens.at c.tokens.rest.now after (plain_token_view c.in-Some.token) c.tokens.invariant.utf8 u (c.behind_spaces-from.ensures.first _ c.in-Some.ensures)
+    token_shorter c.tokens.at c.tokens.rest.now after (plain_token_view c.in-Some.token) c.tokens.invariant.utf8 u (c.behind_spaces-from.ensures.first _ c.in-Some.ensures.first)
 
 pub tokens-preserved-in-Some : goal.tokens-preserved-in-Some
 tokens-preserved-in-Some c =
@@ -43,7 +43,7 @@ tokens-preserved-in-Some c =
     let rest = c.tokens.rest.now in
     let token = plain_token_view c.in-Some.token in
     let u : IsUtf8 after = search rules in
-    let found : Finds c.tokens.at (chars rest) (Found token (chars after)) = c.behind_spaces-from.ensures.first _ c.in-Some.ensures in
+    let found : Finds c.tokens.at (chars rest) (Found token (chars after)) = c.behind_spaces-from.ensures.first _ c.in-Some.ensures.first in
     let added : tokens_view c.push_plain.new.self ≡ tokens_view c.tokens.tokens ++ token ∷ [] = c.in_ok-push_plain.ensures.view in
     record {
       utf8 = u;

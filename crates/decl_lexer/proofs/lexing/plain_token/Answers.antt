@@ -15,8 +15,8 @@ overflow_sub-to c =
     let k = cut c.in_ok-first.first c.args.rest.now behind after _ c.utf8.rest u c.in_ok-first.ensures.cases read in
     omega (arith, k.some)
 
-pub returns : goal.returns
-returns c =
+pub returns-clause-first : goal.returns-clause-first
+returns-clause-first c =
     let rest = c.args.rest.now in
     let behind = c.in_ok-first.behind.now in
     let after = c.in_ok-kind.after.now in
