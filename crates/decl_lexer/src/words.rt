@@ -142,7 +142,6 @@ const FROM_W: [(&str, Word); 2] = [("where", Word::Where), ("while", Word::While
 const FROM_Y: [(&str, Word); 1] = [("yield", Word::Yield)];
 
 /// The keyword with this text. It is compared with the keywords that begin with its first letter alone.
-#[inline(always)]
 pub fn word_of(text: &str) -> Option<Word>
     ensures { result ≡ word_of text.now }
 {
