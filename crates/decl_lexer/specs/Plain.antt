@@ -35,7 +35,7 @@ starts_other (c ∷ cs) = ends_number c
 
 -- the characters that most marks begin with
 abbrev pub is_plain_mark : ℕ → Bool
-is_plain_mark c = is_one_of (codes "(){}[],;#:=") c
+is_plain_mark c = is_one_of (codes "(){}[],;#:=|") c
 
 -- nothing is said, or this token is what the definition gives
 abbrev pub GivesPlain : Begins → Option (PlainKind × Bor (List ℕ)) → Type 0

@@ -128,6 +128,7 @@ fn plain_mark(first: char, behind: &str) -> Option<(Mark, &str)>
         '#' => Some((Mark::Hash, behind)),
         ':' => Some(colon(behind)),
         '=' => Some(equals_sign(behind)),
+        '|' => Some(bar(behind)),
         _ => None,
     }
 }
@@ -152,5 +153,17 @@ fn equals_sign(behind: &str) -> (Mark, &str)
         Some(('>', after)) => (Mark::FatArrow, after),
         Some(('=', after)) => (Mark::Equal, after),
         _ => (Mark::Assign, behind),
+    }
+}
+
+/// The mark that begins with a `|` before this text, and the text behind it.
+#[inline(always)]
+fn bar(behind: &str) -> (Mark, &str)
+    ensures { mark_at (124 ∷ chars behind.now) ≡ token (Marked result.0) (chars result.1.now) }
+{
+    match split_first(behind) {
+        Some(('|', after)) => (Mark::Or, after),
+        Some(('=', after)) => (Mark::BarAssign, after),
+        _ => (Mark::Bar, behind),
     }
 }
