@@ -11,4 +11,5 @@ pub mod FormLemmas
 pub mod SameOwners
 pub mod FindingExamples
 pub mod SomeRuleLemmas
+pub mod SplitTests
 pub mod InsertLemmas

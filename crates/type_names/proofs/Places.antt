@@ -1,6 +1,6 @@
 -- First places in lists that grow at their end.
 use Rattle.std.proofs.Common.{◌≡◌, ℕ, ◌+◌, ◌<◌, Bool, true, false, cond, not, List, [], ◌∷◌, ◌++◌, map, length, Option, Some, None, refl, sym, ap, ◌∙◌, suc, take, get_or, arith}
-use Rattle.std.specs.Prelude.{position, nat_lt, option_map, is_some}
+use Rattle.std.specs.Prelude.{position, nat_lt, option_map, unwrap_or}
 use Rattle.std.specs.Str.{bytes_eq}
 use Rattle.std.proofs.lemmas.Slice.Eq.{bytes_eq-Decides}
 use Rattle.std.specs.List.{prefix_len, position_or_len}
@@ -79,44 +79,25 @@ not_equal false h = refl
 flipped : (x y : List ℕ) → bytes_eq x y ≡ false → bytes_eq y x ≡ false
 flipped x y e = not_equal (bytes_eq y x) (λ h. let same : x ≡ y = sym ((bytes_eq-Decides y x).0 h) in let there : bytes_eq x y ≡ true = (bytes_eq-Decides x y).1 same in cc)
 
-is_none : (o : Option ℕ) → is_some o ≡ false → o ≡ None
-is_none None e = refl
-is_none (Some x) e = absurd cc
-
--- a look-up with a new name
-pub with_new : (old : List ℕ → Option ℕ) (name q : List ℕ) (at : ℕ) → is_some (old name) ≡ false →
-    cond (bytes_eq name q) (Some at) (old q) ≡ first_place (old q) (bytes_eq q name) at
-with_new old name q at absent = by (bytes_eq name q) refl
+-- a look-up after a name is given the place that it has, or else this one
+pub with_entry : (old : List ℕ → Option ℕ) (name q : List ℕ) (at : ℕ) →
+    cond (bytes_eq name q) (Some (unwrap_or (old name) at)) (old q) ≡ first_place (old q) (bytes_eq q name) at
+with_entry old name q at = by (bytes_eq name q) refl
   where
     stays : (o : Option ℕ) → o ≡ first_place o false at
     stays None = refl
     stays (Some x) = refl
 
-    by : (b : Bool) → bytes_eq name q ≡ b → cond b (Some at) (old q) ≡ first_place (old q) (bytes_eq q name) at
+    put : (o : Option ℕ) → Some (unwrap_or o at) ≡ first_place o true at
+    put None = refl
+    put (Some x) = refl
+
+    by : (b : Bool) → bytes_eq name q ≡ b → cond b (Some (unwrap_or (old name) at)) (old q) ≡ first_place (old q) (bytes_eq q name) at
     by true e =
         let same : name ≡ q = (bytes_eq-Decides name q).0 e in
         let there : bytes_eq q name ≡ true = (bytes_eq-Decides q name).1 (sym same) in
-        let none : old q ≡ None = is_none (old q) (ap (λ n. is_some (old n)) (sym same) ∙ absent) in
-        rw (none, there) refl
+        rw there (ap (λ (n : List ℕ). Some (unwrap_or (old n) at)) same ∙ put (old q))
     by false e = rw (flipped name q e) (stays (old q))
-
--- a look-up with a name that it has
-pub with_old : (old : List ℕ → Option ℕ) (name q : List ℕ) (at : ℕ) → is_some (old name) ≡ true → old q ≡ first_place (old q) (bytes_eq q name) at
-with_old old name q at there = by (bytes_eq q name) refl
-  where
-    some : (o : Option ℕ) (b : Bool) → is_some o ≡ true → o ≡ first_place o b at
-    some None b e = absurd cc
-    some (Some x) b e = refl
-
-    stays : (o : Option ℕ) → o ≡ first_place o false at
-    stays None = refl
-    stays (Some x) = refl
-
-    by : (b : Bool) → bytes_eq q name ≡ b → old q ≡ first_place (old q) b at
-    by true e =
-        let same : q ≡ name = (bytes_eq-Decides q name).0 e in
-        some (old q) true (ap (λ n. is_some (old n)) same ∙ there)
-    by false e = stays (old q)
 
 -- the first places of names in a front that is one item longer
 pub places_more : {A B : Type 0} (f : A → B) (named : B → Option (List ℕ)) (xs : List A) (i : ℕ) (x : A) (old new : List ℕ → Option ℕ) (name : Option (List ℕ)) →

@@ -12,11 +12,11 @@ or_assoc : (a b c : Bool) → ((a || b) || c) ≡ (a || (b || c))
 or_assoc true b c = refl
 or_assoc false b c = refl
 
-or_true : (b : Bool) → (b || true) ≡ true
+pub or_true : (b : Bool) → (b || true) ≡ true
 or_true true = refl
 or_true false = refl
 
-or_false : (b : Bool) → (b || false) ≡ b
+pub or_false : (b : Bool) → (b || false) ≡ b
 or_false true = refl
 or_false false = refl
 
@@ -90,3 +90,29 @@ not_taken all types functions values k ts fs vs t f v a b c d = rw (← t, ← f
 
 pub not_is : (b c : Bool) → c ≡ not b → c ≡ true → b ≡ false
 not_is b c e known = free b c e known
+
+-- a name alone is free unless it is one of those before it
+pub free_is : (before : List (List ℕ)) (old : List ℕ → Bool) (name : List ℕ) (b : Bool) → old ≡ among before → b ≡ not (old name) → not b ≡ is_among name before
+free_is before old name b is fresh = ap not fresh ∙ (not_not (old name) ∙ ap (λ (f : List ℕ → Bool). f name) is)
+  where
+    not_not : (x : Bool) → not (not x) ≡ x
+    not_not true = refl
+    not_not false = refl
+
+-- a name alone is taken behind the others
+pub taken_alone : (before : List (List ℕ)) (old new : List ℕ → Bool) (name : List ℕ) → old ≡ among before → new ≡ (λ q. old q || bytes_eq q name) → new ≡ among (before ++ name ∷ [])
+taken_alone before old new name is more = more ∙ same_functions (λ q. ap (λ (f : List ℕ → Bool). f q || bytes_eq q name) is ∙ sym (among_push before name q))
+
+-- what breaks rule 10 by one name
+pub is_taken_by_type : (all : List ItemTree) (types functions values : List (List ℕ)) (k : KindTree) (name : List ℕ) →
+    name ∷ [] ≡ taken_names k → [] ≡ function_names k → [] ≡ value_names all k → is_among name types ≡ is_taken all types functions values k
+is_taken_by_type all types functions values k name t f v = rw (← t, ← f, ← v) (sym (or_false (is_among name types || false) ∙ or_false (is_among name types)))
+
+pub is_taken_by_function : (all : List ItemTree) (types functions values : List (List ℕ)) (k : KindTree) (name : List ℕ) →
+    [] ≡ taken_names k → name ∷ [] ≡ function_names k → [] ≡ value_names all k → (is_among name functions || is_among name values) ≡ is_taken all types functions values k
+is_taken_by_function all types functions values k name t f v = rw (← t, ← f, ← v) (alone (is_among name functions) (is_among name values))
+  where
+    alone : (x y : Bool) → (x || y) ≡ ((x || false) || ((y || false) || false))
+    alone true y = refl
+    alone false true = refl
+    alone false false = refl

@@ -3,14 +3,23 @@ use Rattle.std.proofs.Common.{◌≡◌, ℕ, List, [], ◌∷◌, map, Option, 
 use borrow.Author.Tests.{ltb-true}
 use Rattle.std.proofs.lemmas.Option.{slice_get_read}
 use Rattle.std.specs.Prelude.{slice_get, position, option_map}
-use Rattle.std.specs.Global.{Box}
+use Rattle.std.specs.Str.{bytes_eq}
+use Rattle.std.specs.Rc.{rc_str_bytes}
+use Rattle.std.specs.Global.{Global}
+use Rattle.std.specs.declared.rc.RcStr.{RcStr}
 use Rattle.match_model.specs.Types.{DeclaredItem}
 use Rattle.decl_syntax.specs.Items.{VariantTree, ItemTree}
 use Rattle.type_names.specs.declared.names.Names.{Names}
+use Rattle.type_names.specs.declared.names.VariantNames.{VariantNames}
 use Rattle.type_names.specs.Meanings.{Means, ItemName, is_name, first_of_two, built_in, means}
 use Rattle.type_names.specs.Imports.{named_variant, item_variants, kind_variants, variant_number, form_kind, form_at, owner_variants}
-use Rattle.type_names.specs.Views.{PlaceMap, places_of, means_in, AreNames, place_in, variant_at}
-use Rattle.type_names.proofs.Places.{position_map}
+use Rattle.type_names.specs.Views.{places_of, means_in, AreNames, place_in, variant_at}
+use Rattle.type_names.proofs.Places.{position_map, same_functions}
+
+-- the names of the variants, in order
+pub listed_at : (names : List (RcStr Global)) (vs : List VariantTree) → map rc_str_bytes names ≡ map (λ v. v.name) vs →
+    (λ q. position (bytes_eq q) (map rc_str_bytes names)) ≡ variant_at vs
+listed_at names vs are = same_functions (λ q. ap (position (bytes_eq q)) are ∙ position_map (λ (v : VariantTree). v.name) (bytes_eq q) vs)
 
 -- an item of a list that is mapped
 pub get_map : {A B : Type 0} (f : A → B) (xs : List A) (i : ℕ) → slice_get (map f xs) i ≡ option_map f (slice_get xs i)
@@ -22,7 +31,7 @@ at_or : Option (List ℕ → Option ℕ) → List ℕ → Option ℕ
 at_or None q = None
 at_or (Some f) q = f q
 
-by_map : (o : Option (Option (Box PlaceMap))) (q : List ℕ) → place_in o q ≡ at_or (option_map places_of o) q
+by_map : (o : Option VariantNames) (q : List ℕ) → place_in o q ≡ at_or (option_map places_of o) q
 unfolding at_or
 by_map None q = refl
 by_map (Some m) q = refl

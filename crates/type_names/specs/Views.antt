@@ -2,16 +2,16 @@
 use Rattle.std.specs.Prelude.{◌≡◌, ℕ, Bool, true, false, List, map, position, Option, Some, None, option_map}
 use Rattle.std.specs.Rc.{rc_str_bytes}
 use Rattle.std.specs.declared.rc.RcStr.{RcStr}
-use Rattle.std.specs.Global.{Global, Box}
+use Rattle.std.specs.Str.{bytes_eq}
+use Rattle.std.specs.Global.{Global}
 use denote.Ref.{Bor}
-use Rattle.std.specs.declared.hash.FoldHasher.{FoldHasher}
-use Rattle.std.specs.declared.hash.BuildHasherDefault.{BuildHasherDefault}
-use Rattle.indexmap.specs.IndexMap.{IndexMap}
 use Rattle.type_names.specs.NameMaps.{get_by_name}
 use Rattle.match_model.specs.declared.IntKind.TheVariants as ints
 use Rattle.match_model.specs.Types.{MOwner, DeclaredItem, OptionOwner, ResultOwner, MOpaque, StringName, F32Name, F64Name, BoxName, VecName, RcName, ArcName, MType, BoolType, CharType, StrType, NeverType, IntType}
 use Rattle.decl_syntax.specs.Items.{VariantTree, ItemTree}
 use Rattle.type_names.specs.declared.names.Names as declared_names
+use Rattle.type_names.specs.declared.names.VariantNames.{VariantNames}
+use Rattle.type_names.specs.declared.names.VariantNames.TheVariants as kept
 use Rattle.type_names.specs.declared.name_rules.Taken as declared_taken
 use Rattle.type_names.specs.NameMaps.{contains_name}
 use Rattle.type_names.specs.NameRules.{is_among}
@@ -69,10 +69,6 @@ owner_view (owners.Item i) = DeclaredItem i
 owner_view owners.Option = OptionOwner
 owner_view owners.Result = ResultOwner
 
--- a map from names to places in a list
-abbrev pub PlaceMap : Type 0
-PlaceMap = IndexMap (RcStr Global) ℕ (BuildHasherDefault FoldHasher)
-
 -- the text that may be there
 abbrev pub text_of : Option (Bor (RcStr Global)) → Option (List ℕ)
 text_of o = option_map (λ s. rc_str_bytes s.now) o
@@ -91,10 +87,10 @@ with_place old name at q = first_place (old q) (is_name q name) at
 abbrev pub variant_at : List VariantTree → (name : List ℕ) → Option ℕ
 variant_at variants name = position (λ v. is_name name (Some v.name)) variants
 
--- No meaning: the places of names by a map that may be there.
-abbrev pub places_of : Option (Box PlaceMap) → (name : List ℕ) → Option ℕ
-places_of None = λ name. None
-places_of (Some places) = get_by_name places.value
+-- No meaning: the first place of a name among the names of variants.
+abbrev pub places_of : VariantNames → (name : List ℕ) → Option ℕ
+places_of (kept.Few names) = λ name. position (bytes_eq name) (map rc_str_bytes names.items)
+places_of (kept.Many places) = get_by_name places.value
 
 -- the names are those of the items
 pub record AreNames (items : List ItemTree) (names : declared_names.Names) : Type 0 where
@@ -115,7 +111,7 @@ pub record AreTaken (types functions values : List (List ℕ)) (taken : declared
   pub functions_are : contains_name taken.functions ≡ among functions
   pub values_are : contains_name taken.values ≡ among values
 
--- No meaning: the place of a name by the maps of an item that may be there.
-abbrev pub place_in : Option (Option (Box PlaceMap)) → (name : List ℕ) → Option ℕ
+-- No meaning: the place of a name among the variants of an item that may be there.
+abbrev pub place_in : Option VariantNames → (name : List ℕ) → Option ℕ
 place_in None name = None
-place_in (Some places) name = places_of places name
+place_in (Some names) name = places_of names name

@@ -1,12 +1,15 @@
 //! The variants that `use E::..;` and paths `E::V` name.
-ghost use Rattle.std.specs.Prelude.{◌≡◌, List, [], map, slice_get, option_map};
+ghost use Rattle.std.specs.Prelude.{◌≡◌, List, [], map, position, slice_get, option_map};
+ghost use Rattle.std.specs.Rc.{rc_str_bytes};
+ghost use Rattle.std.specs.Str.{bytes_eq};
 ghost use Rattle.match_model.specs.Types.{DeclaredItem, OptionOwner, ResultOwner};
 ghost use Rattle.decl_syntax.specs.Items.{ItemTree, item_view, form_view, variant_view, kind_view};
 ghost use Rattle.type_names.specs.Imports.{kind_variants, form_kind, enum_item, enum_of, meant_enum, variant_number, owner_variants, form_at};
 ghost use Rattle.type_names.specs.Views.{owner_view, means_in, place_in, AreNames};
 
 use crate::meanings::{FormKind, Meaning, Owner};
-use crate::names::Names;
+use crate::names::{Names, VariantNames};
+use decl_lexer::Name;
 use decl_syntax::{Form, Item, ItemKind, Variant};
 
 /// The enum that a name means in the file with these items, if it means one.
@@ -71,10 +74,22 @@ impl Names {
         ensures { result ≡ place_in (slice_get self.now.variants.items i) name.now }
     {
         match self.variants.get(i)? {
-            Some(places) => places.get(name).copied(),
-            None => None,
+            VariantNames::Few(names) => first_place(names, name),
+            VariantNames::Many(places) => places.get(name).copied(),
         }
     }
+}
+
+// The place of the first of the names that is this one.
+fn first_place(names: &[Name], name: &str) -> Option<usize>
+    ensures { result ≡ position (bytes_eq name.now) (map rc_str_bytes names.now) }
+{
+    for (i, other) in names.iter().enumerate() {
+        if name == other.as_str() {
+            return Some(i);
+        }
+    }
+    None
 }
 
 // The number of the variant of `Option` of this name.

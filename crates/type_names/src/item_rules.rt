@@ -84,10 +84,7 @@ fn breaks_some_written(names: &Names, items: &[Item], item: &Item) -> bool
     requires { AreNames (map item_view items.now) names.now }
     ensures { result ≡ breaks_some_written (map item_view items.now) (item_view item.now) }
 {
-    breaks_written(names, items, TypeRule::UnknownType, item)
-        || breaks_written(names, items, TypeRule::SizelessPlace, item)
-        || breaks_written(names, items, TypeRule::ArrayLength, item)
-        || breaks_written(names, items, TypeRule::ArgumentCount, item)
+    breaks_in_item(names, None, &item.kind)
 }
 
 // Whether the item breaks rule 18 or 19.
@@ -123,5 +120,5 @@ fn breaks_written(names: &Names, items: &[Item], rule: TypeRule, item: &Item) ->
     requires { AreNames (map item_view items.now) names.now }
     ensures { result ≡ item_test (ItemRule.Written rule) (map item_view items.now) (item_view item.now) }
 {
-    breaks_in_item(names, rule, &item.kind)
+    breaks_in_item(names, Some(rule), &item.kind)
 }

@@ -56,6 +56,51 @@ impl Taken {
             × (b ≡ false → AreTaken (types ++ taken_names k) (functions ++ function_names k)
             (values ++ value_names all k) self.new)) }
     {
+        match kind {
+            ItemKind::Enum(e) => self.take_type(&e.name),
+            ItemKind::Function(f) => self.take_function(&f.name),
+            _ => self.take_all(alloc, names, items, kind),
+        }
+    }
+
+    // The same of an enum of this name.
+    fn take_type(&mut self, name: &Name) -> Result<bool, NoMemory>
+        ensures { (types functions values : List (List ℕ)) → AreTaken types functions values self.old →
+            let n = rc_str_bytes name.now in IfOk result (λ b. (b ≡ is_among n types)
+            × (b ≡ false → AreTaken (types ++ n ∷ []) functions values self.new)) }
+    {
+        let is_new = take_name(&mut self.types, name)?;
+        Ok(!is_new)
+    }
+
+    // The same of a function of this name.
+    fn take_function(&mut self, name: &Name) -> Result<bool, NoMemory>
+        ensures { (types functions values : List (List ℕ)) → AreTaken types functions values self.old →
+            let n = rc_str_bytes name.now in IfOk result (λ b. (b ≡ (is_among n functions || is_among n values))
+            × (b ≡ false → AreTaken types (functions ++ n ∷ []) values self.new)) }
+    {
+        if self.values.contains(name.as_str()) {
+            return Ok(true);
+        }
+        let is_new = take_name(&mut self.functions, name)?;
+        Ok(!is_new)
+    }
+
+    // The same of any item.
+    fn take_all(
+        &mut self,
+        alloc: Global,
+        names: &Names,
+        items: &[Item],
+        kind: &ItemKind,
+    ) -> Result<bool, NoMemory>
+        requires { AreNames (map item_view items.now) names.now }
+        ensures { let all = map item_view items.now in let k = kind_view kind.now in
+            (types functions values : List (List ℕ)) → AreTaken types functions values self.old → IfOk result (λ b.
+            (b ≡ is_taken all types functions values k)
+            × (b ≡ false → AreTaken (types ++ taken_names k) (functions ++ function_names k)
+            (values ++ value_names all k) self.new)) }
+    {
         let own_types = taken_names(alloc, kind)?;
         let own_functions = function_names(alloc, kind)?;
         let own_values = value_names(alloc, names, items, kind)?;

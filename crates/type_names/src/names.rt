@@ -1,5 +1,6 @@
 //! The enums and structs of a file by name, and the variants of each enum by name.
 ghost use Rattle.std.specs.Prelude.{◌≡◌, ℕ, map, OnOk, IfOk, option_map};
+ghost use Rattle.std.specs.Rc.{rc_str_bytes};
 ghost use Rattle.type_names.specs.NameMaps.{get_by_name};
 ghost use Rattle.decl_syntax.specs.Items.{item_view, kind_view, variant_view, file_view};
 ghost use Rattle.type_names.specs.Meanings.{declared_name, declared_at};
@@ -14,13 +15,23 @@ use no_memory::NoMemory;
 use std::alloc::Global;
 
 /// The names of a file: the number of the first enum or struct of each name, counted from 0 over all items, and
-/// for each item that is an enum the number of the first variant of each name. Most items are none, so the map of
-/// an enum stands behind a box.
+/// for each item the names of its variants.
 #[derive(Debug, Drop)]
 pub struct Names {
     pub(crate) declared: IndexMap<Name, usize>,
-    pub(crate) variants: Vec<Option<Box<IndexMap<Name, usize>>>>,
+    pub(crate) variants: Vec<VariantNames>,
 }
+
+/// The names of the variants of an item: in the order of declaration, or the number of the first variant of each
+/// name. What is no enum has none.
+#[derive(Debug, Drop)]
+pub enum VariantNames {
+    Few(Vec<Name>),
+    Many(Box<IndexMap<Name, usize>>),
+}
+
+// The names of so many variants are gone over; of more they are put into a map.
+const FEW: usize = 8;
 
 impl Names {
     /// The names of this file.
@@ -28,7 +39,7 @@ impl Names {
         ensures { IfOk result (AreNames (file_view file.now)) }
     {
         let declared = declared_places(alloc, &file.items)?;
-        let variants = all_variant_places(alloc, &file.items)?;
+        let variants = all_variant_names(alloc, &file.items)?;
         Ok(Names { declared, variants })
     }
 
@@ -74,57 +85,60 @@ fn note(places: &mut IndexMap<Name, usize>, name: Option<&Name>, at: usize) -> R
     let Some(text) = name else {
         return Ok(());
     };
-    if places.contains_key(text.as_str()) {
-        return Ok(());
-    }
     let copy = text.clone()?;
-    places.insert(copy, at)?;
+    places.entry(copy)?.or_insert(at);
     Ok(())
 }
 
-// The variants of each item by name.
-fn all_variant_places(
-    alloc: Global,
-    items: &[Item],
-) -> Result<Vec<Option<Box<IndexMap<Name, usize>>>>, NoMemory>
+// The names of the variants of each item.
+fn all_variant_names(alloc: Global, items: &[Item]) -> Result<Vec<VariantNames>, NoMemory>
     ensures { IfOk result (λ all. map places_of all.items
         ≡ map (λ i. variant_at (kind_variants i.kind)) (map item_view items.now)) }
 {
     let mut all = Vec::with_capacity(alloc, items.len())?;
     for item in items {
-        let places = item_variant_places(alloc, &item.kind)?;
-        all.push(places)?;
+        let names = item_variant_names(alloc, &item.kind)?;
+        all.push(names)?;
     }
     Ok(all)
 }
 
-// The variants of an item by name; what is no enum has none.
-fn item_variant_places(
-    alloc: Global,
-    kind: &ItemKind,
-) -> Result<Option<Box<IndexMap<Name, usize>>>, NoMemory>
-    ensures { IfOk result (λ places. places_of places ≡ variant_at (kind_variants (kind_view kind.now))) }
+// The names of the variants of an item; what is no enum has none.
+fn item_variant_names(alloc: Global, kind: &ItemKind) -> Result<VariantNames, NoMemory>
+    ensures { IfOk result (λ names. places_of names ≡ variant_at (kind_variants (kind_view kind.now))) }
 {
     match kind {
-        ItemKind::Enum(e) => {
-            let places = variant_places(alloc, &e.variants)?;
-            boxed(alloc, places)
-        }
-        _ => Ok(None),
+        ItemKind::Enum(e) => variant_names(alloc, &e.variants),
+        _ => Ok(VariantNames::Few(Vec::new(alloc))),
     }
 }
 
-// The map behind a box.
-fn boxed(
-    alloc: Global,
-    places: IndexMap<Name, usize>,
-) -> Result<Option<Box<IndexMap<Name, usize>>>, NoMemory>
-    ensures { IfOk result (λ all. places_of all ≡ get_by_name places) }
+// The names of these variants.
+fn variant_names(alloc: Global, variants: &[Variant]) -> Result<VariantNames, NoMemory>
+    ensures { IfOk result (λ names. places_of names ≡ variant_at (map variant_view variants.now)) }
 {
-    Ok(Some(Box::new(alloc, places)?))
+    if variants.len() <= FEW {
+        let names = few_names(alloc, variants)?;
+        Ok(VariantNames::Few(names))
+    } else {
+        let places = variant_places(alloc, variants)?;
+        Ok(VariantNames::Many(Box::new(alloc, places)?))
+    }
 }
 
-// The variants by name.
+// The names in the order of declaration.
+fn few_names(alloc: Global, variants: &[Variant]) -> Result<Vec<Name>, NoMemory>
+    ensures { IfOk result (λ all. map rc_str_bytes all.items ≡ map (λ v. v.name) (map variant_view variants.now)) }
+{
+    let mut all = Vec::with_capacity(alloc, variants.len())?;
+    for variant in variants {
+        let copy = variant.name.clone()?;
+        all.push(copy)?;
+    }
+    Ok(all)
+}
+
+// The number of the first variant of each name.
 fn variant_places(alloc: Global, variants: &[Variant]) -> Result<IndexMap<Name, usize>, NoMemory>
     ensures { IfOk result (λ places. get_by_name places ≡ variant_at (map variant_view variants.now)) }
 {

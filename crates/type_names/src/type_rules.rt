@@ -1,11 +1,12 @@
 //! Rules 13, 14, 16 and 17: which written types break them.
-ghost use Rattle.std.specs.Prelude.{◌≡◌, Bool, true, map};
+ghost use Rattle.std.specs.Prelude.{◌≡◌, Bool, true, map, Some, option_map};
 ghost use Rattle.std.specs.List.{list_any};
 ghost use Rattle.decl_syntax.specs.Types.{type_view, types_from};
 ghost use Rattle.decl_syntax.specs.Items.{field_view, form_view, variant_view, kind_view};
 ghost use Rattle.type_names.specs.Meanings.{Means, holds_sizeless, argument_count, arguments_sized};
 ghost use Rattle.type_names.specs.Written.{is_length};
-ghost use Rattle.type_names.specs.TypeRules.{is_unknown, is_sizeless, is_long, is_miscounted, type_test, some_within, some_of_all, some_field, some_type};
+ghost use Rattle.type_names.specs.TypeRules.{is_unknown, means_str, is_sizeless, is_long, is_miscounted, type_test, some_within, some_of_all, some_field, some_type};
+ghost use Rattle.type_names.specs.SomeRule.{is_misnamed, some_test, rule_test};
 ghost use Rattle.type_names.specs.Views.{opaque_view, meaning_view, means_in};
 
 use crate::meanings::{Base, Meaning, Opaque};
@@ -25,9 +26,9 @@ pub enum TypeRule {
     ArgumentCount,
 }
 
-/// Whether a type that is written in the item breaks the rule.
-pub(crate) fn breaks_in_item(names: &Names, rule: TypeRule, kind: &ItemKind) -> bool
-    ensures { result ≡ some_type (means_in names.now) (type_test rule (means_in names.now)) (kind_view kind.now) }
+/// Whether a type that is written in the item breaks the rule; with none, whether it breaks one of them.
+pub(crate) fn breaks_in_item(names: &Names, rule: Option<TypeRule>, kind: &ItemKind) -> bool
+    ensures { result ≡ some_type (means_in names.now) (rule_test rule (means_in names.now)) (kind_view kind.now) }
 {
     match kind {
         ItemKind::Enum(e) => breaks_in_variants(names, rule, &e.variants),
@@ -38,8 +39,8 @@ pub(crate) fn breaks_in_item(names: &Names, rule: TypeRule, kind: &ItemKind) -> 
 }
 
 // Whether the type of a field of one of the variants breaks the rule.
-fn breaks_in_variants(names: &Names, rule: TypeRule, variants: &[Variant]) -> bool
-    ensures { result ≡ list_any (λ v. some_field (means_in names.now) (type_test rule (means_in names.now)) v.form)
+fn breaks_in_variants(names: &Names, rule: Option<TypeRule>, variants: &[Variant]) -> bool
+    ensures { result ≡ list_any (λ v. some_field (means_in names.now) (rule_test rule (means_in names.now)) v.form)
         (map variant_view variants.now) }
 {
     for variant in variants {
@@ -51,8 +52,8 @@ fn breaks_in_variants(names: &Names, rule: TypeRule, variants: &[Variant]) -> bo
 }
 
 // Whether the type of a field breaks the rule.
-fn breaks_in_form(names: &Names, rule: TypeRule, form: &Form) -> bool
-    ensures { result ≡ some_field (means_in names.now) (type_test rule (means_in names.now)) (form_view form.now) }
+fn breaks_in_form(names: &Names, rule: Option<TypeRule>, form: &Form) -> bool
+    ensures { result ≡ some_field (means_in names.now) (rule_test rule (means_in names.now)) (form_view form.now) }
 {
     match form {
         Form::Unit => false,
@@ -62,9 +63,9 @@ fn breaks_in_form(names: &Names, rule: TypeRule, form: &Form) -> bool
 }
 
 // Whether the type of one of the fields breaks the rule.
-fn breaks_in_fields(names: &Names, rule: TypeRule, fields: &[Field]) -> bool
+fn breaks_in_fields(names: &Names, rule: Option<TypeRule>, fields: &[Field]) -> bool
     ensures { result ≡ list_any
-        (λ f. some_within (means_in names.now) (type_test rule (means_in names.now)) true f.type)
+        (λ f. some_within (means_in names.now) (rule_test rule (means_in names.now)) true f.type)
         (map field_view fields.now) }
 {
     for field in fields {
@@ -77,10 +78,10 @@ fn breaks_in_fields(names: &Names, rule: TypeRule, fields: &[Field]) -> bool
 
 // Whether a written type, or one that stands in it, breaks the rule.
 #[cycle(within)]
-fn breaks_within(names: &Names, rule: TypeRule, sized: bool, ty: &Ty) -> bool
-    ensures { result ≡ some_within (means_in names.now) (type_test rule (means_in names.now)) sized (type_view ty.now) }
+fn breaks_within(names: &Names, rule: Option<TypeRule>, sized: bool, ty: &Ty) -> bool
+    ensures { result ≡ some_within (means_in names.now) (rule_test rule (means_in names.now)) sized (type_view ty.now) }
 {
-    if breaks_here(names, rule, sized, ty) {
+    if breaks_asked(names, rule, sized, ty) {
         return true;
     }
     match ty {
@@ -100,8 +101,8 @@ fn breaks_within(names: &Names, rule: TypeRule, sized: bool, ty: &Ty) -> bool
 
 // Whether one of the written types breaks the rule.
 #[cycle(within)]
-fn some_breaks(names: &Names, rule: TypeRule, sized: bool, types: &[Ty]) -> bool
-    ensures { result ≡ some_of_all (means_in names.now) (type_test rule (means_in names.now)) sized
+fn some_breaks(names: &Names, rule: Option<TypeRule>, sized: bool, types: &[Ty]) -> bool
+    ensures { result ≡ some_of_all (means_in names.now) (rule_test rule (means_in names.now)) sized
         (types_from (map type_view types.now)) }
 {
     for ty in types {
@@ -129,6 +130,16 @@ fn holds_sizeless(opaque: Opaque) -> bool
     matches!(opaque, Opaque::Box | Opaque::Rc | Opaque::Arc)
 }
 
+// Whether the written type itself breaks the rule; with none, whether it breaks one of them.
+fn breaks_asked(names: &Names, rule: Option<TypeRule>, sized: bool, ty: &Ty) -> bool
+    ensures { result ≡ rule_test rule (means_in names.now) sized (type_view ty.now) }
+{
+    match rule {
+        Some(rule) => breaks_here(names, rule, sized, ty),
+        None => breaks_some_here(names, sized, ty),
+    }
+}
+
 // Whether the written type itself breaks the rule.
 fn breaks_here(names: &Names, rule: TypeRule, sized: bool, ty: &Ty) -> bool
     ensures { result ≡ type_test rule (means_in names.now) sized (type_view ty.now) }
@@ -139,6 +150,35 @@ fn breaks_here(names: &Names, rule: TypeRule, sized: bool, ty: &Ty) -> bool
         TypeRule::ArrayLength => is_long(ty),
         TypeRule::ArgumentCount => is_miscounted(names, ty),
     }
+}
+
+// Whether the written type itself breaks one of the rules. Its name is looked up once.
+fn breaks_some_here(names: &Names, sized: bool, ty: &Ty) -> bool
+    ensures { result ≡ some_test (means_in names.now) sized (type_view ty.now) }
+{
+    match ty {
+        Ty::Slice(_) => sized,
+        Ty::Array { .. } => is_long(ty),
+        Ty::Named { name, args } => is_misnamed(names.meaning(name), sized, args.len()),
+        _ => false,
+    }
+}
+
+// Whether a name of this meaning with so many arguments breaks one of the rules.
+fn is_misnamed(meaning: Option<Meaning>, sized: bool, count: usize) -> bool
+    ensures { result ≡ is_misnamed (option_map meaning_view meaning) sized count }
+{
+    match meaning {
+        None => true,
+        Some(m) => (sized && is_str(m)) || count != argument_count(m),
+    }
+}
+
+// Whether it is `str`.
+fn is_str(meaning: Meaning) -> bool
+    ensures { result ≡ means_str (Some (meaning_view meaning)) }
+{
+    matches!(meaning, Meaning::Base(Base::Str))
 }
 
 // Whether it is a name that means nothing.
