@@ -38,13 +38,14 @@ bound : (b c : Bool) → c ≡ not b → c ≡ false → b ≡ true
 bound true c e h = refl
 bound false c e h = absurd cc
 
--- a name that is taken behind the others
+-- a name that is taken behind one list
+pub taken_behind : (before : List (List ℕ)) (old new : List ℕ → Bool) (name : List ℕ) → old ≡ among before → new ≡ (λ q. old q || bytes_eq q name) → new ≡ among (before ++ name ∷ [])
+taken_behind before old new name is more = more ∙ same_functions (λ q. ap (λ (f : List ℕ → Bool). f q || bytes_eq q name) is ∙ sym (among_push before name q))
+
+-- a name that is taken behind two lists
 pub taken_more : (before xs : List (List ℕ)) (old new : List ℕ → Bool) (y : List ℕ) → old ≡ among (before ++ xs) → new ≡ (λ q. old q || bytes_eq q y) →
     new ≡ among (before ++ (xs ++ y ∷ []))
-taken_more before xs old new y is more =
-    more ∙ same_functions (λ q.
-    ap (λ (f : List ℕ → Bool). f q || bytes_eq q y) is
-    ∙ (sym (among_push (before ++ xs) y q) ∙ ap (λ (zs : List (List ℕ)). is_among q zs) (append_assoc before xs (y ∷ []))))
+taken_more before xs old new y is more = taken_behind (before ++ xs) old new y is more ∙ ap among (append_assoc before xs (y ∷ []))
 
 -- a name that was free is taken behind the others
 pub taken_step : (before xs : List (List ℕ)) (old new : List ℕ → Bool) (y : List ℕ) (b : Bool) → repeats before xs ≡ false → old ≡ among (before ++ xs) →
@@ -98,10 +99,6 @@ free_is before old name b is fresh = ap not fresh ∙ (not_not (old name) ∙ ap
     not_not : (x : Bool) → not (not x) ≡ x
     not_not true = refl
     not_not false = refl
-
--- a name alone is taken behind the others
-pub taken_alone : (before : List (List ℕ)) (old new : List ℕ → Bool) (name : List ℕ) → old ≡ among before → new ≡ (λ q. old q || bytes_eq q name) → new ≡ among (before ++ name ∷ [])
-taken_alone before old new name is more = more ∙ same_functions (λ q. ap (λ (f : List ℕ → Bool). f q || bytes_eq q name) is ∙ sym (among_push before name q))
 
 -- what breaks rule 10 by one name
 pub is_taken_by_type : (all : List ItemTree) (types functions values : List (List ℕ)) (k : KindTree) (name : List ℕ) →

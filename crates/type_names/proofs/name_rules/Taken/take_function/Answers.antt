@@ -2,7 +2,7 @@ use Rattle.std.proofs.Common.{◌≡◌, ℕ, Bool, true, false, ◌||◌, List,
 use Rattle.std.specs.Rc.{rc_str_bytes}
 use Rattle.type_names.specs.NameMaps.{contains_name}
 use Rattle.type_names.specs.NameRules.{is_among}
-use Rattle.type_names.proofs.TakenLemmas.{or_true, or_false, free_is, taken_alone}
+use Rattle.type_names.proofs.TakenLemmas.{or_true, or_false, free_is, taken_behind}
 use Rattle.type_names.proofs.name_rules.Taken.take_function.Goals as goal
 
 pub returns-then-contains : goal.returns-then-contains
@@ -20,7 +20,7 @@ returns c = λ types functions values are.
       free_is functions _ name _ are.functions_are c.in_ok-is_new.ensures.free ∙ sym (ap (λ b. is_among name functions || b) unknown ∙ or_false (is_among name functions)),
       λ _. record {
         types_are = are.types_are;
-        functions_are = taken_alone functions _ _ name are.functions_are c.in_ok-is_new.ensures.taken;
+        functions_are = taken_behind functions _ _ name are.functions_are c.in_ok-is_new.ensures.taken;
         values_are = are.values_are;
       },
     )
