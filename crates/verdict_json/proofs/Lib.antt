@@ -1,3 +1,4 @@
+pub mod EntryLines
 pub mod Lines
 pub mod OutcomeLines
 pub mod Counts

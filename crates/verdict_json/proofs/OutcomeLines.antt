@@ -1,5 +1,5 @@
 -- The JSON of an outcome, piece by piece.
-use Rattle.std.proofs.Common.{◌≡◌, refl, false, List, ℕ, ◌++◌, map, codes}
+use Rattle.std.proofs.Common.{◌≡◌, refl, false, ◌++◌, map, codes}
 use Rattle.serde_json.specs.Data.{string}
 use Rattle.serde_json.specs.View.{items_of}
 use Rattle.serde_json.specs.Written.{compact_text, items_text}

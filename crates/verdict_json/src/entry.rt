@@ -1,11 +1,11 @@
 // Unreachable arms and alternatives of a report on one function.
-ghost use Rattle.std.specs.Prelude.{◌≡◌, IfOk, string_bytes};
-ghost use Rattle.serde_json.specs.View.{view};
-ghost use Rattle.serde_json.specs.Written.{has_float, compact_text};
+ghost use Rattle.std.specs.Prelude.{◌≡◌, ◌++◌, OnOk, codes, string_bytes};
+ghost use Rattle.serde_json.specs.Data.{boolean};
+ghost use Rattle.serde_json.specs.Written.{compact_text};
 ghost use Rattle.verdict_json.specs.Report.{unreachable_data};
 
-use serde_json::{Value, json};
-use std::alloc::{AllocError, Global};
+use itoa::Buffer;
+use std::alloc::AllocError;
 
 /// An arm or an alternative that no value comes to (Maranget 2007, useless clauses).
 #[derive(Clone, Copy, Debug, PartialEq, Eq)]
@@ -18,15 +18,27 @@ pub struct Unreachable {
     pub whole: bool,
 }
 
-fn unreachable_value(alloc: Global, entry: &Unreachable) -> Result<Value, AllocError>
-    ensures { IfOk result (λ v. view v ≡ unreachable_data entry.now) }
+// Whether it is the whole arm, with the key in front and the brace that closes the object.
+fn last_piece(whole: bool) -> &'static str
+    ensures { result.now ≡ codes ",\"whole\":" ++ (compact_text (boolean whole) ++ codes "}") }
 {
-    json!(in alloc; {"arm": entry.arm, "at": entry.at, "whole": entry.whole})
+    if whole {
+        ",\"whole\":true}"
+    } else {
+        ",\"whole\":false}"
+    }
 }
 
-// The text of an unreachable arm or alternative.
-pub fn unreachable_entry(alloc: Global, entry: &Unreachable) -> Result<String, AllocError>
-    ensures { IfOk result (λ s. string_bytes s ≡ compact_text (unreachable_data entry.now)) }
+// Adds an unreachable arm or alternative.
+pub fn push_entry(text: &mut String, entry: &Unreachable) -> Result<(), AllocError>
+    ensures { OnOk result (string_bytes text.new
+        ≡ string_bytes text.old ++ compact_text (unreachable_data entry.now)) }
 {
-    unreachable_value(alloc, entry)?.to_string(alloc)
+    let mut buffer = Buffer::new();
+    text.push_str("{\"arm\":")?;
+    text.push_str(buffer.format(entry.arm))?;
+    text.push_str(",\"at\":")?;
+    text.push_str(buffer.format(entry.at))?;
+    text.push_str(last_piece(entry.whole))?;
+    Ok(())
 }

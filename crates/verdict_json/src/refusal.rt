@@ -1,15 +1,15 @@
 // Refusals.
-ghost use Rattle.std.specs.Prelude.{◌≡◌, IfOk, IsSome, Some, string_bytes};
-ghost use Rattle.serde_json.specs.View.{view};
-ghost use Rattle.serde_json.specs.Written.{has_float, compact_text};
-ghost use Rattle.verdict_json.specs.Rules.{IsRule, name_of};
-ghost use Rattle.verdict_json.specs.Refused.{refusal_data, alone_data, refusal_text, number_data};
+ghost use Rattle.std.specs.Prelude.{◌≡◌, ◌++◌, IfOk, OnOk, decimal, string_bytes};
+ghost use Rattle.serde_json.specs.Written.{compact_text};
+ghost use Rattle.verdict_json.specs.Rules.{IsRule};
+ghost use Rattle.verdict_json.specs.Refused.{number_data, refusal_data, refusal_text};
 ghost use Rattle.verdict_json.specs.Report.{refused_data};
 
 use crate::rules::rule_name;
+use itoa::Buffer;
 use no_memory::NoMemory;
-use serde_json::{Value, json};
 use std::alloc::{AllocError, Global};
+use witness_text::push_quoted;
 
 /// A rule that is broken, and where, as far as the rule has a place.
 #[derive(Clone, Copy, Debug, PartialEq, Eq)]
@@ -24,69 +24,78 @@ pub struct Refusal {
     pub at: Option<u64>,
 }
 
-fn number_value(alloc: Global, number: Option<u64>) -> Result<Value, AllocError>
-    ensures { IfOk result (λ v. view v ≡ number_data number) }
+// Adds a number.
+fn push_number(text: &mut String, number: u64) -> Result<(), AllocError>
+    ensures { OnOk result (string_bytes text.new ≡ string_bytes text.old ++ decimal number) }
+{
+    let mut buffer = Buffer::new();
+    text.push_str(buffer.format(number))
+}
+
+// Adds a number, or `null` where there is none.
+fn push_place(text: &mut String, number: Option<u64>) -> Result<(), AllocError>
+    ensures { OnOk result (string_bytes text.new ≡ string_bytes text.old ++ compact_text (number_data number)) }
 {
     match number {
-        Some(number) => json!(in alloc; number),
-        None => Ok(Value::Null),
+        Some(number) => push_number(text, number),
+        None => text.push_str("null"),
     }
 }
 
-fn refusal_value(alloc: Global, refusal: &Refusal, name: &str) -> Result<Value, AllocError>
-    ensures { IfOk result (λ v. view v ≡ refusal_data refusal.now name.now) }
+// Adds a refusal by a rule of this name.
+fn push_refusal(
+    alloc: Global,
+    text: &mut String,
+    refusal: &Refusal,
+    name: &str,
+) -> Result<(), AllocError>
+    ensures { OnOk result (string_bytes text.new
+        ≡ string_bytes text.old ++ compact_text (refusal_data refusal.now name.now)) }
 {
-    let arm = number_value(alloc, refusal.arm)?;
-    let at = number_value(alloc, refusal.at)?;
-    let item = number_value(alloc, refusal.item)?;
-    json!(in alloc; {
-        "arm": arm,
-        "at": at,
-        "item": item,
-        "name": name,
-        "rule": refusal.rule
-    })
-}
-
-fn alone_value(alloc: Global, refusal: &Refusal, name: &str) -> Result<Value, AllocError>
-    ensures { IfOk result (λ v. view v ≡ alone_data refusal.now name.now) }
-{
-    let refused = refusal_value(alloc, refusal, name)?;
-    json!(in alloc; {"refused": refused})
+    text.push_str("{\"arm\":")?;
+    push_place(text, refusal.arm)?;
+    text.push_str(",\"at\":")?;
+    push_place(text, refusal.at)?;
+    text.push_str(",\"item\":")?;
+    push_place(text, refusal.item)?;
+    text.push_str(",\"name\":")?;
+    push_quoted(alloc, text, name)?;
+    text.push_str(",\"rule\":")?;
+    push_number(text, u64::from(refusal.rule))?;
+    text.push('}')?;
+    Ok(())
 }
 
 // The text of the refusal, and a line feed.
-#[tactic(auto, unfolding(crate::specs::Refused::refusal_text))]
 fn refusal_line(alloc: Global, refusal: &Refusal) -> Result<String, AllocError>
     requires { IsRule refusal.now.rule }
     ensures { IfOk result (λ s. string_bytes s ≡ refusal_text refusal.now) }
 {
     let name = rule_name(refusal.rule).unwrap();
-    let mut text = alone_value(alloc, refusal, name)?.to_string(alloc)?;
-    text.push('\n')?;
+    let mut text = String::from_str(alloc, "{\"refused\":")?;
+    push_refusal(alloc, &mut text, refusal, name)?;
+    text.push_str("}\n")?;
     Ok(text)
 }
 
-fn refused_value(
+// Adds the entry of a function of this name that is refused.
+pub fn push_refused(
     alloc: Global,
+    text: &mut String,
     function: &str,
     refusal: &Refusal,
-    name: &str,
-) -> Result<Value, AllocError>
-    requires { name_of refusal.now.rule ≡ Some name.now }
-    ensures { IfOk result (λ v. view v ≡ refused_data function.now refusal.now) }
-{
-    let refused = refusal_value(alloc, refusal, name)?;
-    json!(in alloc; {"name": function, "refused": refused})
-}
-
-// The text of the entry of a function of this name that is refused.
-pub fn refused_entry(alloc: Global, function: &str, refusal: &Refusal) -> Result<String, AllocError>
+) -> Result<(), AllocError>
     requires { IsRule refusal.now.rule }
-    ensures { IfOk result (λ s. string_bytes s ≡ compact_text (refused_data function.now refusal.now)) }
+    ensures { OnOk result (string_bytes text.new
+        ≡ string_bytes text.old ++ compact_text (refused_data function.now refusal.now)) }
 {
     let name = rule_name(refusal.rule).unwrap();
-    refused_value(alloc, function, refusal, name)?.to_string(alloc)
+    text.push_str("{\"name\":")?;
+    push_quoted(alloc, text, function)?;
+    text.push_str(",\"refused\":")?;
+    push_refusal(alloc, text, refusal, name)?;
+    text.push('}')?;
+    Ok(())
 }
 
 /// The whole output for a file or a value that is refused: the refusal with the rule's name, and a line feed.

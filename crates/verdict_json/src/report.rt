@@ -9,8 +9,8 @@ ghost use Rattle.verdict_json.specs.Rules.{IsRule};
 ghost use Rattle.verdict_json.specs.Trees.{overlap_view, report_view};
 ghost use Rattle.verdict_json.specs.Writing.{HasEntries, flag_word, shown_tree_text};
 
-use crate::entry::{Unreachable, unreachable_entry};
-use crate::refusal::{Refusal, refused_entry};
+use crate::entry::{Unreachable, push_entry};
+use crate::refusal::{Refusal, push_refused};
 use no_memory::NoMemory;
 use std::alloc::{AllocError, Global};
 use tree_text::{NamedNode, push_tree};
@@ -43,20 +43,14 @@ pub struct ReportText {
 }
 
 // Adds the entries of the unreachable list, with commas between them, and the bracket that closes them.
-fn push_unreachable(
-    alloc: Global,
-    text: &mut String,
-    entries: &[Unreachable],
-) -> Result<(), AllocError>
+fn push_unreachable(text: &mut String, entries: &[Unreachable]) -> Result<(), AllocError>
     ensures { OnOk result (string_bytes text.new
         ≡ string_bytes text.old ++ items_text false (items_of (map unreachable_data entries.now))) }
 {
     let mut later = false;
     for entry in entries {
-        if later {
-            text.push(',')?;
-        }
-        text.push_str(unreachable_entry(alloc, entry)?.as_str())?;
+        push_comma(text, later)?;
+        push_entry(text, entry)?;
         later = true;
     }
     text.push(']')?;
@@ -115,7 +109,7 @@ fn push_function(alloc: Global, text: &mut String, report: &FnReport<'_>) -> Res
     push_overlaps(text, &report.overlaps)?;
     push_shown_tree(alloc, text, &report.tree)?;
     text.push_str(",\"unreachable\":[")?;
-    push_unreachable(alloc, text, &report.unreachable)?;
+    push_unreachable(text, &report.unreachable)?;
     text.push_str(",\"witnesses\":")?;
     push_witnesses(alloc, text, &report.witnesses)?;
     text.push('}')?;
@@ -168,7 +162,7 @@ impl ReportText {
             alloc,
         } = self;
         push_comma(&mut text, later)?;
-        text.push_str(refused_entry(alloc, name, refusal)?.as_str())?;
+        push_refused(alloc, &mut text, name, refusal)?;
         Ok(ReportText {
             text,
             later: true,
