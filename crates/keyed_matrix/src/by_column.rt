@@ -29,23 +29,39 @@ pub fn column_ctors<'a, T: Copy>(
     ensures ctors { IfOk result (λ v. (i : ℕ) (place : List MStep) → slice_get wanted.now i ≡ Some true
         → ctors_in v.items i ≡ ctors_at i (rows_at expand_head place i (plain_rows rows.now))) }
 {
-    let mut lists = no_ctors(alloc, wanted.len())?;
+    let mut lists = no_ctors(alloc, wanted, rows.len().min(ROOM))?;
     for row in rows {
         add_row_ctors(&mut lists, wanted, &row.heads)?;
     }
     Ok(lists)
 }
 
-// So many lists without a constructor.
-fn no_ctors<'a>(alloc: Global, count: usize) -> Result<Vec<Vec<Ctor<'a>>>, NoMemory>
-    ensures long { IfOk result (λ v. length v.items ≡ count) }
+// For so many constructors the list of a wanted column has room at first, at most.
+const ROOM: usize = 64;
+
+// A list without a constructor for each column, with room for so many where the column is wanted.
+fn no_ctors<'a>(alloc: Global, wanted: &[bool], room: usize) -> Result<Vec<Vec<Ctor<'a>>>, NoMemory>
+    ensures long { IfOk result (λ v. length v.items ≡ length wanted.now) }
     ensures none { IfOk result (λ v. (i : ℕ) → ctors_in v.items i ≡ []) }
 {
-    let mut lists = Vec::with_capacity(alloc, count)?;
-    for _k in 0..count {
-        lists.push(Vec::new(alloc))?;
+    let mut lists = Vec::with_capacity(alloc, wanted.len())?;
+    for is_wanted in wanted {
+        let list = room_for(alloc, *is_wanted, room)?;
+        lists.push(list)?;
     }
     Ok(lists)
+}
+
+// No constructor, with room for so many where the column is wanted.
+fn room_for<'a>(alloc: Global, is_wanted: bool, room: usize) -> Result<Vec<Ctor<'a>>, NoMemory>
+    ensures { IfOk result (λ v. v.items ≡ []) }
+{
+    if is_wanted {
+        let list = Vec::with_capacity(alloc, room)?;
+        Ok(list)
+    } else {
+        Ok(Vec::new(alloc))
+    }
 }
 
 // Adds to the list of each wanted column the constructors that the heads have there, once they are taken apart.

@@ -37,7 +37,7 @@ pub fn ctors_at<'a, T: Copy>(
     requires { AreLonger i (plain_rows rows.now) }
     ensures { IfOk result (λ v. map plain_ctor v.items ≡ ctors_at i (plain_rows rows.now)) }
 {
-    let mut ctors = Vec::new(alloc);
+    let mut ctors = Vec::with_capacity(alloc, rows.len())?;
     for row in rows {
         add_ctor(&mut ctors, row, i)?;
     }
