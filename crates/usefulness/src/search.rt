@@ -143,7 +143,6 @@ fn count_of<'a, T: Copy>(opened: &Opened<'a, T>) -> usize {
 
 // Takes a step: the entry, which was taken from the end of the stack, is looked at, or one of its pieces, and what is left
 // of it is put there.
-#[inline(always)]
 fn step<'a, C: PatCx>(
     alloc: Global,
     cx: &C,
