@@ -22,7 +22,7 @@ FAMILIES = [
     ("guards", 2000), ("guards_same", 2000), ("guards_mixed", 250), ("mixed", 200), ("pairs_grid", 2500), ("enum_pairs", 500), ("bools_diag", 64),
     ("bools_diag_wild", 32), ("struct", 32), ("struct_full", 60), ("options", 15), ("slices", 32), ("slices_lit", 32), ("slices_back", 32),
     ("hard_or", 6), ("hard_or_enum", 4), ("hard_diag2", 4), ("hard_pairs", 5), ("hard_pairs_split", 4), ("hard_full", 5), ("hard_halves", 5),
-    ("hard_literals", 5), ("hard_triangle", 32), ("hard_nested_or", 5),
+    ("hard_literals", 3), ("hard_triangle", 32), ("hard_nested_or", 5),
 ]
 
 
