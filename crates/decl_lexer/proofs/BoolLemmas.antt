@@ -1,6 +1,2 @@
--- A test that is not true is false.
-use Rattle.std.proofs.Common.{◌≡◌, Bool, true, false, refl}
-
-pub not_equal : (b : Bool) → (b ≡ true → ⊥) → b ≡ false
-not_equal true h = absurd (h refl)
-not_equal false h = refl
+-- A test that is not true is false, by the name that crates above cite.
+pub use Rattle.std.proofs.lemmas.Bool.{false_from_ne_true as not_equal}

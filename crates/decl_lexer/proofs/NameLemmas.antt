@@ -1,6 +1,6 @@
 -- Names: what begins one may stand within it, and ASCII names are in NFC.
-use Rattle.std.proofs.Common.{◌≡◌, ℕ, Bool, true, false, ◌||◌, eqb, List, chars, encode_utf8_all, All, ◌<◌, ◌==◌, refl, sym, ap, ◌∙◌, lit<, ◌⊎◌, inl, inr}
-use Rattle.std.proofs.lemmas.Bool.{eqb-true}
+use Rattle.std.proofs.Common.{◌≡◌, ℕ, Bool, true, false, ◌||◌, eqb, List, chars, encode_utf8_all, All, ◌<◌, ◌==◌, sym, ap, ◌∙◌, lit<, inl, inr}
+use Rattle.std.proofs.lemmas.Bool.{eqb-true, or_cases}
 use Rattle.std.proofs.lemmas.List.{get_or_default}
 use Rattle.std.proofs.lemmas.Str.{chars-IsAscii, encodes-IsAscii}
 use Rattle.std.specs.Char.{is_ascii_alphanumeric}
@@ -11,13 +11,9 @@ use Rattle.unicode_ident.specs.Ident.{is_xid_start, is_xid_continue}
 use Rattle.unicode_ident.proofs.IdentLemmas.{is_xid_start-is_xid_continue, is_xid_continue-ascii}
 use Rattle.decl_lexer.specs.Names.{is_name_start}
 
-pub either : (a b : Bool) → (a || b) ≡ true → (a ≡ true) ⊎ (b ≡ true)
-either true b h = inl refl
-either false b h = inr h
-
 pub start_continues : (c : ℕ) → is_name_start c ≡ true → is_xid_continue c ≡ true
 start_continues c h =
-    elim (either (is_xid_start c) (eqb c 95) h) [
+    elim (or_cases (is_xid_start c) (eqb c 95) h) [
       | inl letter ↦ is_xid_start-is_xid_continue c letter
       | inr mark ↦ ap is_xid_continue (eqb-true c 95 mark) ∙ is_xid_continue-ascii 95 (lit< tt)
     ]

@@ -1,9 +1,8 @@
 -- Block comments nest.
 use Rattle.std.proofs.Common.{◌≡◌, ℕ, zero, suc, ◌+◌, ◌-◌, Bool, true, false, cond, ◌&&◌, ◌==◌, List, [], ◌∷◌, ◌++◌, Option, Some, refl, sym, ap, ◌∙◌, arith}
-use Rattle.std.proofs.lemmas.Bool.{eqb-true, and_parts}
+use Rattle.std.proofs.lemmas.Bool.{eqb-true, and_parts, false_from_ne_true}
 use Rattle.decl_lexer.specs.Gaps.{comment_end, IsInside, closes, nests, goes_on}
 use Rattle.decl_lexer.specs.Text.{begins_with}
-use Rattle.decl_lexer.proofs.BoolLemmas.{not_equal}
 use lib.Chars.{codes}
 
 one_less : (d : ℕ) → suc d - 1 ≡ d
@@ -13,7 +12,7 @@ one_more : (d : ℕ) → d + 1 ≡ suc d
 one_more d = omega arith
 
 not_zero : (d : ℕ) → (suc d == 0) ≡ false
-not_zero d = not_equal (suc d == 0) (λ e. let same : suc d ≡ 0 = eqb-true (suc d) 0 e in omega arith)
+not_zero d = false_from_ne_true (suc d == 0) (λ e. let same : suc d ≡ 0 = eqb-true (suc d) 0 e in omega arith)
 
 plain_end : (depth c : ℕ) (cs : List ℕ) → begins_with (codes "/*") (c ∷ cs) ≡ false → begins_with (codes "*/") (c ∷ cs) ≡ false → comment_end depth (c ∷ cs) ≡ comment_end depth cs
 unfolding comment_end

@@ -1,9 +1,8 @@
 -- One digit further in a number.
 use Rattle.std.proofs.Common.{◌≡◌, ◌≢◌, ℕ, ◌+◌, ◌*◌, ◌<◌, true, false, ◌||◌, ◌==◌, nat_le, List, ◌∷◌, refl, subst, arith}
-use Rattle.std.proofs.lemmas.Bool.{eqb-true, lt-ltb}
+use Rattle.std.proofs.lemmas.Bool.{eqb-true, lt-ltb, false_from_ne_true}
 use Rattle.std.specs.Char.{digit_value, is_digit}
 use Rattle.decl_lexer.specs.Numbers.{behind_digits, has_digit, has_other_digit, number_from}
-use Rattle.decl_lexer.proofs.BoolLemmas.{not_equal}
 
 -- what a digit at the front adds
 pub record IsDigitStep (radix base c : ℕ) (all cs : List ℕ) : Type 0 where
@@ -15,7 +14,7 @@ pub record IsDigitStep (radix base c : ℕ) (all cs : List ℕ) : Type 0 where
 pub digit_step : (radix base c : ℕ) (all cs : List ℕ) → all ≡ c ∷ cs → c ≢ 95 → digit_value c < radix → IsDigitStep radix base c all cs
 digit_step radix base c all cs e ne less =
     let digit : is_digit c radix ≡ true = lt-ltb (digit_value c) radix less in
-    let plain : (c == 95) ≡ false = not_equal (c == 95) (λ same. ne (eqb-true c 95 same)) in
+    let plain : (c == 95) ≡ false = false_from_ne_true (c == 95) (λ same. ne (eqb-true c 95 same)) in
     record {
       number = λ n. rw (e, plain, digit) refl;
       some = rw (e, plain, digit) refl;

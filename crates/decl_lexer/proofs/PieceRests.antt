@@ -1,5 +1,6 @@
 -- Each kind of piece: what stands behind it is what its text ends with.
-use Rattle.std.proofs.Common.{◌≡◌, ℕ, ◌+◌, ◌-◌, Bool, true, false, cond, ◌&&◌, ◌||◌, ◌==◌, eqb, List, [], ◌∷◌, drop, take, Option, Some, None, encode_utf8_all, refl}
+use Rattle.std.proofs.Common.{◌≡◌, ℕ, ◌+◌, ◌-◌, Bool, true, false, cond, ◌&&◌, ◌==◌, eqb, List, [], ◌∷◌, drop, take, Option, Some, None, encode_utf8_all}
+use Rattle.std.proofs.lemmas.Bool.{or_right}
 use Rattle.std.specs.Option.{option_map_or}
 use Rattle.unicode_ident.specs.Ident.{is_xid_continue}
 use Rattle.unicode_normalization.specs.Forms.{nfc}
@@ -82,10 +83,6 @@ raw_rests text inside behind h = by_case (can_be_raw (encode_utf8_all (name_of b
     by_case true = through inside behind _ h (skipped is_xid_continue behind)
     by_case false = (itself text, bad_token)
 
-or_true : (a b : Bool) → b ≡ true → (a || b) ≡ true
-or_true true b h = refl
-or_true false b h = h
-
 name_rests : (c : ℕ) (cs : List ℕ) → is_name_start c ≡ true → EndsIn cs (behind_name (c ∷ cs))
 name_rests c cs h = by_case (is_xid_continue c) (start_continues c h)
   where
@@ -164,7 +161,7 @@ decimal_rests text inside h =
     (integer_rests text inside behind (in_128_bits (number_from 10 10 0 text)) true h)
 
 first_digit : (c : ℕ) (cs : List ℕ) → is_digit c 10 ≡ true → EndsIn cs (behind_digits 10 (c ∷ cs))
-first_digit c cs h = by (is_digit_or_underscore 10 c) (or_true (c == 95) (is_digit c 10) h)
+first_digit c cs h = by (is_digit_or_underscore 10 c) (or_right (c == 95) (is_digit c 10) h)
   where
     by : (b : Bool) → b ≡ true → EndsIn cs (cond b (behind_digits 10 cs) (c ∷ cs))
     by true e = skipped (is_digit_or_underscore 10) cs

@@ -3,10 +3,9 @@ use Rattle.std.proofs.Common.{◌≡◌, ℕ, zero, suc, Bool, true, false, cond
 use Rattle.std.specs.Prelude.{slice_get}
 use Rattle.std.specs.declared.rc.RcStr.{RcStr}
 use Rattle.std.specs.Global.{Global}
-use Rattle.std.specs.List.{list_any}
 use Rattle.std.specs.List.{find}
 use Rattle.std.proofs.lemmas.List.{append-nil, map-append}
-use Rattle.indexmap.specs.IndexSet.{insert_key}
+use Rattle.std.proofs.lemmas.Option.{same_Some}
 use Rattle.decl_lexer.specs.Lexing.{Placed}
 use Rattle.decl_lexer.specs.declared.stored.Lists.{Lists}
 use Rattle.decl_lexer.specs.declared.stored.Stored.{Stored}
@@ -25,21 +24,8 @@ get_next (x ∷ xs) y ys = get_next xs y ys
 pub grew_same : {A : Type 0} (xs : List A) → Grew xs xs
 grew_same xs = ([], sym (append-nil xs))
 
-pub grew_push : {A : Type 0} (xs ys : List A) (x : A) → ys ≡ xs ++ x ∷ [] → Grew xs ys
-grew_push xs ys x e = (x ∷ [], e)
-
 grew_on : {A : Type 0} (xs ys zs : List A) → Grew xs ys → Grew ys zs → Grew xs zs
 grew_on xs ys zs g h = (g.0 ++ h.0, h.1 ∙ (ap (λ l. l ++ h.0) g.1 ∙ append_assoc xs g.0 h.0))
-
-pub grew_insert : {A : Type 0} (eq : A → A → Bool) (ks new : List A) (k : A) → new ≡ insert_key eq ks k → Grew ks new
-grew_insert {A} eq ks new k e = go (list_any (eq k) ks) e
-  where
-    go : (b : Bool) → new ≡ cond b ks (ks ++ k ∷ []) → Grew ks new
-    go true f = ([], f ∙ sym (append-nil ks))
-    go false f = (k ∷ [], f)
-
-some_one : {A : Type 0} (x y : A) → Some x ≡ Some y → x ≡ y
-some_one x y h = cc
 
 -- what is found passes the test
 pub found_passes : {A : Type 0} (test : A → Bool) (xs : List A) (x : A) → find test xs ≡ Some x → test x ≡ true
@@ -47,7 +33,7 @@ found_passes test [] x h = absurd cc
 found_passes {A} test (y ∷ ys) x h = go (test y) refl h (found_passes test ys x)
   where
     go : (b : Bool) → test y ≡ b → cond b (Some y) (find test ys) ≡ Some x → (find test ys ≡ Some x → test x ≡ true) → test x ≡ true
-    go true e f later = subst (λ z. test z ≡ true) (some_one y x f) e
+    go true e f later = subst (λ z. test z ≡ true) (same_Some y x f) e
     go false e f later = later f
 
 -- an entry stays where it is

@@ -1,6 +1,6 @@
 -- One step further inside a text.
 use Rattle.std.proofs.Common.{◌≡◌, ◌≢◌, ℕ, ◌-◌, ◌≤◌, true, false, cond, ◌||◌, ◌==◌, List, [], ◌∷◌, ◌++◌, length, drop, chars, Option, Some, None, Ok, Err, encode_utf8, encode_utf8_all, refl, sym, ap, subst, ◌∙◌, append_assoc, length-append, arith, Bool}
-use Rattle.std.proofs.lemmas.Bool.{eqb-true}
+use Rattle.std.proofs.lemmas.Bool.{eqb-true, false_from_ne_true}
 use Rattle.std.proofs.lemmas.List.{append-nil}
 use Rattle.std.proofs.lemmas.Str.{encodes-chars, encodes-append}
 use Rattle.std.specs.Str.{IsUtf8}
@@ -8,12 +8,11 @@ use Rattle.std.specs.List.{take_while}
 use Rattle.std.proofs.lemmas.List.Sums.{take_while-cons}
 use Rattle.decl_lexer.specs.declared.escapes.Quoted.{Quoted}
 use Rattle.decl_lexer.specs.Begins.{Fault}
-use Rattle.decl_lexer.specs.Text.{begins_with, skip_while, first_passes}
+use Rattle.decl_lexer.specs.Text.{begins_with, skip_while}
 use Rattle.decl_lexer.specs.Escapes.{escape}
 use Rattle.decl_lexer.specs.Texts.{is_ordinary, TextRead, with_front, text_breaks, begins_line_end, behind_blanks, text_from, has_hashes, raw_from}
 use Rattle.decl_lexer.proofs.Rests.{EndsIn, itself, past}
 use Rattle.decl_lexer.proofs.QuoteRests.{EscapeEnds, escape_ends}
-use Rattle.decl_lexer.proofs.BoolLemmas.{not_equal}
 
 abbrev done : List ℕ → List ℕ → TextRead
 done value rest = Ok (value, rest)
@@ -40,7 +39,7 @@ pub whole_fails : (value : List ℕ) (f : Fault) (r whole : TextRead) → r ≡ 
 whole_fails value f r whole e h = sym h ∙ ap (with_front value) e
 
 other : (c d : ℕ) → c ≢ d → (c == d) ≡ false
-other c d ne = not_equal (c == d) (λ same. ne (eqb-true c d same))
+other c d ne = false_from_ne_true (c == d) (λ same. ne (eqb-true c d same))
 
 skip_read : (kind : Quoted) (start front rest : List ℕ) → text_from kind start (length front) (front ++ rest) ≡ text_from kind start 0 rest
 unfolding text_from
@@ -144,15 +143,6 @@ escape_not_longer kind text rest x u v found =
 -- a run of characters that stand for themselves
 not_among : (escapes : Bool) (c d : ℕ) → is_ordinary escapes d ≡ false → is_ordinary escapes c ≡ true → c ≢ d
 not_among escapes c d special plain same = let e : true ≡ false = sym plain ∙ ap (is_ordinary escapes) same ∙ special in cc
-
-pub is_run : (c : ℕ) → c ≢ 34 → c ≢ 92 → c ≢ 13 → is_ordinary true c ≡ true
-is_run c quote backslash cr = rw (other c 34 quote, other c 13 cr, other c 92 backslash) refl
-
-pub is_raw_run : (c : ℕ) → c ≢ 34 → c ≢ 13 → is_ordinary false c ≡ true
-is_raw_run c quote cr = rw (other c 34 quote, other c 13 cr) refl
-
-pub run_passes : (escapes : Bool) (c : ℕ) (all cs : List ℕ) → all ≡ c ∷ cs → is_ordinary escapes c ≡ true → first_passes (is_ordinary escapes) all ≡ true
-run_passes escapes c all cs e h = ap (first_passes (is_ordinary escapes)) e ∙ h
 
 -- a run at the front of a text
 abbrev AtRun : Bool → (List ℕ → TextRead) → List ℕ → Type 0

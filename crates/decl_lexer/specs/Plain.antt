@@ -1,4 +1,4 @@
--- Tokens that their first character tells.
+-- What the first two characters of a text tell of the token that it begins with.
 use Rattle.std.specs.Prelude.{◌≡◌, ℕ, List, [], ◌∷◌, Bool, true, not, nat_lt, ◌&&◌, ◌||◌, ◌==◌, nat_le, Option, Some, None, chars}
 use Rattle.std.specs.Char.{is_ascii_alphanumeric}
 use lib.Chars.{codes}
@@ -12,7 +12,7 @@ use Rattle.decl_lexer.specs.Views.{plain_view}
 abbrev pub is_plain_start : ℕ → Bool
 is_plain_start c = c == 97 || (nat_le 100 c && nat_le c 113) || (nat_le 115 c && nat_le c 122) || (nat_le 65 c && nat_le c 90) || c == 95
 
--- what may stand between `b`, `c` or `r` and a quoted piece or a raw name
+-- what may be part of a quoted piece or a raw name behind `b`, `c` or `r`: a quote, `#`, or `r`, which may stand before them
 abbrev pub is_quote_sign : ℕ → Bool
 is_quote_sign c = is_one_of (codes "\"#'r") c
 
@@ -33,7 +33,7 @@ abbrev pub starts_other : List ℕ → Bool
 starts_other [] = true
 starts_other (c ∷ cs) = ends_number c
 
--- the characters that most marks begin with
+-- the first characters of the commonest marks
 abbrev pub is_plain_mark : ℕ → Bool
 is_plain_mark c = is_one_of (codes "(){}[],;#:=|") c
 

@@ -1,5 +1,5 @@
 //! Whitespace and comments.
-ghost use Rattle.std.specs.Prelude.{◌≡◌, ◌≤◌, length, IfSome, option_map, chars};
+ghost use Rattle.std.specs.Prelude.{◌≡◌, ◌≤◌, length, option_map, chars};
 ghost use Rattle.decl_lexer.specs.Text.{skip_while};
 ghost use Rattle.decl_lexer.specs.Gaps.{is_space, is_within_line, comment_end};
 

@@ -74,7 +74,7 @@ pub fn name_form(alloc: Global, text: &str) -> Result<String, NoMemory>
     }
 }
 
-/// The rest from its first character on that is no whitespace, and where that begins.
+/// The rest behind the whitespace that it begins with, and where that begins. That no whitespace is left does not follow.
 #[inline(always)]
 fn behind_spaces(at: u64, rest: &str) -> (u64, &str)
     requires { at + length rest.now < 2 ^ 64 }
@@ -93,8 +93,8 @@ fn behind_spaces(at: u64, rest: &str) -> (u64, &str)
     }
 }
 
-/// The first token of the rest, which begins at byte `at` of its source, and the text behind the token, where its first
-/// character tells it.
+/// The token that the rest begins with, at byte `at` of its source, and the text behind the token, where the first two
+/// characters tell it. Else `None`, from which nothing follows.
 #[inline(always)]
 fn plain_token(at: u64, rest: &str) -> Option<(PlainToken<'_>, &str)>
     requires { at + length rest.now < 2 ^ 64 }

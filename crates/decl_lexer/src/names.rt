@@ -7,7 +7,7 @@ ghost use Rattle.decl_lexer.specs.Names.{is_name_start, lexeme_of, name_at, raw_
 ghost use Rattle.decl_lexer.specs.Views.{GivesPiece, read_view};
 
 use crate::marks::Mark;
-use crate::pieces::{Piece, PieceError};
+use crate::pieces::{Piece, PieceRead, breaks};
 use crate::read::ReadKind;
 use crate::text::{split_first, split_name};
 use crate::words::{can_be_raw, word_of};
@@ -15,7 +15,7 @@ use std::alloc::{AllocError, Global};
 use unicode_normalization::to_nfc;
 
 /// The name, keyword or `_` that the text begins with.
-pub fn name_at(alloc: Global, text: &str) -> Result<(Piece<'_>, &str), PieceError<'_>>
+pub fn name_at(alloc: Global, text: &str) -> PieceRead<'_>
     ensures { GivesPiece result (name_at (chars text.now)) }
 {
     let (name, rest) = split_name(text);
@@ -25,19 +25,12 @@ pub fn name_at(alloc: Global, text: &str) -> Result<(Piece<'_>, &str), PieceErro
 
 /// The raw name that the text begins with; `behind` is what stands behind its `r#`.
 #[inline(never)]
-pub fn raw_name_at<'a>(
-    alloc: Global,
-    text: &'a str,
-    behind: &'a str,
-) -> Result<(Piece<'a>, &'a str), PieceError<'a>>
+pub fn raw_name_at<'a>(alloc: Global, text: &'a str, behind: &'a str) -> PieceRead<'a>
     ensures { GivesPiece result (raw_name_at (chars text.now) (chars behind.now)) }
 {
     let (name, rest) = split_name(behind);
     if !can_be_raw(name) {
-        return Err(PieceError::Fault {
-            rule: 2,
-            rest: text,
-        });
+        return breaks(2, text);
     }
     let kind = named(alloc, name, true)?;
     Ok((Piece::Token(kind), rest))

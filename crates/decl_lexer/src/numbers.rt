@@ -1,6 +1,5 @@
 //! Integer and floating-point literals.
-ghost use Rattle.std.specs.Prelude.{◌≡◌, ◌+◌, ◌*◌, ◌<◌, ◌≤◌, ◌∷◌, ℕ, drop, chars, encode_utf8_all, IfOk, IfSome, MatchOption, Ok, Some, [], true, false};
-ghost use Rattle.std.specs.Char.{is_digit};
+ghost use Rattle.std.specs.Prelude.{◌≡◌, ◌+◌, ◌*◌, ◌<◌, ◌≤◌, ◌∷◌, ℕ, chars, encode_utf8_all, IfOk, IfSome, MatchOption, Ok, Some, [], true, false};
 ghost use Rattle.decl_lexer.specs.Text.{first_passes};
 ghost use Rattle.decl_lexer.specs.Numbers.{behind_digits, has_digit, has_other_digit, number_from, in_128_bits, suffix_of, behind_suffix, is_exponent_letter, behind_sign, has_exponent, behind_exponent, integer_at, based_at, float_at, fraction_at, is_point, decimal_at, number_at};
 ghost use Rattle.decl_lexer.specs.Begins.{Integer, token};
@@ -8,7 +7,7 @@ ghost use Rattle.decl_lexer.specs.Plain.{ends_number, starts_other};
 ghost use Rattle.decl_lexer.specs.Views.{GivesPiece, read_view};
 
 use crate::names::{is_name_start, starts_name};
-use crate::pieces::{Piece, PieceError};
+use crate::pieces::{Piece, PieceRead, breaks};
 use crate::read::ReadKind;
 use crate::text::{first_is, skip_first, split_first, split_name};
 use crate::token::IntToken;
@@ -29,12 +28,7 @@ pub struct Digits<'a> {
 
 /// The number that the text begins with; `behind` is the text behind its first digit.
 #[inline(never)]
-pub fn number_at<'a>(
-    alloc: Global,
-    text: &'a str,
-    first: char,
-    behind: &'a str,
-) -> Result<(Piece<'a>, &'a str), PieceError<'a>>
+pub fn number_at<'a>(alloc: Global, text: &'a str, first: char, behind: &'a str) -> PieceRead<'a>
     requires { chars text.now ≡ first ∷ chars behind.now }
     ensures { GivesPiece result (number_at first (chars behind.now)) }
 {
@@ -50,7 +44,8 @@ pub fn number_at<'a>(
     decimal_at(alloc, text)
 }
 
-/// The number that the text begins with, and the text behind it, where it is decimal digits alone and few of them. Else `None`.
+/// The integer that the text begins with, and the text behind it, where decimal digits alone write it, the end or another
+/// character of ASCII follows them, and it is at most 4 * 10^9 + 9. Else `None`, from which nothing follows.
 #[inline(always)]
 pub fn plain_number(text: &str) -> Option<(u32, &str)>
     ensures { IfSome result (λ p. decimal_at (chars text.now) ≡ token (Integer (Some p.0) [] true) (chars p.1.now)) }
@@ -63,8 +58,7 @@ pub fn plain_number(text: &str) -> Option<(u32, &str)>
     }
 }
 
-/// The number that the decimal digits write that the text begins with, and the text behind them. From some 4 * 10^9 on,
-/// `None`.
+/// The number that the decimal digits write that the text begins with, and the text behind them. Above 4 * 10^9 + 9, `None`.
 #[inline(always)]
 fn few_digits(text: &str) -> Option<(u32, &str)>
     ensures number { IfSome result (λ p. number_from 10 10 p.0 (chars p.1.now) ≡ number_from 10 10 0 (chars text.now)) }
@@ -85,7 +79,8 @@ fn few_digits(text: &str) -> Option<(u32, &str)>
     Some((number, rest))
 }
 
-/// Whether the text is empty or begins with a character that goes on no number.
+/// Whether the text is empty or begins with a character of ASCII that is no letter or digit, `_` or `.`. Such a character
+/// goes on no number.
 #[inline(always)]
 fn starts_other(text: &str) -> bool
     ensures { result ≡ starts_other (chars text.now) }
@@ -111,7 +106,7 @@ fn based_at<'a>(
     base: u32,
     text: &'a str,
     inside: &'a str,
-) -> Result<(Piece<'a>, &'a str), PieceError<'a>>
+) -> PieceRead<'a>
     requires least { 2 ≤ base }
     requires most { base ≤ radix }
     requires radix { radix ≤ 36 }
@@ -119,16 +114,13 @@ fn based_at<'a>(
 {
     let digits = read_digits(radix, base, inside);
     if !digits.some || digits.others {
-        return Err(PieceError::Fault {
-            rule: 2,
-            rest: text,
-        });
+        return breaks(2, text);
     }
     integer_at(alloc, text, digits.value, false, digits.rest)
 }
 
 /// A number without a prefix at the start of the text.
-fn decimal_at(alloc: Global, text: &str) -> Result<(Piece<'_>, &str), PieceError<'_>>
+fn decimal_at(alloc: Global, text: &str) -> PieceRead<'_>
     ensures { GivesPiece result (decimal_at (chars text.now)) }
 {
     let digits = read_digits(10, 10, text);
@@ -142,7 +134,7 @@ fn decimal_at(alloc: Global, text: &str) -> Result<(Piece<'_>, &str), PieceError
 }
 
 /// A float with a `.` at the start of the text, behind which `inside` stands.
-fn fraction_at<'a>(text: &'a str, inside: &'a str) -> Result<(Piece<'a>, &'a str), PieceError<'a>>
+fn fraction_at<'a>(text: &'a str, inside: &'a str) -> PieceRead<'a>
     ensures { GivesPiece result (fraction_at (chars text.now) (chars inside.now)) }
 {
     let digits = read_digits(10, 10, inside);
@@ -150,10 +142,7 @@ fn fraction_at<'a>(text: &'a str, inside: &'a str) -> Result<(Piece<'a>, &'a str
         return Ok(float_at(rest));
     }
     if starts_exponent(digits.rest) {
-        return Err(PieceError::Fault {
-            rule: 2,
-            rest: text,
-        });
+        return breaks(2, text);
     }
     Ok(float_at(digits.rest))
 }
@@ -165,14 +154,11 @@ fn integer_at<'a>(
     value: Option<u128>,
     decimal: bool,
     behind: &'a str,
-) -> Result<(Piece<'a>, &'a str), PieceError<'a>>
+) -> PieceRead<'a>
     ensures { GivesPiece result (integer_at (chars text.now) value decimal (chars behind.now)) }
 {
     if starts_exponent(behind) {
-        return Err(PieceError::Fault {
-            rule: 2,
-            rest: text,
-        });
+        return breaks(2, text);
     }
     let (suffix, rest) = split_suffix(behind);
     let kind = integer_kind(alloc, value, suffix, decimal)?;

@@ -1,5 +1,6 @@
 //! What a text begins with: whitespace, a comment or a token, or else a fault.
 ghost use Rattle.std.specs.Prelude.{◌≡◌, [], ◌∷◌, ◌&&◌, ◌==◌, drop, option_map, chars, codes};
+ghost use Rattle.decl_lexer.specs.Begins.{breaks};
 ghost use Rattle.decl_lexer.specs.Gaps.{comment_at};
 ghost use Rattle.decl_lexer.specs.Marks.{longest_mark, mark_at};
 ghost use Rattle.decl_lexer.specs.Text.{begins_with, first_passes};
@@ -33,6 +34,16 @@ pub enum PieceError<'a> {
     Fault { rule: u32, rest: &'a str },
 }
 
+/// The piece that a text begins with, and the text behind it.
+pub type PieceRead<'a> = Result<(Piece<'a>, &'a str), PieceError<'a>>;
+
+/// The rule is broken where the text begins.
+pub fn breaks(rule: u32, text: &str) -> PieceRead<'_>
+    ensures { GivesPiece result (breaks rule (chars text.now)) }
+{
+    Err(PieceError::Fault { rule, rest: text })
+}
+
 impl From<AllocError> for PieceError<'_> {
     ghost use Rattle.decl_lexer.specs.declared.pieces.PieceError.TheVariants.{Memory};
 
@@ -46,12 +57,7 @@ impl From<AllocError> for PieceError<'_> {
 /// The piece that the text begins with, and the text behind it.
 /// `behind` is the text behind its first character.
 #[tactic(auto, unfolding(crate::specs::Pieces::piece_at))]
-pub fn piece_at<'a>(
-    alloc: Global,
-    text: &'a str,
-    first: char,
-    behind: &'a str,
-) -> Result<(Piece<'a>, &'a str), PieceError<'a>>
+pub fn piece_at<'a>(alloc: Global, text: &'a str, first: char, behind: &'a str) -> PieceRead<'a>
     requires { chars text.now ≡ first ∷ chars behind.now }
     ensures { GivesPiece result (piece_at first (chars behind.now)) }
 {
@@ -81,12 +87,7 @@ pub fn piece_at<'a>(
 
 /// The piece that the text begins with, where an identifier may begin with its first character.
 /// `behind` is the text behind that character.
-fn letter_at<'a>(
-    alloc: Global,
-    text: &'a str,
-    first: char,
-    behind: &'a str,
-) -> Result<(Piece<'a>, &'a str), PieceError<'a>>
+fn letter_at<'a>(alloc: Global, text: &'a str, first: char, behind: &'a str) -> PieceRead<'a>
     requires { chars text.now ≡ first ∷ chars behind.now }
     ensures { GivesPiece result (letter_at first (chars behind.now)) }
 {
@@ -138,28 +139,22 @@ fn is_raw_name(first: char, behind: &str) -> bool
 }
 
 /// The block comment that the text begins with, which goes on behind its `/*` as `inside`.
-fn comment_at<'a>(text: &'a str, inside: &'a str) -> Result<(Piece<'a>, &'a str), PieceError<'a>>
+fn comment_at<'a>(text: &'a str, inside: &'a str) -> PieceRead<'a>
     ensures { GivesPiece result (comment_at (chars text.now) (chars inside.now)) }
 {
     match skip_comment(inside) {
         Some(rest) => Ok((Piece::Gap, rest)),
-        None => Err(PieceError::Fault {
-            rule: 3,
-            rest: text,
-        }),
+        None => breaks(3, text),
     }
 }
 
 /// The mark that the text begins with.
-fn mark_at(text: &str) -> Result<(Piece<'_>, &str), PieceError<'_>>
+fn mark_at(text: &str) -> PieceRead<'_>
     ensures { GivesPiece result (mark_at (chars text.now)) }
 {
     match longest_mark(text) {
         Some((mark, rest)) => Ok((Piece::Token(ReadKind::Mark(mark)), rest)),
-        None => Err(PieceError::Fault {
-            rule: 2,
-            rest: text,
-        }),
+        None => breaks(2, text),
     }
 }
 

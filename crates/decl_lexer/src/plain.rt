@@ -1,4 +1,4 @@
-//! Tokens that their first character tells.
+//! Tokens that their first character or their first two tell.
 ghost use Rattle.std.specs.Prelude.{◌≡◌, ◌<◌, ◌∷◌, IfSome, true, chars};
 ghost use Rattle.decl_lexer.specs.Begins.{Marked, token};
 ghost use Rattle.decl_lexer.specs.Marks.{mark_at};
@@ -15,8 +15,9 @@ use crate::read::PlainKind;
 use crate::text::{name_before, skip_name, split_first};
 use crate::words::word_of;
 
-/// The token that the text begins with, and the text behind it, where its first character tells of what kind it is. Where
-/// that tells nothing, `None`, and so for a name that is not in ASCII. `behind` is the text behind that character.
+/// The token that the text begins with, and the text behind it, where its first two characters tell of what kind it is:
+/// a name or keyword in ASCII, an integer up to 4 * 10^9, or one of the commonest marks. Else `None`, from which nothing
+/// follows. `behind` is the text behind its first character.
 #[inline(always)]
 pub fn plain_kind<'a>(
     text: &'a str,
@@ -79,16 +80,18 @@ fn starts_plain_name(c: char) -> bool
     matches!(c, 'a' | 'd'..='q' | 's'..='z' | 'A'..='Z' | '_')
 }
 
-/// Whether a text begins with a name or a keyword that begins with `b`, `c` or `r`, and with neither a quoted piece nor a raw name.
-/// `behind` is the text behind its first character.
+/// Whether a text begins with `b`, `c` or `r` and goes on, in `behind`, with nothing that may make more of it than a name
+/// or a keyword. A name such as `bra` is left out.
 #[inline(always)]
 fn starts_letter_name(first: char, behind: &str) -> bool
-    ensures { result ≡ is_letter_name first (chars behind.now) }
+    ensures value { result ≡ is_letter_name first (chars behind.now) }
+    ensures ascii { result ≡ true → first < 128 }
 {
     matches!(first, 'b' | 'c' | 'r') && !starts_sign(behind)
 }
 
-/// Whether the text begins with what may stand between such a letter and a quoted piece or a raw name.
+/// Whether the text begins with a quote or a `#`, or with an `r`, which may stand before them: behind such a letter they
+/// may be part of a quoted piece or a raw name.
 #[inline(always)]
 fn starts_sign(text: &str) -> bool
     ensures { result ≡ first_passes is_quote_sign (chars text.now) }
@@ -108,8 +111,8 @@ fn starts_plain_number(c: char) -> bool
     matches!(c, '1'..='9')
 }
 
-/// The mark that a text begins with, and the text behind it, for the first characters that most marks begin with.
-/// `behind` is the text behind that character.
+/// The mark that a text begins with, and the text behind it, for the first characters of the commonest marks. Else
+/// `None`, from which nothing follows. `behind` is the text behind that character.
 #[inline(always)]
 fn plain_mark(first: char, behind: &str) -> Option<(Mark, &str)>
     ensures mark { IfSome result (λ p. mark_at (first ∷ chars behind.now) ≡ token (Marked p.0) (chars p.1.now)) }

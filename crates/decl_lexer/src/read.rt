@@ -3,7 +3,7 @@ use crate::marks::Mark;
 use crate::token::IntToken;
 use crate::words::Word;
 
-/// A token that its first character tells.
+/// A token that its first character or its first two tell.
 #[derive(Clone, Copy, Debug)]
 pub enum PlainKind<'a> {
     Mark(Mark),

@@ -24,8 +24,9 @@ impl Recent {
     }
 }
 
-/// The place of a name.
-pub fn place(text: &str) -> u8 {
+/// The place of a name. The factor is above the 26 letters, so that names in small letters have places of their own where
+/// their first letters differ by at most eight.
+pub fn place_of(text: &str) -> u8 {
     let bytes = text.as_bytes();
     match (bytes.first(), bytes.last()) {
         (Some(first), Some(last)) => first.wrapping_mul(28).wrapping_add(*last),

@@ -1,5 +1,5 @@
 //! Tokens as they are kept: 16 bytes each, with their texts in lists beside them.
-ghost use Rattle.std.specs.Prelude.{◌≡◌, ◌≤◌, ◌++◌, ◌∷◌, [], length, string_bytes, slice_get, option_map, IfOk, OnOk, MatchOption};
+ghost use Rattle.std.specs.Prelude.{◌≡◌, ◌≤◌, ◌++◌, ◌∷◌, [], length, slice_get, option_map, IfOk, OnOk, MatchOption};
 ghost use Rattle.std.specs.Rc.{rc_str_bytes};
 ghost use Rattle.decl_lexer.specs.Views.{read_view, plain_view, lexeme_view, token_view, read_token_view, plain_token_view};
 ghost use Rattle.decl_lexer.specs.Begins.{mark_of, keyword_of, name_of};
@@ -7,7 +7,7 @@ ghost use Rattle.decl_lexer.specs.Stored.{lexeme_in, Grew, Grows, IsEntry, Shows
 
 use crate::marks::Mark;
 use crate::read::{PlainKind, PlainToken, ReadKind, ReadToken};
-use crate::recent::{Recent, place};
+use crate::recent::{Recent, place_of};
 use crate::token::{IntToken, Name, Token, TokenKind};
 use crate::words::Word;
 use indexmap::IndexSet;
@@ -139,7 +139,7 @@ fn put_recent(
     ensures grew { OnOk result (Grew names.old.keys names.new.keys) }
     ensures entry { IfOk result (λ n. IsEntry text.now (slice_get names.new.keys n)) }
 {
-    let place = place(text);
+    let place = place_of(text);
     let number = recent.number(place);
     if let Some(name) = names.get_index(number as usize) {
         if name.as_str() == text {
@@ -197,7 +197,7 @@ impl Lists {
         }
     }
 
-    /// Keeps what a token is that its first character told.
+    /// Keeps what a token is that its first two characters told.
     #[inline(always)]
     fn keep_plain(
         &mut self,
@@ -319,7 +319,7 @@ impl Tokens {
         Ok(())
     }
 
-    /// Appends a token that its first character told. Places and entries from 2^32 on are want of memory.
+    /// Appends a token that its first two characters told. Places and entries from 2^32 on are want of memory.
     #[inline(always)]
     pub(crate) fn push_plain(
         &mut self,

@@ -6,19 +6,14 @@ ghost use Rattle.decl_lexer.specs.Texts.{begins_line_end, behind_blanks, is_ordi
 ghost use Rattle.decl_lexer.specs.Views.{GivesPiece, GivesText, read_view};
 
 use crate::escapes::{Quoted, escape};
-use crate::pieces::{Piece, PieceError};
+use crate::pieces::{Piece, PieceError, PieceRead, breaks};
 use crate::read::ReadKind;
 use crate::text::{first_is, skip_first, split_first};
 use std::alloc::Global;
 
 /// The text that `text` begins with, which goes on behind its opening quote as `inside`.
 #[inline(never)]
-pub fn text_at<'a>(
-    alloc: Global,
-    kind: Quoted,
-    text: &'a str,
-    inside: &'a str,
-) -> Result<(Piece<'a>, &'a str), PieceError<'a>>
+pub fn text_at<'a>(alloc: Global, kind: Quoted, text: &'a str, inside: &'a str) -> PieceRead<'a>
     ensures { GivesPiece result (text_at kind (chars text.now) (chars inside.now)) }
 {
     match read_text(alloc, kind, text, inside) {
@@ -32,20 +27,12 @@ pub fn text_at<'a>(
 
 /// The raw text that `text` begins with, which goes on behind its letters as `behind`.
 #[inline(never)]
-pub fn raw_text_at<'a>(
-    alloc: Global,
-    kind: Quoted,
-    text: &'a str,
-    behind: &'a str,
-) -> Result<(Piece<'a>, &'a str), PieceError<'a>>
+pub fn raw_text_at<'a>(alloc: Global, kind: Quoted, text: &'a str, behind: &'a str) -> PieceRead<'a>
     ensures { GivesPiece result (raw_text_at kind (chars text.now) (chars behind.now)) }
 {
     let (hashes, rest) = count_hashes(behind);
     if hashes > 255 {
-        return Err(PieceError::Fault {
-            rule: 2,
-            rest: text,
-        });
+        return breaks(2, text);
     }
     match read_raw(alloc, hashes, text, skip_first(rest)) {
         Ok((value, rest)) => {

@@ -1,5 +1,5 @@
 //! The keywords.
-ghost use Rattle.std.specs.Prelude.{◌≡◌, map, IsTrue};
+ghost use Rattle.std.specs.Prelude.{◌≡◌, map};
 ghost use Rattle.decl_lexer.specs.Tables.{with_text};
 ghost use Rattle.decl_lexer.specs.Words.{word_of, can_be_raw};
 

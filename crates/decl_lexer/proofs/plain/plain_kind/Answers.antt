@@ -20,12 +20,12 @@ returns-then-starts_plain_name c =
 
 pub plain_name-requires-then-starts_letter_name : goal.plain_name-requires-then-starts_letter_name
 plain_name-requires-then-starts_letter_name c =
-    letter_name_behind c.args.first (chars c.args.behind.now) (chars c.args.text.now) c.requires (sym c.starts_letter_name.ensures ∙ c.if-starts_letter_name.true)
+    letter_name_behind c.args.first (chars c.args.behind.now) (chars c.args.text.now) c.requires (c.starts_letter_name.ensures.ascii c.if-starts_letter_name.true) (sym c.starts_letter_name.ensures.value ∙ c.if-starts_letter_name.true)
 
 pub returns-then-starts_letter_name : goal.returns-then-starts_letter_name
 returns-then-starts_letter_name c =
     let same : piece_at c.args.first (chars c.args.behind.now) ≡ name_at (c.args.first ∷ chars c.args.behind.now) =
-    letter_name_first c.args.first (chars c.args.behind.now) (sym c.starts_letter_name.ensures ∙ c.if-starts_letter_name.true) in
+    letter_name_first c.args.first (chars c.args.behind.now) (c.starts_letter_name.ensures.ascii c.if-starts_letter_name.true) (sym c.starts_letter_name.ensures.value ∙ c.if-starts_letter_name.true) in
     let P : Begins → Type 0 = λ r. GivesPlain r c.plain_name-then-starts_letter_name.result in
     subst P (sym (same ∙ ap name_at (sym c.requires))) c.plain_name-then-starts_letter_name.ensures
 
