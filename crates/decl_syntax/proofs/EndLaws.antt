@@ -1,6 +1,7 @@
 -- A literal, a path or a range that is read is spelled so, and one that is spelled so is read.
 use Rattle.std.proofs.Common.{◌≡◌, ℕ, ◌<◌, Bool, true, false, ◌&&◌, cond, List, [], ◌∷◌, ◌++◌, length, Option, Some, None, refl, sym, ap, subst, ◌∙◌, arith, inl, inr}
 use Rattle.std.proofs.lemmas.List.{map_push}
+use Rattle.std.proofs.Math.Bool.{and-true, and_assoc}
 use Rattle.decl_lexer.specs.declared.marks.Mark.{Mark}
 use Rattle.decl_lexer.specs.declared.marks.Mark.TheVariants as marks
 use Rattle.decl_lexer.specs.declared.words.Word.TheVariants as words
@@ -53,10 +54,7 @@ pub record SegmentFacts (l : Lexeme) (x : Segment) : Type 0 where
 
 pub segment_facts : (l : Lexeme) (x : Segment) → IsSegment l x → SegmentFacts l x
 segment_facts _ _ (a_name text raw) = record { read = refl; mark = λ m. refl; by_ref = refl; mutable = refl; literal = refl; end = refl; range = refl; begins = refl }
-segment_facts _ _ the_crate = record { read = refl; mark = λ m. refl; by_ref = refl; mutable = refl; literal = refl; end = refl; range = refl; begins = refl }
-segment_facts _ _ the_value = record { read = refl; mark = λ m. refl; by_ref = refl; mutable = refl; literal = refl; end = refl; range = refl; begins = refl }
-segment_facts _ _ the_parent = record { read = refl; mark = λ m. refl; by_ref = refl; mutable = refl; literal = refl; end = refl; range = refl; begins = refl }
-segment_facts _ _ the_type = record { read = refl; mark = λ m. refl; by_ref = refl; mutable = refl; literal = refl; end = refl; range = refl; begins = refl }
+segment_facts _ _ _ = record { read = refl; mark = λ m. refl; by_ref = refl; mutable = refl; literal = refl; end = refl; range = refl; begins = refl }
 
 pub segments : Joined (OneToken IsSegment) (token_at segment_of)
 segments = tokens IsSegment segment_of segment_to (λ l x m. (segment_facts l x m).read)
@@ -90,14 +88,7 @@ pub record LiteralFacts (l : Lexeme) (x : LitTree) : Type 0 where
 
 pub literal_facts : (l : Lexeme) (x : LitTree) → IsLiteral l x → LiteralFacts l x
 literal_facts _ _ a_true = record { read = refl; mark = λ m. refl; by_ref = refl; mutable = refl; name = refl }
-literal_facts _ _ a_false = record { read = refl; mark = λ m. refl; by_ref = refl; mutable = refl; name = refl }
-literal_facts _ _ (a_char c) = record { read = refl; mark = λ m. refl; by_ref = refl; mutable = refl; name = refl }
-literal_facts _ _ (a_byte b) = record { read = refl; mark = λ m. refl; by_ref = refl; mutable = refl; name = refl }
-literal_facts _ _ (an_int value suffix decimal) = record { read = refl; mark = λ m. refl; by_ref = refl; mutable = refl; name = refl }
-literal_facts _ _ a_float = record { read = refl; mark = λ m. refl; by_ref = refl; mutable = refl; name = refl }
-literal_facts _ _ (a_text text) = record { read = refl; mark = λ m. refl; by_ref = refl; mutable = refl; name = refl }
-literal_facts _ _ a_byte_text = record { read = refl; mark = λ m. refl; by_ref = refl; mutable = refl; name = refl }
-literal_facts _ _ a_c_text = record { read = refl; mark = λ m. refl; by_ref = refl; mutable = refl; name = refl }
+literal_facts _ _ _ = record { read = refl; mark = λ m. refl; by_ref = refl; mutable = refl; name = refl }
 
 pub negated_to : (l : Lexeme) (x : LitTree) → negated_of l ≡ Some x → IsNegated l x
 negated_to (Integer value suffix decimal) x e = subst (λ s. IsNegated (Integer value suffix decimal) s) (some_is _ _ e) (negated_int value suffix decimal)
@@ -123,9 +114,7 @@ record EndFacts (l : Lexeme) (x : LitTree) : Type 0 where
 
 end_facts : (l : Lexeme) (x : LitTree) → IsEnd l x → EndFacts l x
 end_facts _ _ (char_end c) = record { read = refl; mark = λ m. refl; range = refl; begins = refl }
-end_facts _ _ (byte_end b) = record { read = refl; mark = λ m. refl; range = refl; begins = refl }
-end_facts _ _ (int_end value suffix decimal) = record { read = refl; mark = λ m. refl; range = refl; begins = refl }
-end_facts _ _ float_end = record { read = refl; mark = λ m. refl; range = refl; begins = refl }
+end_facts _ _ _ = record { read = refl; mark = λ m. refl; range = refl; begins = refl }
 
 range_mark_to : (l : Lexeme) (x : Bool) → range_mark_of l ≡ Some x → IsRangeMark l x
 range_mark_to (Marked marks.TwoDots) x e = subst (λ s. IsRangeMark (Marked marks.TwoDots) s) (some_is _ _ e) two_dots
@@ -260,16 +249,8 @@ pub names_push : (front : List Segment) (s : Segment) → names_of (front ++ s �
 names_push front s = map_push (λ (x : Segment). x.text) front s
 
 pub all_push : (front : List Segment) (s : Segment) → all_names (front ++ s ∷ []) ≡ (all_names front && s.is_name)
-all_push [] s = and_true s.is_name
-  where
-    and_true : (b : Bool) → (b && true) ≡ b
-    and_true true = refl
-    and_true false = refl
-all_push (x ∷ front) s = ap (λ b. x.is_name && b) (all_push front s) ∙ assoc x.is_name (all_names front) s.is_name
-  where
-    assoc : (a b c : Bool) → (a && (b && c)) ≡ ((a && b) && c)
-    assoc true b c = refl
-    assoc false b c = refl
+all_push [] s = and-true s.is_name
+all_push (x ∷ front) s = ap (λ b. x.is_name && b) (all_push front s) ∙ sym (and_assoc x.is_name (all_names front) s.is_name)
 
 -- one name more
 pub gathered : (front : List Segment) (s : Segment) (old new : List (List ℕ)) (plain : Bool) → names_of front ≡ old → all_names front ≡ plain → new ≡ old ++ s.text ∷ []

@@ -1,19 +1,13 @@
 -- A pattern that has at most 64 levels is spelled with at most so many forms around each other.
-use Rattle.std.proofs.Common.{◌≡◌, ℕ, zero, suc, Bool, true, false, ◌&&◌, List, [], ◌∷◌, refl}
+use Rattle.std.proofs.Common.{◌≡◌, ℕ, zero, suc, Bool, true, List, [], ◌∷◌, refl}
+use Rattle.std.proofs.lemmas.Bool.{and_parts, and_from}
 use Rattle.decl_lexer.specs.declared.marks.Mark.{Mark}
 use Rattle.decl_lexer.specs.declared.marks.Mark.TheVariants as marks
 use Rattle.decl_lexer.specs.Lexing.{Placed}
 use Rattle.decl_syntax.specs.Units.{from_of}
-use Rattle.decl_syntax.specs.Patterns.{PatternTree, At, Shape, Wild, Rest, Literal, Name, Bind, BindAs, Path, TupleForm, Brace, Tuple, Group, Slice, Point, Range, Or, PatternTrees, none, more, FieldTrees, no_field, and_field, FieldTree, patterns_from, fields_from, fits, fits_within, all_fit, fields_fit}
+use Rattle.decl_syntax.specs.Patterns.{PatternTree, At, Shape, BindAs, TupleForm, Brace, Tuple, Group, Slice, Point, Or, PatternTrees, none, more, FieldTrees, no_field, and_field, FieldTree, patterns_from, fields_from, fits, fits_within, all_fit, fields_fit}
 use Rattle.decl_syntax.specs.Grammar.{Spelling, CommaList, closed, last, next, Separated, only, further}
 use Rattle.decl_syntax.specs.PatternGrammar.{AltForm, a_range, a_plain, PatternForm, one, several, ItemForm, a_rest, a_pattern, SliceItemForm, a_bound_rest, an_item, PlainForm, wild, literal, negative, bound_as, bound, path, tuple_form, FieldForm, labelled, shorthand, FieldList, all_closed, all_dotted, last_field, next_field, brace_form, unit, only_rest, group, tuple, slice, point, SpellsPlain, LevelsSuffice}
-
-both : (a b : Bool) → (a && b) ≡ true → (a ≡ true) × (b ≡ true)
-both true b e = (refl, e)
-both false b e = absurd cc
-
-and : (a b : Bool) → a ≡ true → b ≡ true → (a && b) ≡ true
-and a b e f = rw (e, f) refl
 
 -- what has at most so many levels has at most one more
 mutual
@@ -22,29 +16,23 @@ mutual
   fits_more (At from shape) (suc n) e = within_more shape n e
 
   within_more : (shape : Shape) (n : ℕ) → fits_within shape n ≡ true → fits_within shape (suc n) ≡ true
-  within_more Wild n e = refl
-  within_more Rest n e = refl
-  within_more (Literal l) n e = refl
-  within_more (Name name) n e = refl
-  within_more (Bind name by_ref mutable) n e = refl
   within_more (BindAs name by_ref mutable p) n e = fits_more p n e
-  within_more (Path names) n e = refl
   within_more (TupleForm names ps) n e = all_more ps n e
   within_more (Brace names fs rest) n e = fields_more fs n e
   within_more (Tuple ps) n e = all_more ps n e
   within_more (Group p) n e = fits_more p n e
   within_more (Slice ps) n e = all_more ps n e
   within_more (Point mutable p) n e = fits_more p n e
-  within_more (Range low high within) n e = refl
   within_more (Or ps) n e = all_more ps n e
+  within_more _ n e = refl
 
   all_more : (ps : PatternTrees) (n : ℕ) → all_fit ps n ≡ true → all_fit ps (suc n) ≡ true
   all_more none n e = refl
-  all_more (more p ps) n e = let b = both (fits p n) (all_fit ps n) e in and (fits p (suc n)) (all_fit ps (suc n)) (fits_more p n b.0) (all_more ps n b.1)
+  all_more (more p ps) n e = let b = and_parts (fits p n) (all_fit ps n) e in and_from (fits p (suc n)) (all_fit ps (suc n)) (fits_more p n b.0) (all_more ps n b.1)
 
   fields_more : (fs : FieldTrees) (n : ℕ) → fields_fit fs n ≡ true → fields_fit fs (suc n) ≡ true
   fields_more no_field n e = refl
-  fields_more (and_field name short attrs p fs) n e = let b = both (fits p n) (fields_fit fs n) e in and (fits p (suc n)) (fields_fit fs (suc n)) (fits_more p n b.0) (fields_more fs n b.1)
+  fields_more (and_field name short attrs p fs) n e = let b = and_parts (fits p n) (fields_fit fs n) e in and_from (fits p (suc n)) (fields_fit fs (suc n)) (fits_more p n b.0) (fields_more fs n b.1)
 
 or_fits : (from : ℕ) (ps : PatternTrees) (n : ℕ) → fits (At from (Or ps)) n ≡ true → all_fit ps n ≡ true
 or_fits from ps zero e = absurd cc
@@ -53,9 +41,9 @@ or_fits from ps (suc n) e = all_more ps n e
 module _ (m : ℕ) (close : Mark) (I J : Spelling PatternTree) (up : (ts rest : List Placed) (p : PatternTree) → I ts p rest → fits p m ≡ true → J ts p rest) where
   list_up : (ts rest : List Placed) (ps : List PatternTree) → CommaList close I ts ps rest → all_fit (patterns_from ps) m ≡ true → CommaList close J ts ps rest
   list_up _ _ _ (closed t rest e) f = closed t rest e
-  list_up _ _ _ (last ts rest x t item e) f = last ts rest x t (up ts (t ∷ rest) x item (both (fits x m) true f).0) e
+  list_up _ _ _ (last ts rest x t item e) f = last ts rest x t (up ts (t ∷ rest) x item (and_parts (fits x m) true f).0) e
   list_up _ _ _ (next ts us rest x xs t item e others) f =
-      let b = both (fits x m) (all_fit (patterns_from xs) m) f in next ts us rest x xs t (up ts (t ∷ us) x item b.0) e (list_up us rest xs others b.1)
+      let b = and_parts (fits x m) (all_fit (patterns_from xs) m) f in next ts us rest x xs t (up ts (t ∷ us) x item b.0) e (list_up us rest xs others b.1)
 
 module _ (Q R : Spelling Shape) (m : ℕ) (up : (us rest : List Placed) (y : Shape) (from : ℕ) → Q us y rest → fits (At from y) m ≡ true → R us y rest) where
   alt_up : (ts rest : List Placed) (p : PatternTree) → AltForm Q ts p rest → fits p m ≡ true → AltForm R ts p rest
@@ -63,12 +51,12 @@ module _ (Q R : Spelling Shape) (m : ℕ) (up : (us rest : List Placed) (y : Sha
   alt_up _ _ _ (a_plain ts rest shape free s) f = a_plain ts rest shape free (up ts rest shape (from_of ts) s f)
 
   alts_up : (ts rest : List Placed) (ps : List PatternTree) → Separated marks.Bar (AltForm Q) ts ps rest → all_fit (patterns_from ps) m ≡ true → Separated marks.Bar (AltForm R) ts ps rest
-  alts_up _ _ _ (only ts rest x item e) f = only ts rest x (alt_up ts rest x item (both (fits x m) true f).0) e
+  alts_up _ _ _ (only ts rest x item e) f = only ts rest x (alt_up ts rest x item (and_parts (fits x m) true f).0) e
   alts_up _ _ _ (further ts us rest x xs t item e others) f =
-      let b = both (fits x m) (all_fit (patterns_from xs) m) f in further ts us rest x xs t (alt_up ts (t ∷ us) x item b.0) e (alts_up us rest xs others b.1)
+      let b = and_parts (fits x m) (all_fit (patterns_from xs) m) f in further ts us rest x xs t (alt_up ts (t ∷ us) x item b.0) e (alts_up us rest xs others b.1)
 
   pub whole_up : (ts rest : List Placed) (p : PatternTree) → PatternForm Q ts p rest → fits p m ≡ true → PatternForm R ts p rest
-  whole_up _ _ _ (one ts us rest bar p b s) f = one ts us rest bar p b (alts_up us rest (p ∷ []) s (and (fits p m) true f refl))
+  whole_up _ _ _ (one ts us rest bar p b s) f = one ts us rest bar p b (alts_up us rest (p ∷ []) s (and_from (fits p m) true f refl))
   whole_up _ _ _ (several ts us rest bar p q ps b s) f = several ts us rest bar p q ps b (alts_up us rest (p ∷ q ∷ ps) s (or_fits (from_of us) (more p (more q (patterns_from ps))) m f))
 
   item_up : (ts rest : List Placed) (p : PatternTree) → ItemForm Q ts p rest → fits p m ≡ true → ItemForm R ts p rest
@@ -86,9 +74,9 @@ module _ (Q R : Spelling Shape) (m : ℕ) (up : (us rest : List Placed) (y : Sha
   fields_up : (ts rest : List Placed) (fs : List FieldTree × Bool) → FieldList Q ts fs rest → fields_fit (fields_from fs.0) m ≡ true → FieldList R ts fs rest
   fields_up _ _ _ (all_closed t rest e) f = all_closed t rest e
   fields_up _ _ _ (all_dotted dots t rest d e) f = all_dotted dots t rest d e
-  fields_up _ _ _ (last_field ts rest x t item e) f = last_field ts rest x t (field_up ts (t ∷ rest) x item (both (fits x.pattern m) true f).0) e
+  fields_up _ _ _ (last_field ts rest x t item e) f = last_field ts rest x t (field_up ts (t ∷ rest) x item (and_parts (fits x.pattern m) true f).0) e
   fields_up _ _ _ (next_field ts us rest x xs dotted t item e others) f =
-      let b = both (fits x.pattern m) (fields_fit (fields_from xs) m) f in next_field ts us rest x xs dotted t (field_up ts (t ∷ us) x item b.0) e (fields_up us rest (xs, dotted) others b.1)
+      let b = and_parts (fits x.pattern m) (fields_fit (fields_from xs) m) f in next_field ts us rest x xs dotted t (field_up ts (t ∷ us) x item b.0) e (fields_up us rest (xs, dotted) others b.1)
 
   form_up : (ts rest : List Placed) (x : Shape) → PlainForm Q ts x rest → fits_within x m ≡ true → PlainForm R ts x rest
   form_up _ _ _ (wild t rest e) f = wild t rest e
@@ -103,7 +91,7 @@ module _ (Q R : Spelling Shape) (m : ℕ) (up : (us rest : List Placed) (y : Sha
   form_up _ _ _ (only_rest opening dots end rest e d g) f = only_rest opening dots end rest e d g
   form_up _ _ _ (group opening end ts rest p e s g) f = group opening end ts rest p e (whole_up ts (end ∷ rest) p s f) g
   form_up _ _ _ (tuple opening comma ts us rest first others e s g list) f =
-      let b = both (fits first m) (all_fit (patterns_from others) m) f in
+      let b = and_parts (fits first m) (all_fit (patterns_from others) m) f in
       tuple opening comma ts us rest first others e (item_up ts (comma ∷ us) first s b.0) g (list_up m marks.CloseRound (ItemForm Q) (ItemForm R) item_up us rest others list b.1)
   form_up _ _ _ (slice opening ts rest ps e list) f = slice opening ts rest ps e (list_up m marks.CloseSquare (SliceItemForm Q) (SliceItemForm R) slice_up ts rest ps list f)
   form_up _ _ _ (point and_ ts us rest mutable inner e n s) f = point and_ ts us rest mutable inner e n (up us rest inner (from_of us) s f)

@@ -3,7 +3,7 @@ use Rattle.std.proofs.Common.{◌≡◌, ℕ, zero, suc, ◌-◌, ◌<◌, Bool,
 use Rattle.decl_lexer.specs.declared.marks.Mark.{Mark}
 use Rattle.decl_lexer.specs.declared.marks.Mark.TheVariants as marks
 use Rattle.decl_lexer.specs.declared.words.Word.TheVariants as words
-use Rattle.decl_lexer.specs.Begins.{Lexeme, Marked, Keyword}
+use Rattle.decl_lexer.specs.Begins.{Lexeme, Marked}
 use Rattle.decl_lexer.specs.Begins as lexemes
 use Rattle.decl_lexer.specs.Lexing.{Placed}
 use Rattle.decl_syntax.specs.Units.{behind, is_mark, is_word, flag_at, token_at, name_of, first_passes, from_of}
@@ -487,20 +487,16 @@ module _ (Plain : Spelling Shape) (plain : List Placed → Read Shape) (h : Join
   -- ---- what is no range
 
   form_shrinks : (ts rest : List Placed) (x : Shape) → PlainForm Plain ts x rest → length rest < length ts
-  form_shrinks _ _ _ (wild t rest e) = omega arith
-  form_shrinks _ _ _ (literal t rest x e) = omega arith
-  form_shrinks _ _ _ (negative minus t rest x e f) = omega arith
   form_shrinks _ _ _ (bound_as ts us rest at b p s e f) = omega (arith, binding_shrinks ts (at ∷ us) b s, alt_shrinks us rest p f)
   form_shrinks _ _ _ (bound ts rest b s e n) = binding_shrinks ts rest b s
   form_shrinks _ _ _ (path ts rest xs s a b c) = paths.shrinks ts rest xs s
   form_shrinks _ _ _ (tuple_form ts us rest xs opening ps s e list) = omega (arith, paths.shrinks ts (opening ∷ us) xs s, (all_items false).shrinks us rest ps list)
   form_shrinks _ _ _ (brace_form ts us rest xs opening fs dotted s e list) = omega (arith, paths.shrinks ts (opening ∷ us) xs s, fields_shrink us rest (fs, dotted) list)
-  form_shrinks _ _ _ (unit opening closing rest e f) = omega arith
-  form_shrinks _ _ _ (only_rest opening dots closing rest e d f) = omega arith
   form_shrinks _ _ _ (group opening closing ts rest p e s f) = omega (arith, whole_shrinks ts (closing ∷ rest) p s)
   form_shrinks _ _ _ (tuple opening comma ts us rest first others e s f list) = omega (arith, item_shrinks ts (comma ∷ us) first s, (all_items false).shrinks us rest others list)
   form_shrinks _ _ _ (slice opening ts rest ps e list) = omega (arith, (all_items true).shrinks ts rest ps list)
   form_shrinks _ _ _ (point and ts us rest mutable inner e m s) = omega (arith, maybe_shrinks (is_word words.Mut) ts us mutable m, h.shrinks us rest inner s)
+  form_shrinks _ _ _ _ = omega arith
 
   form_first : (ts rest : List Placed) (x : Shape) → PlainForm Plain ts x rest → Starts ts
   form_first _ _ _ (wild t rest e) = starts_of t rest (rw e refl) (rw e refl) (rw e refl)

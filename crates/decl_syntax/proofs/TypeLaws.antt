@@ -79,15 +79,13 @@ module _ (Inner : Spelling TypeTree) (inner : List Placed → Read TypeTree) (h 
   args = lists marks.Greater refl (ArgumentForm Inner) (argument_at inner) one_argument argument_opens
 
   form_shrinks : (ts rest : List Placed) (x : TypeTree) → TypeForm Inner ts x rest → length rest < length ts
-  form_shrinks _ _ _ (never bang rest e) = omega arith
-  form_shrinks _ _ _ (unit opening closing rest e f) = omega arith
   form_shrinks _ _ _ (round opening closing ts rest x e item f) = omega (arith, h.shrinks ts (closing ∷ rest) x item)
   form_shrinks _ _ _ (tuple opening comma ts us rest first others e item f list) = omega (arith, h.shrinks ts (comma ∷ us) first item, parts.shrinks us rest others list)
   form_shrinks _ _ _ (point and ts us vs rest life mutable x e l m item) = omega (arith, maybe_shrinks is_lifetime ts us life l, maybe_shrinks (is_word words.Mut) us vs mutable m, h.shrinks vs rest x item)
   form_shrinks _ _ _ (slice opening closing ts rest x e item f) = omega (arith, h.shrinks ts (closing ∷ rest) x item)
   form_shrinks _ _ _ (array opening semi number closing ts rest x len suffix decimal e item f g i) = omega (arith, h.shrinks ts (semi ∷ number ∷ closing ∷ rest) x item)
-  form_shrinks _ _ _ (named word rest name raw e n) = omega arith
   form_shrinks _ _ _ (applied word less ts rest name raw xs e f list) = omega (arith, args.shrinks ts rest xs list)
+  form_shrinks _ _ _ _ = omega arith
 
   form_starts : (ts rest : List Placed) (x : TypeTree) → TypeForm Inner ts x rest → Starts ts
   form_starts _ _ _ (never bang rest e) = (rw e refl, rw e refl, rw e refl)

@@ -11,21 +11,15 @@ abbrev mutual
   pattern_nodes (p.At from shape) = suc (nodes_within shape)
 
   pub nodes_within : Shape → ℕ
-  nodes_within p.Wild = 0
-  nodes_within p.Rest = 0
-  nodes_within (p.Literal l) = 0
-  nodes_within (p.Name name) = 0
-  nodes_within (p.Bind name by_ref mutable) = 0
   nodes_within (p.BindAs name by_ref mutable q) = pattern_nodes q
-  nodes_within (p.Path path) = 0
   nodes_within (p.TupleForm path qs) = list_nodes qs
   nodes_within (p.Brace path fs rest) = field_nodes fs
   nodes_within (p.Tuple qs) = list_nodes qs
   nodes_within (p.Group q) = pattern_nodes q
   nodes_within (p.Slice qs) = list_nodes qs
   nodes_within (p.Point mutable q) = pattern_nodes q
-  nodes_within (p.Range low high closed) = 0
   nodes_within (p.Or qs) = list_nodes qs
+  nodes_within _ = 0
 
   pub list_nodes : PatternTrees → ℕ
   list_nodes p.none = 0

@@ -4,7 +4,6 @@ use Rattle.std.specs.Prelude.{◌≡◌, ℕ, zero, suc, Bool, true, false, ◌|
 use Rattle.decl_lexer.specs.declared.marks.Mark.TheVariants as marks
 use Rattle.decl_lexer.specs.declared.words.Word.TheVariants as words
 use Rattle.decl_lexer.specs.Begins as lexemes
-use Rattle.decl_lexer.specs.Begins.{Lexeme, Marked}
 use Rattle.decl_lexer.specs.Lexing.{Placed}
 use Rattle.decl_syntax.specs.Units.{is_mark, is_word, from_of}
 use Rattle.decl_syntax.specs.Patterns.{LitTree, PathTree, PatternTree, At, Shape, Wild, Rest, Literal, Name, Bind, BindAs, Path, TupleForm, Brace, Tuple, Group, Slice, Point, Or, none, more, patterns_from, AttrTree, FieldTree, fields_from, fits}

@@ -145,21 +145,15 @@ abbrev mutual
   fits (At from shape) (suc n) = fits_within shape n
 
   pub fits_within : Shape → ℕ → Bool
-  fits_within Wild n = true
-  fits_within Rest n = true
-  fits_within (Literal l) n = true
-  fits_within (Name name) n = true
-  fits_within (Bind name by_ref mutable) n = true
   fits_within (BindAs name by_ref mutable p) n = fits p n
-  fits_within (Path path) n = true
   fits_within (TupleForm path ps) n = all_fit ps n
   fits_within (Brace path fs rest) n = fields_fit fs n
   fits_within (Tuple ps) n = all_fit ps n
   fits_within (Group p) n = fits p n
   fits_within (Slice ps) n = all_fit ps n
   fits_within (Point mutable p) n = fits p n
-  fits_within (Range low high closed) n = true
   fits_within (Or ps) n = all_fit ps n
+  fits_within _ n = true
 
   pub all_fit : PatternTrees → ℕ → Bool
   all_fit none n = true

@@ -51,21 +51,15 @@ abbrev mutual
   pattern_is_wide (p.At from shape) = shape_is_wide shape
 
   pub shape_is_wide : Shape → Bool
-  shape_is_wide p.Wild = false
-  shape_is_wide p.Rest = false
-  shape_is_wide (p.Literal l) = false
-  shape_is_wide (p.Name name) = false
-  shape_is_wide (p.Bind name by_ref mutable) = false
   shape_is_wide (p.BindAs name by_ref mutable q) = pattern_is_wide q
-  shape_is_wide (p.Path path) = false
   shape_is_wide (p.TupleForm path qs) = are_many (pattern_count qs) || some_pattern_is_wide qs
   shape_is_wide (p.Brace path fs rest) = are_many (field_count fs) || some_field_is_wide fs
   shape_is_wide (p.Tuple qs) = are_many (pattern_count qs) || some_pattern_is_wide qs
   shape_is_wide (p.Group q) = pattern_is_wide q
   shape_is_wide (p.Slice qs) = are_many (pattern_count qs) || some_pattern_is_wide qs
   shape_is_wide (p.Point mutable q) = pattern_is_wide q
-  shape_is_wide (p.Range low high closed) = false
   shape_is_wide (p.Or qs) = some_pattern_is_wide qs
+  shape_is_wide _ = false
 
   pub some_pattern_is_wide : PatternTrees → Bool
   some_pattern_is_wide p.none = false

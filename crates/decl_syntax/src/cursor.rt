@@ -157,7 +157,8 @@ fn step_before(tokens: Rest<'_>) -> Option<(Option<Mark>, Cursor<'_>)>
     }
 }
 
-/// The mark that the unit behind the first mark of these tokens is, and the place behind that unit.
+/// The mark that the second half of the first token is where that is two marks, or else the mark that the token is, if it
+/// is one, and the place behind the token.
 #[inline(always)]
 #[tactic(auto, unfolding(crate::specs::Units::units, crate::specs::Units::units_within))]
 fn step_within(tokens: Rest<'_>) -> Option<(Option<Mark>, Cursor<'_>)>
