@@ -1,5 +1,5 @@
 -- A span for each leaf, from those of the leaves that are no wildcards.
-use Rattle.std.proofs.Common.{◌≡◌, ℕ, ◌+◌, ◌<◌, Bool, true, false, ◌&&◌, nat_le, nat_lt, List, [], ◌∷◌, ◌++◌, length, map, take, drop, get_or, Some, None, slice_get, slice_index_or, refl, ap, sym, subst, ◌∙◌, inl, inr, arith}
+use Rattle.std.proofs.Common.{◌≡◌, ℕ, suc, ◌+◌, ◌≤◌, ◌<◌, Bool, true, false, ◌&&◌, nat_le, nat_lt, List, [], ◌∷◌, ◌++◌, length, map, take, drop, get_or, Some, None, slice_get, slice_index_or, refl, ap, sym, subst, ◌∙◌, inl, inr, arith}
 use Rattle.std.specs.Option.{option_to_list}
 use Rattle.std.proofs.lemmas.Bool.{cases_lt}
 use Rattle.std.proofs.lemmas.Bool.Decides.{nat_tests}
@@ -102,6 +102,61 @@ spans_push pieces [] [] l s h is = (is, tt)
 spans_push pieces (x ∷ leaves) (y ∷ spans) l s h is = (h.0, spans_push pieces leaves spans l s h.1 is)
 spans_push pieces [] (y ∷ spans) l s h is = absurd h
 spans_push pieces (x ∷ leaves) [] l s h is = absurd h
+
+-- ---- spans that are those of all leaves
+
+-- one that is no wildcard has the first span, and the others have those behind it
+record IsSharp {T : Type 0} (pieces : List MCtor) (l : SparseLeaf T) (leaves : List (SparseLeaf T)) (spans : List (ℕ × ℕ)) : Type 0 where
+  pub first : ℕ × ℕ
+  pub rest : List (ℕ × ℕ)
+  pub are : spans ≡ first ∷ rest
+  pub one : IsLeafSpan pieces l first
+  pub others : AreSpans pieces (leaf_ctors leaves) rest
+
+sharp_step : {T : Type 0} (pieces : List MCtor) (l : SparseLeaf T) (leaves : List (SparseLeaf T)) (spans : List (ℕ × ℕ)) → is_wild l.head ≡ false → AreSpans pieces (leaf_ctors (l ∷ leaves)) spans → IsSharp pieces l leaves spans
+sharp_step {T} pieces l leaves spans e h =
+    let o = other_some l.head e in
+    go o spans (subst (λ x. AreSpans pieces (option_to_list x ++ leaf_ctors leaves) spans) o.is h)
+  where
+    go : (o : IsOther l.head) (ss : List (ℕ × ℕ)) → AreSpans pieces (o.ctor ∷ leaf_ctors leaves) ss → IsSharp pieces l leaves ss
+    go o [] h = absurd h
+    go o (s ∷ ss) h = record { first = s; rest = ss; are = refl; one = other_span pieces l s o h.0; others = h.1 }
+
+-- there are no more spans than leaves
+few_more : {T : Type 0} (pieces : List MCtor) (l : SparseLeaf T) (leaves : List (SparseLeaf T)) (spans : List (ℕ × ℕ)) →
+    ((ss : List (ℕ × ℕ)) → AreSpans pieces (leaf_ctors leaves) ss → length ss ≤ length leaves) → AreSpans pieces (leaf_ctors (l ∷ leaves)) spans → length spans ≤ suc (length leaves)
+few_more {T} pieces l leaves spans others h = go (is_wild l.head) refl
+  where
+    go : (b : Bool) → is_wild l.head ≡ b → length spans ≤ suc (length leaves)
+    go true e = let few = others spans (step_wild pieces l leaves spans e h) in omega (arith, few)
+    go false e =
+        let s = sharp_step pieces l leaves spans e h in
+        let few = others s.rest s.others in
+        let long : length spans ≡ suc (length s.rest) = ap length s.are in
+        omega (arith, few, long)
+
+spans_few : {T : Type 0} (pieces : List MCtor) (leaves : List (SparseLeaf T)) (spans : List (ℕ × ℕ)) → AreSpans pieces (leaf_ctors leaves) spans → length spans ≤ length leaves
+spans_few pieces [] [] h = omega arith
+spans_few pieces [] (s ∷ spans) h = absurd h
+spans_few pieces (l ∷ leaves) spans h = few_more pieces l leaves spans (λ ss k. spans_few pieces leaves ss k) h
+
+-- where there are as many, no leaf is a wildcard
+whole_more : {T : Type 0} (pieces : List MCtor) (l : SparseLeaf T) (leaves : List (SparseLeaf T)) (spans : List (ℕ × ℕ)) →
+    ((ss : List (ℕ × ℕ)) → AreSpans pieces (leaf_ctors leaves) ss → length ss ≡ length leaves → AreLeafSpans pieces leaves ss) →
+    AreSpans pieces (leaf_ctors (l ∷ leaves)) spans → length spans ≡ suc (length leaves) → AreLeafSpans pieces (l ∷ leaves) spans
+whole_more {T} pieces l leaves spans others h many = go (is_wild l.head) refl
+  where
+    go : (b : Bool) → is_wild l.head ≡ b → AreLeafSpans pieces (l ∷ leaves) spans
+    go true e = let few = spans_few pieces leaves spans (step_wild pieces l leaves spans e h) in absurd (omega (arith, few, many))
+    go false e =
+        let s = sharp_step pieces l leaves spans e h in
+        let long : length spans ≡ suc (length s.rest) = ap length s.are in
+        subst (AreLeafSpans pieces (l ∷ leaves)) (sym s.are) (s.one, others s.rest s.others (omega (arith, long, many)))
+
+pub whole_spans : {T : Type 0} (pieces : List MCtor) (leaves : List (SparseLeaf T)) (spans : List (ℕ × ℕ)) → AreSpans pieces (leaf_ctors leaves) spans → length spans ≡ length leaves → AreLeafSpans pieces leaves spans
+whole_spans pieces [] [] h many = tt
+whole_spans pieces [] (s ∷ spans) h many = absurd h
+whole_spans pieces (l ∷ leaves) spans h many = whole_more pieces l leaves spans (λ ss k e. whole_spans pieces leaves ss k e) h many
 
 -- ---- a loop over the leaves
 

@@ -15,6 +15,7 @@ ghost use Rattle.pattern_matrix.specs.Sparse.{bare_head};
 ghost use Rattle.pattern_matrix.specs.Views.{plain_leaves, plain_pattern};
 
 use crate::Leaf;
+use crate::heads::short;
 use no_memory::NoMemory;
 use pat_context::Ctor;
 use pattern_arena::DePat;
@@ -32,7 +33,7 @@ const NEAR: usize = 16;
 #[derive(Drop)]
 pub(crate) struct Distinct<'a> {
     pub(crate) ctors: Vec<Ctor<'a>>,
-    pub(crate) numbers: Vec<usize>,
+    pub(crate) numbers: Vec<u32>,
     // So many of those that were kept last are looked at for the same one.
     near: usize,
 }
@@ -103,6 +104,15 @@ fn place_near(ctors: &[Ctor], ctor: &Ctor, near: usize) -> Option<usize>
     None
 }
 
+// Adds the number.
+fn note_number(numbers: &mut Vec<u32>, number: usize) -> Result<(), NoMemory>
+    ensures { OnOk result (numbers.new.items ≡ numbers.old.items ++ number ∷ []) }
+{
+    let number = short(number)?;
+    numbers.push(number)?;
+    Ok(())
+}
+
 // Adds the constructor, unless it stands among those that were kept last.
 fn add_ctor<'a>(heads: &mut Distinct<'a>, ctor: Ctor<'a>) -> Result<(), NoMemory>
     ensures { OnOk result ((all : List MCtor) → AreDistinct all (plain_ctors heads.old.ctors.items) heads.old.numbers.items
@@ -110,11 +120,11 @@ fn add_ctor<'a>(heads: &mut Distinct<'a>, ctor: Ctor<'a>) -> Result<(), NoMemory
 {
     match place_near(&heads.ctors, &ctor, heads.near) {
         Some(number) => {
-            heads.numbers.push(number)?;
+            note_number(&mut heads.numbers, number)?;
             Ok(())
         }
         None => {
-            heads.numbers.push(heads.ctors.len())?;
+            note_number(&mut heads.numbers, heads.ctors.len())?;
             heads.ctors.push(ctor)?;
             Ok(())
         }

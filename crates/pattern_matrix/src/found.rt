@@ -40,13 +40,13 @@ fn all_wild<'a, T: Copy>(leaves: &[Leaf<'a, T>]) -> bool
 }
 
 // The spans with these numbers.
-fn spans_at(alloc: Global, spans: &[Span], numbers: &[usize]) -> Result<Vec<Span>, NoMemory>
+fn spans_at(alloc: Global, spans: &[Span], numbers: &[u32]) -> Result<Vec<Span>, NoMemory>
     requires { All (λ k. k < length spans.now) numbers.now }
     ensures { IfOk result (λ v. map Some (plain_spans v.items) ≡ map (slice_get (plain_spans spans.now)) numbers.now) }
 {
     let mut all = Vec::with_capacity(alloc, numbers.len())?;
     for k in numbers {
-        all.push(spans[*k])?;
+        all.push(spans[*k as usize])?;
     }
     Ok(all)
 }

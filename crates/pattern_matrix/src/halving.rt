@@ -1,5 +1,5 @@
 // The leaves of each piece, found by halving the range of pieces.
-ghost use Rattle.std.specs.Prelude.{◌≡◌, ◌<◌, ◌+◌, ◌-◌, ◌++◌, ◌∷◌, [], length, Some, None, IfOk, OnOk, IfSome, IfNone};
+ghost use Rattle.std.specs.Prelude.{◌≡◌, ◌<◌, ◌+◌, ◌-◌, ◌++◌, ◌∷◌, [], length, slice_get, Some, None, IfOk, OnOk, IfSome, IfNone};
 ghost use Rattle.std.specs.List.{All};
 ghost use Rattle.pattern_matrix.specs.Sparse.{columns_from};
 ghost use Rattle.pattern_matrix.specs.Halving.{span_meets, one_meeting, meeting, leaves_with};
@@ -68,6 +68,27 @@ pub fn meeting(
     Ok(met)
 }
 
+// Tells whether the span with the number has a piece from the first to before the end.
+fn is_met(spans: &[Span], number: usize, first: usize, end: usize) -> bool
+    ensures { result ≡ span_meets first end (slice_get (plain_spans spans.now) number) }
+{
+    match spans.get(number) {
+        None => false,
+        Some(span) => meets(span, first, end),
+    }
+}
+
+// Leaves those numbers whose span has a piece from the first to before the end.
+fn keep_meeting(numbers: &mut Vec<usize>, spans: &[Span], first: usize, end: usize)
+    ensures { numbers.new.items ≡ meeting (plain_spans spans.now) first end numbers.old.items }
+{
+    numbers.retain(
+        |k: &usize| -> bool
+            ensures { result ≡ span_meets first end (slice_get (plain_spans spans.entry.now) k.now) }
+        { is_met(spans, *k, first, end) },
+    );
+}
+
 // The first half of the part; the other half is added to what is left to do. Both have only leaves that meet the part.
 fn halved(alloc: Global, todo: &mut Vec<Part>, part: Part, spans: &[Span]) -> Result<Part, NoMemory>
     requires full { IsFull spans.now part }
@@ -79,7 +100,8 @@ fn halved(alloc: Global, todo: &mut Vec<Part>, part: Part, spans: &[Span]) -> Re
 {
     let first = part.first;
     let end = part.end;
-    let leaves = meeting(alloc, &part.leaves, spans, first, end)?;
+    let mut leaves = part.leaves;
+    keep_meeting(&mut leaves, spans, first, end);
     let middle = first + (end - first) / 2;
     let others = Vec::from_slice(alloc, &leaves)?;
     todo.push(Part {
@@ -95,17 +117,17 @@ fn halved(alloc: Global, todo: &mut Vec<Part>, part: Part, spans: &[Span]) -> Re
 }
 
 // The one piece of the part with its leaves.
-fn only_piece(alloc: Global, part: &Part, spans: &[Span]) -> Result<PieceLeaves, NoMemory>
-    requires full { IsFull spans.now part.now }
-    requires one { part.now.first + 1 ≡ part.now.end }
-    ensures piece { IfOk result (λ p. p.piece ≡ part.now.first) }
-    ensures leaves { IfOk result (λ p. p.leaves.items ≡ leaves_with (plain_spans spans.now) p.piece) }
+fn only_piece(part: Part, spans: &[Span]) -> PieceLeaves
+    requires full { IsFull spans.now part }
+    requires one { part.first + 1 ≡ part.end }
+    ensures piece { result.piece ≡ part.first }
+    ensures leaves { result.leaves.items ≡ leaves_with (plain_spans spans.now) result.piece }
 {
-    let leaves = meeting(alloc, &part.leaves, spans, part.first, part.end)?;
-    Ok(PieceLeaves {
-        piece: part.first,
-        leaves,
-    })
+    let piece = part.first;
+    let end = part.end;
+    let mut leaves = part.leaves;
+    keep_meeting(&mut leaves, spans, piece, end);
+    PieceLeaves { piece, leaves }
 }
 
 // The first piece of the part with its leaves; what else the part has is added to what is left to do.
@@ -126,7 +148,7 @@ fn narrowed(
         let found = narrowed(alloc, todo, left, spans)?;
         Ok(found)
     } else {
-        let found = only_piece(alloc, &part, spans)?;
+        let found = only_piece(part, spans);
         Ok(found)
     }
 }

@@ -30,8 +30,8 @@ pub struct HeadPart<'a, T: Copy> {
     count: u32,
 }
 
-// The number in half the room. A list with as many heads as it cannot hold takes 64 gigabytes.
-fn short(number: usize) -> Result<u32, NoMemory>
+// The number in half the room. A list with as many heads or constructors as it cannot hold takes 64 gigabytes.
+pub(crate) fn short(number: usize) -> Result<u32, NoMemory>
     ensures { IfOk result (λ n. n ≡ number) }
 {
     if number <= 4294967295 {

@@ -32,4 +32,4 @@ pub use leaves::{add_leaves, leaves_at};
 pub use marked::Marked;
 pub use opening::{dropped_row, is_wild_leaf, opened_row, piece_rows, wild_rows};
 pub use rows::{Column, Head, Leaf, Row};
-pub use spans::{leaf_ctors, leaf_spans};
+pub use spans::{into_leaf_spans, leaf_ctors, leaf_spans};

@@ -104,3 +104,20 @@ pub fn leaf_spans<'a, T: Copy>(
     }
     Ok(all)
 }
+
+/// The same of spans that are not asked for any more. Where no leaf is a wildcard, these are what is asked for.
+pub fn into_leaf_spans<'a, T: Copy>(
+    alloc: Global,
+    pieces: &[Ctor<'a>],
+    leaves: &[Leaf<'a, T>],
+    spans: Vec<Span>,
+) -> Result<Vec<Span>, NoMemory>
+    requires { AreSpans (plain_ctors pieces.now) (leaf_ctors (plain_leaves leaves.now)) (plain_spans spans.items) }
+    ensures { IfOk result (λ v. AreLeafSpans (plain_ctors pieces.now) (plain_leaves leaves.now) (plain_spans v.items)) }
+{
+    if spans.len() == leaves.len() {
+        return Ok(spans);
+    }
+    let all = leaf_spans(alloc, pieces, leaves, &spans)?;
+    Ok(all)
+}

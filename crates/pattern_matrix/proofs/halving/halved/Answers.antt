@@ -14,8 +14,7 @@ returns-clause-full c =
     let end = c.args.part.end in
     let middle = first + (end - first) / 2 in
     let ss = plain_spans c.args.spans.now in
-    let met : c.in_ok-leaves.leaves.items ≡ meeting ss first end c.args.part.leaves.items =
-    c.in_ok-leaves.ensures ∙ ap (meeting ss first end) c.deref.ensures.value in
+    let met : c.keep_meeting.new.numbers.items ≡ meeting ss first end c.args.part.leaves.items = c.keep_meeting.ensures in
     subst (λ xs. IsPart ss first middle xs) (sym met) (half ss first end first middle c.args.part.leaves.items c.requires.full (omega arith) (omega arith) (omega arith))
 
 pub returns-clause-pieces : goal.returns-clause-pieces
@@ -38,7 +37,7 @@ returns-clause-others c = λ h.
     let ss = plain_spans c.args.spans.now in
     let right : Part = record { first = middle; end = end; leaves = c.in_ok-others.others } in
     let met : c.in_ok-others.others.items ≡ meeting ss first end c.args.part.leaves.items =
-    c.in_ok-others.ensures.items ∙ c.deref-2.ensures.value ∙ c.in_ok-leaves.ensures ∙ ap (meeting ss first end) c.deref.ensures.value in
+    c.in_ok-others.ensures.items ∙ c.deref.ensures.value ∙ c.keep_meeting.ensures in
     let full : IsFull c.args.spans.now right =
     subst (λ xs. IsPart ss middle end xs) (sym met) (half ss first end middle end c.args.part.leaves.items c.requires.full (omega arith) (omega arith) (omega arith)) in
     subst (All (IsFull c.args.spans.now)) (sym c.in_ok-push.ensures.items) (All-push (IsFull c.args.spans.now) c.args.todo.now.items right h full)
