@@ -1,4 +1,4 @@
-use Rattle.std.proofs.Common.{◌≡◌, ◌++◌, ◌∷◌, [], ap, sym, ◌∙◌}
+use Rattle.std.proofs.Common.{◌∙◌}
 use Rattle.decision_tree.proofs.KnownHeads.{last-longer}
 use Rattle.decision_tree.proofs.tells.add_uid.Goals as goal
 
