@@ -1,5 +1,6 @@
 -- Rows of which the first so many were changed already.
-use Rattle.std.proofs.Common.{◌≡◌, ◌<◌, ◌≤◌, ℕ, zero, suc, ◌+◌, List, [], ◌∷◌, ◌++◌, map, take, drop, length, get_or, ap, ◌∙◌, arith, slice_set, refl}
+use Rattle.std.proofs.Common.{◌≡◌, ◌<◌, ◌≤◌, ℕ, zero, suc, ◌+◌, List, [], ◌∷◌, ◌++◌, map, take, drop, length, get_or, ap, sym, subst, ◌∙◌, arith, slice_set, refl}
+use Rattle.std.specs.List.{All}
 use Rattle.match_model.specs.Matrices.{MRow}
 use Rattle.keyed_matrix.specs.Views.{plain_row, plain_rows}
 use Rattle.keyed_matrix.specs.declared.rows.KeyedRow.{KeyedRow}
@@ -27,6 +28,20 @@ module _ {T : Type 0} (f : MRow T → MRow T) where
       λ k. first-same (plain_row r) (f x) (plain_rows rows) (changed all i) e k
       ∷ more-changed all rows i d s (rest-same (plain_row r) (f x) (plain_rows rows) (changed all i) e)
       (omega (arith, l)) q k
+
+  same-there : (all : List (MRow T)) (rows : List (KeyedRow T)) (i : ℕ) (d : KeyedRow T) →
+      plain_rows rows ≡ changed all i → i < length all → get_or all i (plain_row d) ≡ plain_row (get_or rows i d)
+  same-there [] rows i d e l = absurd (omega (arith, l))
+  same-there (x ∷ all) [] zero d e l = cc
+  same-there (x ∷ all) [] (suc i) d e l = cc
+  same-there (x ∷ all) (r ∷ rows) zero d e l = sym (first-same (plain_row r) x (plain_rows rows) all e)
+  same-there (x ∷ all) (r ∷ rows) (suc i) d e l =
+      same-there all rows i d (rest-same (plain_row r) (f x) (plain_rows rows) (changed all i) e) (omega (arith, l))
+
+  -- what held of each row holds of the next one
+  pub changed-holds : (P : MRow T → Type 0) (all : List (MRow T)) (rows : List (KeyedRow T)) (i : ℕ) (d : KeyedRow T) →
+      plain_rows rows ≡ changed all i → i < length all → All P all → P (plain_row (get_or rows i d))
+  changed-holds P all rows i d e l h = subst P (same-there all rows i d e l) (h i (plain_row d) l)
 
   -- one row more
   pub changed-next : (all : List (MRow T)) (rows : List (KeyedRow T)) (i : ℕ) (d s : KeyedRow T) →

@@ -1,8 +1,8 @@
 -- Columns in which every row is wild are left out, one after the other.
-use Rattle.std.proofs.Common.{◌≡◌, ◌<◌, ◌≤◌, ◌⊎◌, inl, inr, ℕ, zero, suc, ◌+◌, Bool, true, false, List, [], ◌∷◌, ◌++◌, map, length, Some, slice_get, refl, sym, ap, ◌∙◌, arith, subst}
+use Rattle.std.proofs.Common.{◌≡◌, ◌<◌, ◌≤◌, ◌⊎◌, inl, inr, ℕ, zero, suc, ◌+◌, Bool, true, false, List, [], ◌∷◌, map, length, Some, slice_get, refl, sym, ap, ◌∙◌, arith, subst}
 use Rattle.std.specs.List.{All, list_any}
 use Rattle.std.proofs.lemmas.Bool.{cases_lt}
-use Rattle.std.proofs.lemmas.List.Elements.{All-nil, All-cons, All-head, All-tail}
+use Rattle.std.proofs.lemmas.List.Elements.{All-nil, All-cons}
 use Rattle.match_model.specs.Lists.{Every}
 use Rattle.match_model.specs.Lowering.{all_wild_at}
 use Rattle.match_model.specs.Matrices.{MColumn, MRow, head_binds, bind_at}
@@ -12,8 +12,6 @@ use Rattle.pattern_arena.specs.declared.pattern.DePat.{DePat, out-DePat}
 use Rattle.pattern_arena.specs.Trees.{tree, plain_bound}
 use Rattle.pattern_arena.proofs.TreeFacts.{tree_out}
 use Rattle.keyed_rows.proofs.Lists.{every-map}
-use Rattle.keyed_matrix.specs.Views.{plain_row, plain_rows}
-use Rattle.keyed_matrix.specs.declared.rows.KeyedRow.{KeyedRow}
 use Rattle.decision_tree.specs.WildColumns.{left_out, all_left_out, unmarked, unmarked_row, AreAsLong, LeavesOut, none_out, one_out, AreLeftOut, AreWildMarks}
 use Rattle.decision_tree.proofs.Reading.{there-map}
 use Rattle.decision_tree.proofs.Unmarked.{out_from, none-out-from, marked-out, open-stays, get-before, row_from, marked-row, open-row, whole-row, none-marked}
@@ -205,17 +203,3 @@ module _ {T : Type 0} (columns : List (MColumn T)) (rows : List (MRow T)) (marks
 pub pattern-binds : {T : Type 0} (place : List MStep) (p : DePat T) →
     map (bind_at place) (map plain_bound (out-DePat T p).binds.now) ≡ head_binds place (Some (tree p))
 pattern-binds place p = ap (λ q. head_binds place (Some q)) (sym (tree_out p))
-
--- what holds of each row holds of the next one
-pub next-row : {T : Type 0} (P : MRow T → Type 0) (rows done : List (KeyedRow T)) (x : KeyedRow T)
-    (left rest : List (KeyedRow T)) → All P (plain_rows rows) → done ++ left ≡ rows → left ≡ x ∷ rest → P (plain_row x)
-next-row {T} P rows done x left rest a e f =
-    go done (subst (λ zs. All P (plain_rows zs)) (sym e ∙ ap (λ zs. done ++ zs) f) a)
-  where
-    go : (zs : List (KeyedRow T)) → All P (plain_rows (zs ++ x ∷ rest)) → P (plain_row x)
-    go [] b = All-head P (plain_row x) (plain_rows rest) b
-    go (z ∷ zs) b = go zs (All-tail P (plain_row z) (plain_rows (zs ++ x ∷ rest)) b)
-
-pub none-long : {A : Type 0} (xs : List A) → length xs ≡ 0 → xs ≡ []
-none-long [] e = refl
-none-long (x ∷ xs) e = absurd (omega (arith, e))

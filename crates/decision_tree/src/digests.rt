@@ -10,19 +10,20 @@ fn mixed(digest: u64, number: u64) -> u64 {
         .rotate_left(29)
 }
 
+// A number of the step: two words where it has two, and a mark that tells its kind where it has one.
 fn step_number(step: &Step) -> u64 {
     match step {
         Step::Through => 1,
-        Step::Field { variant, part } => mixed(*variant as u64, *part as u64),
-        Step::Front(k) => mixed(2, *k),
-        Step::Back(k) => mixed(3, *k),
-        Step::Middle { front, back } => mixed(*front, *back),
+        Step::Field { variant, part } => (*variant as u64).rotate_left(32) ^ *part as u64,
+        Step::Front(k) => *k ^ 0x2000_0000_0000_0000,
+        Step::Back(k) => *k ^ 0x3000_0000_0000_0000,
+        Step::Middle { front, back } => front.rotate_left(32) ^ *back ^ 0x5000_0000_0000_0000,
     }
 }
 
 // The digest with the place.
 fn with_place(digest: u64, place: &[Step]) -> u64 {
-    let mut digest = mixed(digest, place.len() as u64);
+    let mut digest = digest;
     for step in place {
         digest = mixed(digest, step_number(step));
     }
@@ -47,12 +48,14 @@ fn with_chosen(digest: u64, chosen: &[u64]) -> u64 {
     digest
 }
 
-// The digest with the heads.
+// The digest with the heads that patterns wrote. In rows of one match over the same columns these tell nearly always where
+// wildcards stand between them.
 fn with_heads(digest: u64, heads: &[KnownHeads]) -> u64 {
     let mut digest = digest;
     for some in heads {
-        let first = some.first.unwrap_or(0);
-        digest = mixed(digest, first ^ some.count.rotate_left(32));
+        if let Some(first) = some.first {
+            digest = mixed(digest, first ^ some.count.rotate_left(32));
+        }
     }
     digest
 }

@@ -1,11 +1,12 @@
 // What tells a matrix from the others of a match.
-ghost use Rattle.std.specs.Prelude.{◌≡◌, ◌+◌, ◌++◌, ◌∷◌, [], true, length, map, IfOk, IfSome, OnOk};
+ghost use Rattle.std.specs.Prelude.{◌≡◌, ◌+◌, ◌++◌, ◌∷◌, [], List, true, length, map, IfOk, IfSome, OnOk};
 ghost use Rattle.std.specs.List.{flat_map};
 ghost use Rattle.keyed_matrix.specs.Views.{plain_caught, plain_columns, plain_run, plain_heads, plain_row};
 ghost use Rattle.keyed_matrix.specs.Views.{plain_rows};
 ghost use Rattle.decision_tree.specs.Known.{head_uid, known_column, known_row, known_matrix};
 ghost use Rattle.decision_tree.specs.KnownViews.{uids_of, plain_known_heads};
 ghost use Rattle.decision_tree.specs.KnownViews.{plain_known_column, plain_name, plain_known_row, plain_known_matrix};
+ghost use Rattle.decision_tree.specs.declared.known.KnownHeads.{KnownHeads};
 
 use crate::digests::digest_of;
 use crate::known::{KnownColumn, KnownHeads, KnownMatrix, KnownName, KnownRow};
@@ -56,28 +57,40 @@ fn is_next(first: u64, count: u64, next: u64) -> bool
     next - first == count
 }
 
+// The last ones of the heads with one more, where they go on with the uid.
+fn last_longer(all: &[KnownHeads], uid: Option<u64>) -> Option<KnownHeads>
+    ensures { IfSome result (λ h. (before : List KnownHeads) (last : KnownHeads) → all.now ≡ before ++ last ∷ []
+        → plain_known_heads h ≡ plain_known_heads last ++ uid ∷ []) }
+{
+    match all.last() {
+        None => None,
+        Some(last) => longer(last, uid),
+    }
+}
+
+// Adds the uid behind the heads.
+fn push_uid(all: &mut Vec<KnownHeads>, uid: Option<u64>) -> Result<(), NoMemory>
+    ensures { OnOk result (flat_map plain_known_heads all.new.items
+        ≡ flat_map plain_known_heads all.old.items ++ uid ∷ []) }
+{
+    all.push(KnownHeads {
+        first: uid,
+        count: 1,
+    })?;
+    Ok(())
+}
+
 // Adds the uid to the heads: to the last ones, where they go on with it.
 fn add_uid(all: &mut Vec<KnownHeads>, uid: Option<u64>) -> Result<(), NoMemory>
     ensures { OnOk result (flat_map plain_known_heads all.new.items
         ≡ flat_map plain_known_heads all.old.items ++ uid ∷ []) }
 {
-    let one = KnownHeads {
-        first: uid,
-        count: 1,
-    };
-    match all.pop() {
-        None => {
-            all.push(one)?;
-            Ok(())
-        }
-        Some(last) => match longer(&last, uid) {
-            Some(heads) => {
+    match last_longer(all, uid) {
+        None => push_uid(all, uid),
+        Some(heads) => match all.pop() {
+            None => push_uid(all, uid),
+            Some(_last) => {
                 all.push(heads)?;
-                Ok(())
-            }
-            None => {
-                all.push(last)?;
-                all.push(one)?;
                 Ok(())
             }
         },

@@ -89,7 +89,7 @@ fn add_thin<'a, T: Copy>(
 }
 
 // For so many runs of heads a row has room at first: with fewer, most lists would grow once.
-const ROOM: usize = 8;
+pub(crate) const ROOM: usize = 8;
 
 // The heads without such wildcards.
 fn thin_heads<'a, T: Copy>(

@@ -11,11 +11,13 @@ ghost use Rattle.decision_tree.specs.WildColumns.{StayWhereWild, AreWildMarks};
 
 use crate::frames::Matrix;
 use crate::leaves::is_wild_pat;
+use crate::thin::ROOM;
 use keyed_matrix::{Caught, HeadRun, KeyedColumn, KeyedRow, add_wilds, size_of};
 use no_memory::NoMemory;
 use pat_context::Step;
 use pattern_arena::{Bound, DePat};
 use std::alloc::Global;
+use std::mem::{replace, swap};
 
 // Adds the names, caught at the place.
 fn add_names<'a>(
@@ -73,22 +75,22 @@ fn add_unmarked<'a, T: Copy>(
     }
 }
 
-// The heads that do not stand in a marked column.
-fn unmarked_heads<'a, T: Copy>(
-    alloc: Global,
+// Lists the heads that do not stand in a marked column, in place of what was listed.
+fn list_unmarked<'a, T: Copy>(
+    all: &mut Vec<HeadRun<'a, T>>,
     marks: &[bool],
     heads: &[HeadRun<'a, T>],
-) -> Result<Vec<HeadRun<'a, T>>, NoMemory>
+) -> Result<(), NoMemory>
     requires { length (plain_heads heads.now) ≡ length marks.now }
-    ensures { IfOk result (λ v. plain_heads v.items ≡ unmarked marks.now (plain_heads heads.now)) }
+    ensures { OnOk result (plain_heads all.new.items ≡ unmarked marks.now (plain_heads heads.now)) }
 {
-    let mut all = Vec::with_capacity(alloc, heads.len())?;
+    all.clear();
     let mut at = 0;
     for one in heads {
-        add_unmarked(&mut all, marks, at, one)?;
+        add_unmarked(all, marks, at, one)?;
         at += size_of(one);
     }
-    Ok(all)
+    Ok(())
 }
 
 // Adds the names that the heads bind in marked columns; the first stands in the column with the number.
@@ -137,24 +139,47 @@ fn marked_names<'a, T: Copy>(
     Ok(all)
 }
 
-// The row without its heads in marked columns; the names that they bind are caught before all others.
-fn unmarked_row<'a, T: Copy>(
+// The names that the heads bind in marked columns, and then those that are caught.
+fn more_caught<'a, T: Copy>(
     alloc: Global,
-    row: KeyedRow<'a, T>,
     marks: &[bool],
     columns: &[KeyedColumn<'a, T>],
-) -> Result<KeyedRow<'a, T>, NoMemory>
-    requires heads { length (plain_row row).heads ≡ length marks.now }
+    heads: &[HeadRun<'a, T>],
+    caught: Vec<Caught<'a>>,
+) -> Result<Vec<Caught<'a>>, NoMemory>
+    requires heads { length (plain_heads heads.now) ≡ length marks.now }
     requires long { length columns.now ≡ length marks.now }
-    ensures { IfOk result (λ r. plain_row r
-        ≡ unmarked_row marks.now (plain_columns columns.now) (plain_row row.entry)) }
+    ensures { IfOk result (λ v. map plain_caught v.items
+        ≡ marked_binds marks.now (plain_columns columns.now) (plain_heads heads.now)
+        ++ map plain_caught caught.entry.items) }
 {
-    let mut row = row;
-    let mut names = marked_names(alloc, marks, columns, &row.heads)?;
-    names.extend_from_slice(&row.caught)?;
-    row.heads = unmarked_heads(alloc, marks, &row.heads)?;
-    row.caught = names;
-    Ok(row)
+    let mut names = marked_names(alloc, marks, columns, heads)?;
+    if names.is_empty() {
+        return Ok(caught);
+    }
+    names.extend_from_slice(&caught)?;
+    Ok(names)
+}
+
+// Takes the heads in marked columns out of the row; the names that they bind are caught before all others. The list has room
+// for heads, and has the row's list afterwards.
+fn leave_marked<'a, T: Copy>(
+    alloc: Global,
+    row: &mut KeyedRow<'a, T>,
+    room: &mut Vec<HeadRun<'a, T>>,
+    marks: &[bool],
+    columns: &[KeyedColumn<'a, T>],
+) -> Result<(), NoMemory>
+    requires heads { length (plain_row row.old).heads ≡ length marks.now }
+    requires long { length columns.now ≡ length marks.now }
+    ensures { OnOk result (plain_row row.new
+        ≡ unmarked_row marks.now (plain_columns columns.now) (plain_row row.old)) }
+{
+    let caught = replace(&mut row.caught, Vec::new(alloc));
+    row.caught = more_caught(alloc, marks, columns, &row.heads, caught)?;
+    list_unmarked(room, marks, &row.heads)?;
+    swap(&mut row.heads, room);
+    Ok(())
 }
 
 // The rows, each without its heads in marked columns.
@@ -169,12 +194,12 @@ fn unmarked_rows<'a, T: Copy>(
     ensures { IfOk result (λ v. plain_rows v.items
         ≡ map (unmarked_row marks.now (plain_columns columns.now)) (plain_rows rows.entry.items)) }
 {
-    let mut all = Vec::with_capacity(alloc, rows.len())?;
-    for row in rows {
-        let new = unmarked_row(alloc, row, marks, columns)?;
-        all.push(new)?;
+    let mut rows = rows;
+    let mut room = Vec::with_capacity(alloc, ROOM)?;
+    for i in 0..rows.len() {
+        leave_marked(alloc, &mut rows[i], &mut room, marks, columns)?;
     }
-    Ok(all)
+    Ok(rows)
 }
 
 // The columns that are not marked.

@@ -1,40 +1,40 @@
-use Rattle.std.proofs.Common.{◌≡◌, ◌++◌, ◌∷◌, [], ◌∙◌, map, length, ap, sym, append_assoc, append-nil, arith}
-use Rattle.std.proofs.lemmas.List.{map-append}
+use Rattle.std.proofs.Common.{◌≡◌, ◌<◌, ◌≤◌, ◌∙◌, length, ap, sym, subst, arith}
 use Rattle.keyed_matrix.specs.Views.{plain_columns, plain_row, plain_rows}
 use Rattle.decision_tree.specs.WildColumns.{unmarked_row}
-use Rattle.decision_tree.proofs.WildOut.{next-row, none-long}
+use Rattle.decision_tree.proofs.ByArm.{plain-length}
+use Rattle.decision_tree.proofs.Changed.{changed-next, changed-all, changed-holds}
 use Rattle.decision_tree.proofs.wild.unmarked_rows.Goals as goal
 
-pub loop-row-init : goal.loop-row-init
-loop-row-init g c = (ap plain_rows c.in_ok-all.ensures.items, c.into_iter-row-iterator.ensures.into_iter_gives.0)
+pub leave_marked-requires-clause-heads : goal.leave_marked-requires-clause-heads
+leave_marked-requires-clause-heads g c =
+    let same = plain-length c.args.rows.items in
+    let count = c.len-i-end.ensures in
+    let below = c.loop-i-test.true in
+    let ok = c.args.rows.ok in
+    let within : c.loop-i.i < length (plain_rows c.args.rows.items) = omega (arith, same, count, below, ok) in
+    subst (λ x. length (plain_row x).heads ≡ length c.args.marks.now) (sym c.index_mut.ensures.value)
+    (changed-holds (unmarked_row c.args.marks.now (plain_columns c.args.columns.now))
+    (λ r. length r.heads ≡ length c.args.marks.now) (plain_rows c.args.rows.items) c.loop-i.rows.items c.loop-i.i
+    c.index_mut.result.now c.loop-i.invariant within c.requires.heads)
 
-pub unmarked_row-requires-clause-heads : goal.unmarked_row-requires-clause-heads
-unmarked_row-requires-clause-heads g c =
-    let loop = c.loop-row in
-    let row = c.in-Some.row in
-    next-row (λ r. length r.heads ≡ length c.args.marks.now) c.args.rows.items loop.yielded row
-    loop.row-iterator.rest.items c.next.new.self.rest.items c.requires.heads loop.invariant.1 c.in-Some.ensures.steps.0
-
-pub loop-row-preserved : goal.loop-row-preserved
-loop-row-preserved g c =
-    let loop = c.loop-row in
-    let row = c.in-Some.row in
-    let new = unmarked_row c.args.marks.now (plain_columns c.args.columns.now) in (
-      ap plain_rows c.in_ok-push.ensures.items ∙ map-append plain_row loop.all.items (c.in_ok-new.new ∷ [])
-          ∙ (λ k. loop.invariant.0 k ++ c.in_ok-new.ensures k ∷ [])
-          ∙ sym (ap (map new) (map-append plain_row loop.yielded (row ∷ []))
-          ∙ map-append new (plain_rows loop.yielded) (plain_row row ∷ [])),
-      append_assoc loop.yielded (row ∷ []) c.next.new.self.rest.items
-          ∙ ap (λ zs. loop.yielded ++ zs) (sym c.in-Some.ensures.steps.0) ∙ loop.invariant.1,
-    )
+pub loop-i-preserved : goal.loop-i-preserved
+loop-i-preserved g c =
+    let same = plain-length c.args.rows.items in
+    let count = c.len-i-end.ensures in
+    let below = c.loop-i-test.true in
+    let ok = c.args.rows.ok in
+    let within : c.loop-i.i < length (plain_rows c.args.rows.items) = omega (arith, same, count, below, ok) in
+    let new = unmarked_row c.args.marks.now (plain_columns c.args.columns.now) in
+    changed-next new (plain_rows c.args.rows.items) c.loop-i.rows.items c.loop-i.i c.index_mut.result.now
+    c.leave_marked.new.row c.loop-i.invariant within
+    (c.in_ok-leave_marked.ensures ∙ ap (λ x. new (plain_row x)) c.index_mut.ensures.value)
 
 pub returns : goal.returns
 returns g c =
-    let loop = c.loop-row in
-    let empty = c.in-None.ensures.steps.0 in
-    let full = loop.row-iterator.rest.ok.0 in
-    loop.invariant.0
-    ∙ ap (λ rs. map (unmarked_row c.args.marks.now (plain_columns c.args.columns.now)) (plain_rows rs))
-    (sym (append-nil loop.yielded)
-    ∙ ap (λ zs. loop.yielded ++ zs) (sym (none-long loop.row-iterator.rest.items (omega (arith, empty, full))))
-    ∙ loop.invariant.1)
+    let same = plain-length c.args.rows.items in
+    let count = c.len-i-end.ensures in
+    let end = c.loop-i-test.false in
+    let ok = c.args.rows.ok in
+    let all : length (plain_rows c.args.rows.items) ≤ c.loop-i.i = omega (arith, same, count, end, ok) in
+    c.loop-i.invariant
+    ∙ changed-all (unmarked_row c.args.marks.now (plain_columns c.args.columns.now)) (plain_rows c.args.rows.items) c.loop-i.i all

@@ -2,10 +2,10 @@ use Rattle.std.proofs.Common.{◌+◌, refl, sym, ap, ◌∙◌, arith}
 use Rattle.keyed_matrix.specs.Views.{plain_heads}
 use Rattle.decision_tree.proofs.RunTests.{at-on, part-long}
 use Rattle.decision_tree.proofs.Unmarked.{unmarked-next, unmarked-nothing}
-use Rattle.decision_tree.proofs.wild.unmarked_heads.Goals as goal
+use Rattle.decision_tree.proofs.wild.list_unmarked.Goals as goal
 
 pub loop-one-init : goal.loop-one-init
-loop-one-init g c = record { passed = refl; kept = ap plain_heads c.in_ok-all.ensures.items ∙ sym (unmarked-nothing c.args.marks.now) }
+loop-one-init g c = record { passed = refl; kept = ap plain_heads c.clear.ensures.items ∙ sym (unmarked-nothing c.args.marks.now) }
 
 pub add_unmarked-requires : goal.add_unmarked-requires
 add_unmarked-requires g c =

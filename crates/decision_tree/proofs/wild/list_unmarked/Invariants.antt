@@ -1,7 +1,7 @@
 use Rattle.std.proofs.Common.{◌≡◌, length, take}
 use Rattle.keyed_matrix.specs.Views.{plain_heads}
 use Rattle.decision_tree.specs.WildColumns.{unmarked}
-use Rattle.decision_tree.proofs.wild.unmarked_heads.Given as goal
+use Rattle.decision_tree.proofs.wild.list_unmarked.Given as goal
 
 abbrev pub invariant-loop-one : goal.invariant-loop-one
 invariant-loop-one g l =
