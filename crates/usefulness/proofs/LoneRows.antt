@@ -89,26 +89,6 @@ module _ {T : Type 0} (missing : Bool) (a : Apart T) (spans : List Span) (piece 
 
 -- ---- what is marked of it
 
--- alternatives of two lists
-either_answer : (q : Question) (arm : ℕ) (xs ys : List ℕ) → (is_answer arm xs q || is_answer arm ys q) ≡ is_answer arm (xs ++ ys) q
-either_answer q arm xs ys = go (nat_eq q.arm arm) q.whole (list_any (nat_eq q.id) xs) (list_any (nat_eq q.id) ys) (list_any (nat_eq q.id) (xs ++ ys)) (list_any-append (nat_eq q.id) xs ys)
-  where
-    go : (r w b d e : Bool) → e ≡ (b || d) → ((r && (w || b)) || (r && (w || d))) ≡ (r && (w || e))
-    go true true b d e f = refl
-    go true false b d e f = sym f
-    go false w b d e f = refl
-
-pub both_noted : (o n m : Bool) (q : Question) (arm : ℕ) (xs ys : List ℕ) → m ≡ (o || is_answer arm xs q) → n ≡ (m || is_answer arm ys q) → n ≡ (o || (true && is_answer arm (xs ++ ys) q))
-both_noted o n m q arm xs ys e f = f ∙ ap (λ b. b || is_answer arm ys q) e ∙ either o (is_answer arm xs q) (is_answer arm ys q) ∙ ap (λ b. o || b) (either_answer q arm xs ys)
-  where
-    either : (a b c : Bool) → ((a || b) || c) ≡ (a || (b || c))
-    either true b c = refl
-    either false b c = refl
-
-pub none_noted : (o : Bool) (d : Bool) → o ≡ (o || (false && d))
-none_noted true d = refl
-none_noted false d = refl
-
 -- the leaf's row was marked, so nothing is left of the piece
 pub lone_listed : {T : Type 0} (IsValue : T → Bool → MValue → Type 0) (scope : Scope T) (a : Apart T) → IsApart scope a → (old now : Question → Bool) (cx : Context T) (piece : MCtor) (missing : Bool) → IsEnterable IsValue cx a piece →
     (l : SparseLeaf T) (x : SparseAsked T) → slice_get (apart_rows a) l.row ≡ Some x → is_last_at a.taken.number x l ≡ true → AreEnough old missing a (filter (λ h. head_has piece h.head) (apart_leaves a)) (l ∷ []) →

@@ -237,17 +237,6 @@ module _ {T : Type 0} (missing : Bool) (a : Apart T) (spans : List Span) where
     nothing = All-nil (HasNothing m missing a spans);
   }
 
-  -- the piece of a part of one
-  pub one_piece_left : (m : Question → Bool) (p : Part) (left : List ℕ) (found : PieceLeaves) → p.first < p.end → (p.first + 1 < p.end → ⊥) → found.piece ≡ p.first → IsCutOff m missing a spans (left ++ pieces_in p) left (Some found)
-  one_piece_left m p left found some few e = record {
-    passed = [];
-    split = ap (λ ys. left ++ ys) ((let one : p.end - p.first ≡ 1 = few_one in ap (columns_from p.first) one) ∙ ap (λ n. n ∷ []) (sym e));
-    nothing = All-nil (HasNothing m missing a spans);
-  }
-    where
-      few_one : p.end - p.first ≡ 1
-      few_one = omega (arith, some, few)
-
   -- pieces that are passed over one after the other
   pub both_off : (m : Question → Bool) (before mid after : List ℕ) (found : Option PieceLeaves) → IsCutOff m missing a spans before mid None → IsCutOff m missing a spans mid after found → IsCutOff m missing a spans before after found
   both_off m before mid after found x y = record {

@@ -22,7 +22,7 @@ use constructor_sets::{PresentPieces, Span};
 use no_memory::NoMemory;
 use pat_context::PatCx;
 use pattern_arena::CheckedArm;
-use pattern_matrix::{Part, are_wild, leaf_pieces, leaf_spans};
+use pattern_matrix::{Part, are_wild, into_leaf_spans, leaf_pieces};
 use std::alloc::Global;
 
 // The numbers below the count, ascending.
@@ -189,6 +189,18 @@ pub(crate) fn children<'a, C: PatCx>(
         return dropped_column(alloc, cx, reached, &a);
     }
     let found = leaf_pieces(alloc, cx, &a.taken.column, &a.leaves)?;
-    let spans = leaf_spans(alloc, &found.ctors, &a.leaves, &found.spans)?;
+    let PresentPieces {
+        ctors,
+        missing,
+        gaps,
+        spans,
+    } = found;
+    let spans = into_leaf_spans(alloc, &ctors, &a.leaves, spans)?;
+    let found = PresentPieces {
+        ctors,
+        missing,
+        gaps,
+        spans: Vec::new(alloc),
+    };
     split_column(alloc, cx, reached, a, found, spans)
 }

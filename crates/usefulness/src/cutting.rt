@@ -374,6 +374,7 @@ fn cut_part<'a, T: Copy>(
     if leaves.is_empty() {
         return Ok(None);
     }
+    drop(part);
     if first + 1 < end {
         add_halves(alloc, todo, first, end, leaves)?;
         return Ok(None);

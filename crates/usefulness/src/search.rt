@@ -133,7 +133,8 @@ fn first_frame<'a, C: PatCx>(
     Ok(finish(listing, columns, 1))
 }
 
-// How many submatrices are left, at most.
+// How many submatrices are left, at most: one for each piece that was found, also where it was entered at once, and one of the
+// values in no head, where rows of these are left.
 fn count_of<'a, T: Copy>(opened: &Opened<'a, T>) -> usize {
     match &opened.wild {
         None => opened.count,
