@@ -23,7 +23,7 @@ use crate::pieces::{listed_pieces, named_texts};
 use constructor_sets::{Piece, PresentPieces, Span};
 use no_memory::NoMemory;
 use pat_context::{Ctor, PatCx};
-use pattern_matrix::{Leaf, Part, leaf_spans, next_piece};
+use pattern_matrix::{Leaf, Part, into_leaf_spans, next_piece};
 use std::alloc::Global;
 use witnesses::Stack;
 
@@ -61,9 +61,10 @@ pub(crate) fn cut_pieces<'a, C: PatCx>(
     let none = behind.is_empty();
     let pieces = listed_pieces(alloc, cx, &e.place.column, &e.leaves, &found.ctors, none)?;
     let names = named_texts(alloc, &pieces)?;
-    let spans = leaf_spans(alloc, &found.ctors, &e.leaves, &found.spans)?;
+    let PresentPieces { ctors, spans, .. } = found;
+    let spans = into_leaf_spans(alloc, &ctors, &e.leaves, spans)?;
     Ok(Cut {
-        ctors: found.ctors,
+        ctors,
         spans,
         pieces,
         names,

@@ -9,7 +9,6 @@ use Rattle.constructor_sets.specs.Present.{is_sharp_head}
 use Rattle.constructor_sets.specs.Spans.{AreSpans}
 use Rattle.constructor_sets.specs.declared.piece.Piece.{Piece}
 use Rattle.constructor_sets.specs.declared.piece.PieceState.{PieceState}
-use Rattle.constructor_sets.specs.declared.piece.Span.{Span}
 use Rattle.pat_context.specs.declared.ctor.Ctor.{Ctor}
 use Rattle.pattern_matrix.specs.Columns.{plain_column}
 use Rattle.pattern_matrix.specs.Halving.{leaf_ctors, AreLeafSpans}
@@ -45,14 +44,13 @@ nil_of : {A : Type 0} (xs : List A) → length xs ≡ 0 → xs ≡ []
 nil_of [] e = refl
 nil_of (x ∷ xs) e = absurd (omega (arith, e))
 
-pub leaf_spans-requires : goal.leaf_spans-requires
-leaf_spans-requires g c =
+pub into_leaf_spans-requires : goal.into_leaf_spans-requires
+into_leaf_spans-requires g c =
     let found = c.args.found in
     let e = c.args.e.now in
-    subst (λ (cs : List Ctor). AreSpans (plain_ctors cs) (leaf_ctors (plain_leaves c.deref-5.result.now)) (plain_spans c.deref-6.result.now)) (sym c.deref-4.ensures.value)
-    (subst (λ (ls : List (Leaf g.row.C-Ty.Denot)). AreSpans (plain_ctors found.ctors.items) (leaf_ctors (plain_leaves ls)) (plain_spans c.deref-6.result.now)) (sym c.deref-5.ensures.value)
-    (subst (λ (ss : List Span). AreSpans (plain_ctors found.ctors.items) (leaf_ctors (plain_leaves e.leaves.items)) (plain_spans ss)) (sym c.deref-6.ensures.value)
-    c.requires.found.each))
+    subst (λ (cs : List Ctor). AreSpans (plain_ctors cs) (leaf_ctors (plain_leaves c.deref-5.result.now)) (plain_spans found.spans.items)) (sym c.deref-4.ensures.value)
+    (subst (λ (ls : List (Leaf g.row.C-Ty.Denot)). AreSpans (plain_ctors found.ctors.items) (leaf_ctors (plain_leaves ls)) (plain_spans found.spans.items)) (sym c.deref-5.ensures.value)
+    c.requires.found.each)
 
 pub returns : goal.returns
 returns g c =
