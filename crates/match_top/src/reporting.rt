@@ -32,7 +32,7 @@ use tree_eval::Tree;
 use type_table::TyId;
 use verdict_json::{FnReport, Refusal, ReportText, Summary};
 use witness_names::name_witnesses;
-use witnesses::{Judgement, Overlap};
+use witnesses::{Judgement, Overlap, Unreachable, Witness};
 
 /// The report on a file as it is written, the counts in it, and whether every function is judged and every match is
 /// exhaustive.
@@ -51,10 +51,14 @@ struct Progress {
     clean: bool,
 }
 
-// What is found of a function: the engine's verdict, and its decision tree where it was asked for.
+// A function's name, how many arms it has, whether its match is exhaustive, what is missing, and its decision tree where it
+// was asked for.
 #[derive(Debug, Drop)]
 struct Found {
-    judgement: Judgement,
+    name: Name,
+    arms: u64,
+    exhaustive: bool,
+    witnesses: Vec<Witness>,
     tree: Option<Tree>,
 }
 
@@ -199,54 +203,57 @@ fn add_judged(
     let FnItem { name, arms, .. } = f;
     let count = arms.len() as u64;
     drop(arms);
-    let found = Found {
-        judgement: verdict_on(alloc, source, &m)?,
-        tree: tree_of(alloc, command, source, &arena, &m)?,
-    };
+    let judgement = verdict_on(alloc, source, &m)?;
+    let tree = tree_of(alloc, command, source, &arena, &m)?;
     let overlaps = overlaps_on(alloc, source, &m)?;
     let ty = m.ty;
     drop(arena);
-    add_found(alloc, source, so_far, name, count, ty, found, overlaps)
-}
-
-// Adds a function of this name and with so many arms, with what is found of it and its overlapping ranges, over a scrutinee
-// of this type.
-fn add_found(
-    alloc: Global,
-    source: &Source<'_>,
-    so_far: Progress,
-    name: Name,
-    arms: u64,
-    ty: TyId,
-    found: Found,
-    overlaps: Vec<Overlap>,
-) -> Result<Progress, NoMemory>
-    ghost whole: { List ItemTree }
-    requires sound { IsSound source.now whole }
-    requires of { IsOf source.now.table.now ty }
-    ensures { (command : Command) → (number : ℕ) → (f : FunctionTree) → (fs : List NumberedFunction)
-        → ReportsOn command (setting_in source.now whole) fs so_far
-        → IsFoundOn command source.now whole number f ty found.judgement overlaps.items found.tree
-        → rc_str_bytes name ≡ f.name → length f.arms ≡ arms
-        → IfOk result (ReportsOn command (setting_in source.now whole) (fs ++ numbered number f ∷ [])) }
-{
-    let Found { judgement, tree } = found;
     let Judgement {
         exhaustive,
         witnesses,
         unreachable,
     } = judgement;
-    let named = name_witnesses(alloc, source.table, ty, &witnesses)?;
-    let nodes = named_tree(alloc, source.table, ty, &tree)?;
-    let report = FnReport {
-        name: name.as_str(),
+    let found = Found {
+        name,
+        arms: count,
         exhaustive,
+        witnesses,
+        tree,
+    };
+    add_found(alloc, *source, so_far, ty, &found, unreachable, overlaps)
+}
+
+// Adds a function with what is found of it, what is unreachable and its overlapping ranges, over a scrutinee of this type.
+fn add_found<'r>(
+    alloc: Global,
+    source: Source<'r>,
+    so_far: Progress,
+    ty: TyId,
+    found: &'r Found,
+    unreachable: Vec<Unreachable>,
+    overlaps: Vec<Overlap>,
+) -> Result<Progress, NoMemory>
+    ghost whole: { List ItemTree }
+    requires sound { IsSound source whole }
+    requires of { IsOf source.table.now ty }
+    ensures { (command : Command) → (number : ℕ) → (f : FunctionTree) → (fs : List NumberedFunction)
+        → ReportsOn command (setting_in source whole) fs so_far
+        → IsFoundOn command source whole number f ty (record { exhaustive = found.now.exhaustive;
+        witnesses = found.now.witnesses; unreachable = unreachable }) overlaps.items found.now.tree
+        → rc_str_bytes found.now.name ≡ f.name → length f.arms ≡ found.now.arms
+        → IfOk result (ReportsOn command (setting_in source whole) (fs ++ numbered number f ∷ [])) }
+{
+    let witnesses = name_witnesses(alloc, source.table, ty, &found.witnesses)?;
+    let tree = named_tree(alloc, source.table, ty, &found.tree)?;
+    let report = FnReport {
+        name: found.name.as_str(),
+        exhaustive: found.exhaustive,
         overlaps,
         unreachable,
-        tree: nodes,
-        witnesses: named,
+        tree,
+        witnesses,
     };
-    add_report(so_far, arms, &report)
+    add_report(so_far, found.arms, &report)
 }
 
 // Adds a function that has so many arms, with what is reported of it.

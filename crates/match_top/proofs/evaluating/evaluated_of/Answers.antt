@@ -44,8 +44,8 @@ evaluated_fine-requires-clause-fine c =
       },
     )
 
-pub returns-clause-answers : goal.returns-clause-answers
-returns-clause-answers c = λ whole sound at.
+pub returns-in-None-clause-answers : goal.returns-in-None-clause-answers
+returns-in-None-clause-answers c = λ whole sound at.
     c.evaluated_fine.ensures.answers whole (record {
       sound = sound;
       stands = at;

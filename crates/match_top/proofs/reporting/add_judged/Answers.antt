@@ -39,9 +39,9 @@ returns g c = λ fs h.
     (record {
       fine = c.requires.0;
       type_is = made.shown.type_is;
-      verdict = c.in_ok-verdict_on.ensures g.whole f made;
+      verdict = c.in_ok-judgement.ensures g.whole f made;
       overlaps_are = c.in_ok-overlaps.ensures g.whole f made;
-      tree_is = c.in_ok-tree_of.ensures g.whole f made;
+      tree_is = c.in_ok-tree.ensures g.whole f made;
     })
     refl
-    (omega (arith, length-map c.args.f.arms.items arm_view, c.len.ensures))
+    (omega (arith, length-map c.args.f.arms.items arm_view, c.len-count.ensures))
