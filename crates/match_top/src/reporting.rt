@@ -238,8 +238,11 @@ fn add_found<'r>(
     requires of { IsOf source.table.now ty }
     ensures { (command : Command) → (number : ℕ) → (f : FunctionTree) → (fs : List NumberedFunction)
         → ReportsOn command (setting_in source whole) fs so_far
-        → IsFoundOn command source whole number f ty (record { exhaustive = found.now.exhaustive;
-        witnesses = found.now.witnesses; unreachable = unreachable }) overlaps.items found.now.tree
+        → IsFoundOn command source whole number f ty (record {
+          exhaustive = found.now.exhaustive;
+          witnesses = found.now.witnesses;
+          unreachable = unreachable;
+        }) overlaps.items found.now.tree
         → rc_str_bytes found.now.name ≡ f.name → length f.arms ≡ found.now.arms
         → IfOk result (ReportsOn command (setting_in source whole) (fs ++ numbered number f ∷ [])) }
 {

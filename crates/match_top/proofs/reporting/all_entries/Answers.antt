@@ -30,7 +30,7 @@ loop-item-preserved g c =
     let steps : into_iter_items at.item-iterator ≡ x ∷ rest = c.in-Some.ensures.steps.0 in (
       ap (map item_view) (append_assoc at.yielded (x ∷ []) rest ∙ ap (λ (r : List Item). at.yielded ++ r) (sym steps)) ∙ at.invariant.0,
       reports_next c.args.command (setting_in c.args.source.now g.whole) at.yielded x at.number c.in_ok-so_far.so_far at.invariant.2
-      (c.in_ok-so_far.ensures (functions_of (map item_view at.yielded)) at.invariant.1),
+          (c.in_ok-so_far.ensures (functions_of (map item_view at.yielded)) at.invariant.1),
       ap (λ n. n + 1) at.invariant.2 ∙ sym (length-append at.yielded (x ∷ [])),
       let was = at.invariant.3 in
           let gone = c.in-Some.ensures.steps.1 in
