@@ -96,27 +96,44 @@ functions_more items i x lt is =
     zero_plus : (n : ℕ) → 0 + n ≡ n
     zero_plus n = omega arith
 
--- the entries of a front that is one item longer
-pub reports_more : (command : Command) (s : Setting) (items : List Item) (i : ℕ) (x : Item) (p : Progress) → i < length items → x ≡ get_or items i x
-    → ReportsOn command s (functions_of (map item_view (take i items)) ++ function_at i (kind_view x.kind)) p → ReportsOn command s (functions_of (map item_view (take (i + 1) items))) p
-reports_more command s items i x p lt is h = subst (λ fs. ReportsOn command s fs p) (sym (functions_more items i x lt is)) h
+-- the functions of a list of items and the one behind it
+functions_next : (front : List Item) (x : Item) (i : ℕ) → i ≡ length front
+    → functions_of (map item_view (front ++ x ∷ [])) ≡ functions_of (map item_view front) ++ function_at i (kind_view x.kind)
+functions_next front x i is =
+    let number : 0 + length (map item_view front) ≡ i = zero_plus (length (map item_view front)) ∙ length-map front item_view ∙ sym is in
+    ap (functions_from 0) (map-append item_view front (x ∷ []))
+    ∙ functions_push 0 (map item_view front) (item_view x)
+    ∙ ap (λ n. functions_from 0 (map item_view front) ++ function_at n (kind_view x.kind)) number
+  where
+    zero_plus : (n : ℕ) → 0 + n ≡ n
+    zero_plus n = omega arith
 
--- the item of a file at this number
-pub there_at : (items : List Item) (i : ℕ) (x : Item) → i < length items → x ≡ get_or items i x → slice_get (map item_view items) i ≡ Some (item_view x)
-there_at [] i x lt is = absurd (omega (arith, lt))
-there_at (y ∷ ys) zero x lt is = ap (λ (z : Item). Some (item_view z)) (sym is)
-there_at (y ∷ ys) (suc i) x lt is = there_at ys i x (omega arith) is
+-- the entries of a list of items and of the one behind it
+pub reports_next : (command : Command) (s : Setting) (front : List Item) (x : Item) (i : ℕ) (p : Progress) → i ≡ length front
+    → ReportsOn command s (functions_of (map item_view front) ++ function_at i (kind_view x.kind)) p → ReportsOn command s (functions_of (map item_view (front ++ x ∷ []))) p
+reports_next command s front x i p is h = subst (λ fs. ReportsOn command s fs p) (sym (functions_next front x i is)) h
+
+stands_next : (front rest : List Item) (x : Item) → slice_get (map item_view (front ++ x ∷ rest)) (length front) ≡ Some (item_view x)
+stands_next [] rest x = refl
+stands_next (y ∷ ys) rest x = stands_next ys rest x
+
+-- the item behind the first ones has their number
+pub there_next : (all : List ItemTree) (front rest : List Item) (x : Item) (i : ℕ) → map item_view (front ++ x ∷ rest) ≡ all → i ≡ length front
+    → slice_get all i ≡ Some (item_view x)
+there_next all front rest x i same is =
+    ap (slice_get all) is ∙ ap (λ (its : List ItemTree). slice_get its (length front)) (sym same) ∙ stands_next front rest x
 
 -- what stands at a number is among the items
 pub contains_at : (items : List ItemTree) (i : ℕ) (item : ItemTree) → slice_get items i ≡ Some item → Contains items item
 contains_at items i item there = (i, slice_get_within items i item there, get_or_from_slice_get items i item item there)
 
 -- an item has at most as many arms as all items together
-pub few_here : (items : List Item) (i : ℕ) (x : Item) (most : ℕ) → i < length items → x ≡ get_or items i x
-    → sum_by (λ t. kind_arms t.kind) (map item_view items) < most → kind_arms (kind_view x.kind) < most
-few_here items i x most lt is few =
-    let same : item_view x ≡ get_or (map item_view items) i (item_view x) = ap item_view is ∙ sym (get_or-map item_view items i x) in
-    let within : kind_arms (get_or (map item_view items) i (item_view x)).kind ≤ sum_by (λ t. kind_arms t.kind) (map item_view items) =
-    get_or-le-sum_by (λ (t : ItemTree). kind_arms t.kind) (map item_view items) i (item_view x) (rw length-map lt) in
-    let mine : kind_arms (kind_view x.kind) ≤ sum_by (λ t. kind_arms t.kind) (map item_view items) = subst (λ (t : ItemTree). kind_arms t.kind ≤ sum_by (λ u. kind_arms u.kind) (map item_view items)) (sym same) within in
+pub few_there : (items : List ItemTree) (i : ℕ) (x : Item) (most : ℕ) → slice_get items i ≡ Some (item_view x) → sum_by (λ t. kind_arms t.kind) items < most
+    → kind_arms (kind_view x.kind) < most
+few_there items i x most there few =
+    let here : get_or items i (item_view x) ≡ item_view x = get_or_from_slice_get items i (item_view x) (item_view x) there in
+    let within : kind_arms (get_or items i (item_view x)).kind ≤ sum_by (λ t. kind_arms t.kind) items =
+    get_or-le-sum_by (λ (t : ItemTree). kind_arms t.kind) items i (item_view x) (slice_get_within items i (item_view x) there) in
+    let mine : kind_arms (kind_view x.kind) ≤ sum_by (λ t. kind_arms t.kind) items =
+    subst (λ (t : ItemTree). kind_arms t.kind ≤ sum_by (λ u. kind_arms u.kind) items) here within in
     omega arith

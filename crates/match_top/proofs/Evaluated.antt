@@ -2,7 +2,8 @@
 use Rattle.std.proofs.Common.{◌≡◌, ◌∙◌, ℕ, Bool, not, List, map, Result, Ok, Err, IfOk, Option, Some, None, refl, sym, ap, subst, IsTrue}
 use Rattle.std.specs.Prelude.{is_none, is_some, option_map}
 use Rattle.decl_syntax.specs.Functions.{FunctionTree}
-use Rattle.decl_syntax.specs.Items.{item_view}
+use Rattle.decl_syntax.specs.Items.{ItemTree, file_view, item_view}
+use Rattle.decl_syntax.specs.declared.items.File.{File}
 use Rattle.decl_syntax.specs.declared.items.Item.{Item}
 use Rattle.match_model.specs.ArenaPatterns.{MDeMatch}
 use Rattle.match_model.specs.Declarations.{MProgram}
@@ -26,7 +27,7 @@ use Rattle.match_top.specs.declared.source.Source.{Source}
 use Rattle.match_top.specs.declared.statuses.Status.{Status}
 use Rattle.match_top.specs.Outcomes.{function_named, meant_name, is_sure, shown_outcome, status_of_outcome, IsShownOutcome, IsEvaluatedBy, IsEvaluatedOf, of_broken_rule, of_no_value, of_value}
 use Rattle.match_top.specs.Refusals.{IsRefusal, IsRefusedBy}
-use Rattle.match_top.specs.Reporting.{items_in, setting_in, IsMatchOf}
+use Rattle.match_top.specs.Reporting.{setting_in, IsMatchOf}
 use Rattle.match_top.specs.Reports.{NumberedFunction, functions_of, refusal_of}
 use Rattle.match_top.specs.Selections.{numbered_view, IsReady}
 use Rattle.match_top.specs.Telling.{told_outcome}
@@ -34,13 +35,13 @@ use Rattle.match_top.specs.Words.{EvaluationForm}
 use Rattle.match_top.proofs.Told.{outcome_shown}
 
 -- what was looked for is the function that is meant
-pub looked_for : (x : Source) (items : List Item) (name made word : List ℕ) (r : Option Numbered)
-    → option_map numbered_view r ≡ function_named (functions_of (map item_view items)) name → items ≡ x.file.now.items.items → name ≡ made
-    → made ≡ meant_name word → option_map numbered_view r ≡ function_named (functions_of (items_in x)) (meant_name word)
-looked_for x items name made word r found items_are name_is made_is =
+pub looked_for : (file : File) (items : List Item) (name made word : List ℕ) (r : Option Numbered)
+    → option_map numbered_view r ≡ function_named (functions_of (map item_view items)) name → items ≡ file.items.items → name ≡ made
+    → made ≡ meant_name word → option_map numbered_view r ≡ function_named (functions_of (file_view file)) (meant_name word)
+looked_for file items name made word r found items_are name_is made_is =
     found
     ∙ ap (λ (is : List Item). function_named (functions_of (map item_view is)) name) items_are
-    ∙ ap (function_named (functions_of (items_in x))) (name_is ∙ made_is)
+    ∙ ap (function_named (functions_of (file_view file))) (name_is ∙ made_is)
 
 -- the answer by the function that was found
 pub found_answer : {E : Type 0} (s : Setting) (o found : Option NumberedFunction) (e : EvaluationForm) (r : Result Answer E) → o ≡ found
@@ -67,25 +68,25 @@ sure_is None = refl
 sure_is (Some n) = refl
 
 -- the match of a function, by the types of the table
-module _ (x : Source) (f : FunctionTree) (m : MDeMatch TyId) (h : IsMatchOf x f m) where
+module _ (x : Source) (items : List ItemTree) (f : FunctionTree) (m : MDeMatch TyId) (h : IsMatchOf x items f m) where
   -- what is read at the match's type is read at the function's
   pub moved : (P : MProgram → Bool → MType → Type 0) → P (table_program x.table.now) m.sure (table_type x.table.now m.type)
-      → P (program (setting_in x)) (is_sure f) (scrutinee_type (setting_in x) f)
+      → P (program (setting_in x items)) (is_sure f) (scrutinee_type (setting_in x items) f)
   moved P there =
-      subst (λ (t : MType). P (program (setting_in x)) (is_sure f) t) h.shown.type_is
-      (subst (λ (b : Bool). P (program (setting_in x)) b (table_type x.table.now m.type)) h.shown.sure_is
+      subst (λ (t : MType). P (program (setting_in x items)) (is_sure f) t) h.shown.type_is
+      (subst (λ (b : Bool). P (program (setting_in x items)) b (table_type x.table.now m.type)) h.shown.sure_is
       (subst (λ (p : MProgram). P p m.sure (table_type x.table.now m.type)) h.table_is.program there))
 
   -- a value of the match's type is one of the function's domain
-  pub in_domain : (v : MValue) → IsTrue (is_value (table_program x.table.now) m.sure (table_type x.table.now m.type) v) → Domain (setting_in x) f v
+  pub in_domain : (v : MValue) → IsTrue (is_value (table_program x.table.now) m.sure (table_type x.table.now m.type) v) → Domain (setting_in x items) f v
   in_domain v inside =
-      subst (λ (b : Bool). IsTrue (is_value (program (setting_in x)) b (scrutinee_type (setting_in x) f) v)) (sure_is f.deref)
+      subst (λ (b : Bool). IsTrue (is_value (program (setting_in x items)) b (scrutinee_type (setting_in x items) f) v)) (sure_is f.deref)
       (moved (λ p b t. IsTrue (is_value p b t v)) inside)
 
   -- a function whose value is refused is answered by that
-  pub unread_answer : {E : Type 0} (number : ℕ) (e : EvaluationForm) (rule : ℕ) (r : Result Answer E) → BreaksNone (setting_in x) f
+  pub unread_answer : {E : Type 0} (number : ℕ) (e : EvaluationForm) (rule : ℕ) (r : Result Answer E) → BreaksNone (setting_in x items) f
       → IsUnreadValue (table_program x.table.now) m.sure (table_type x.table.now m.type) e.value rule → IfOk r (λ a. IsRefusedBy rule a.text.items a.status)
-      → IfOk r (λ a. IsEvaluatedOf (setting_in x) (record { number = number; function = f }) e a.text.items a.status)
+      → IfOk r (λ a. IsEvaluatedOf (setting_in x items) (record { number = number; function = f }) e a.text.items a.status)
   unread_answer number e rule (Ok a) fine unread refused = of_no_value (record {
     fine = fine;
     rule = rule;
@@ -95,10 +96,10 @@ module _ (x : Source) (f : FunctionTree) (m : MDeMatch TyId) (h : IsMatchOf x f 
   unread_answer number e rule (Err y) fine unread refused = tt
 
   -- one whose value is read by what the match does with it
-  pub read_answer : {E : Type 0} (number : ℕ) (e : EvaluationForm) (v : MValue) (r : Result Answer E) → BreaksNone (setting_in x) f
+  pub read_answer : {E : Type 0} (number : ℕ) (e : EvaluationForm) (v : MValue) (r : Result Answer E) → BreaksNone (setting_in x items) f
       → IsReadValue (table_program x.table.now) m.sure (table_type x.table.now m.type) e.value v
-      → IfOk r (λ a. IsShownOutcome (setting_in x) f (select (written_arms (setting_in x) f) v e.answers) a.text.items a.status)
-      → IfOk r (λ a. IsEvaluatedOf (setting_in x) (record { number = number; function = f }) e a.text.items a.status)
+      → IfOk r (λ a. IsShownOutcome (setting_in x items) f (select (written_arms (setting_in x items) f) v e.answers) a.text.items a.status)
+      → IfOk r (λ a. IsEvaluatedOf (setting_in x items) (record { number = number; function = f }) e a.text.items a.status)
   read_answer number e v (Ok a) fine read shown = of_value (record {
     fine = fine;
     value = v;
@@ -108,12 +109,12 @@ module _ (x : Source) (f : FunctionTree) (m : MDeMatch TyId) (h : IsMatchOf x f 
   read_answer number e v (Err y) fine read shown = tt
 
 -- what is told of the answers that were made is told of those that were given
-pub answers_given : {E : Type 0} (x : Source) (f : FunctionTree) (v : MValue) (slice made given : List Bool) (r : Result Answer E) → slice ≡ made → made ≡ given
-    → IfOk r (λ a. IsShownOutcome (setting_in x) f (select (written_arms (setting_in x) f) v slice) a.text.items a.status)
-    → IfOk r (λ a. IsShownOutcome (setting_in x) f (select (written_arms (setting_in x) f) v given) a.text.items a.status)
-answers_given x f v slice made given (Ok a) e d h =
-    subst (λ (answers : List Bool). IsShownOutcome (setting_in x) f (select (written_arms (setting_in x) f) v answers) a.text.items a.status) (e ∙ d) h
-answers_given x f v slice made given (Err y) e d h = tt
+pub answers_given : {E : Type 0} (x : Source) (items : List ItemTree) (f : FunctionTree) (v : MValue) (slice made given : List Bool) (r : Result Answer E) → slice ≡ made → made ≡ given
+    → IfOk r (λ a. IsShownOutcome (setting_in x items) f (select (written_arms (setting_in x items) f) v slice) a.text.items a.status)
+    → IfOk r (λ a. IsShownOutcome (setting_in x items) f (select (written_arms (setting_in x items) f) v given) a.text.items a.status)
+answers_given x items f v slice made given (Ok a) e d h =
+    subst (λ (answers : List Bool). IsShownOutcome (setting_in x items) f (select (written_arms (setting_in x items) f) v answers) a.text.items a.status) (e ∙ d) h
+answers_given x items f v slice made given (Err y) e d h = tt
 
 -- the rules on values have names
 pub unread_is_named : (p : MProgram) (b : Bool) (t : MType) (text : List ℕ) (rule : ℕ) → IsUnreadValue p b t text rule → IsRule rule
@@ -121,15 +122,15 @@ unread_is_named p b t text rule (is_unwritten none) = refl
 unread_is_named p b t text rule (is_no_value w there nothing) = refl
 
 -- what is told of what a tree means for a value of the domain is what the function's arms do
-pub outcome_told : (x : Source) (f : FunctionTree) (m : MDeMatch TyId) (nodes : List MNode) (v : MValue) (answers : List Bool) (s : Selected)
-    (text : List ℕ) (status : Status) → IsReady x f m nodes v
+pub outcome_told : (x : Source) (items : List ItemTree) (f : FunctionTree) (m : MDeMatch TyId) (nodes : List MNode) (v : MValue) (answers : List Bool) (s : Selected)
+    (text : List ℕ) (status : Status) → IsReady x items f m nodes v
     → ((t : Selected) → Means nodes v answers t → s ≡ t) → text ≡ outcome_text (told_outcome x.table.now m s) → status ≡ status_of_outcome s.outcome
-    → IsShownOutcome (setting_in x) f (select (written_arms (setting_in x) f) v answers) text status
-outcome_told x f m nodes v answers s text status ready means text_is status_is =
-    let chosen : Selected = select (written_arms (setting_in x) f) v answers in
+    → IsShownOutcome (setting_in x items) f (select (written_arms (setting_in x items) f) v answers) text status
+outcome_told x items f m nodes v answers s text status ready means text_is status_is =
+    let chosen : Selected = select (written_arms (setting_in x items) f) v answers in
     let same : s ≡ chosen = means chosen (ready.tree_is.good.means v ready.inside answers) in (
       text_is
-          ∙ ap outcome_text (outcome_shown x f m ready.match_is s)
-          ∙ ap (λ (t : Selected). outcome_text (shown_outcome (setting_in x) f t)) same,
+          ∙ ap outcome_text (outcome_shown x items f m ready.match_is s)
+          ∙ ap (λ (t : Selected). outcome_text (shown_outcome (setting_in x items) f t)) same,
       status_is ∙ ap (λ (t : Selected). status_of_outcome t.outcome) same,
     )

@@ -7,7 +7,7 @@ use Rattle.std.proofs.lemmas.List.Folds.{find-append}
 use Rattle.std.proofs.lemmas.Option.{slice_get_within, get_or_from_slice_get}
 use Rattle.bound_types.specs.Types.{bound_type, binds_name, has_name, patterns_in, patterns_in_all}
 use Rattle.decl_syntax.specs.Functions.{FunctionTree}
-use Rattle.decl_syntax.specs.Items.{ArmTree}
+use Rattle.decl_syntax.specs.Items.{ArmTree, ItemTree}
 use Rattle.match_model.specs.ArenaPatterns.{MDeArm, MDeMatch, MDePat, de_pat, MDePats, no_de_pats, more_de_pats, type_of}
 use Rattle.match_model.specs.Constructors.{MCtor}
 use Rattle.match_model.specs.Declarations.{MProgram}
@@ -97,8 +97,8 @@ bound_has {T} P p name t all bound = by (find (binds_name name) (patterns_in p))
 contains_there : {A : Type 0} (xs : List A) (j : ℕ) (x : A) → slice_get xs j ≡ Some x → Contains xs x
 contains_there xs j x there = (j, slice_get_within xs j x there, get_or_from_slice_get xs j x x there)
 
-pub are_numbered : (x : Source) (f : FunctionTree) (m : MDeMatch TyId) → IsMatchOf x f m → AreNumbered x.table.now m
-are_numbered x f m h j name = by (slice_get m.arms j) refl
+pub are_numbered : (x : Source) (items : List ItemTree) (f : FunctionTree) (m : MDeMatch TyId) → IsMatchOf x items f m → AreNumbered x.table.now m
+are_numbered x items f m h j name = by (slice_get m.arms j) refl
   where
     of_arm : (d : MDeArm TyId) → Contains m.arms d → (o : Option TyId) → bound_type d.pat name ≡ o → IsOf x.table.now (number_or m.type o)
     of_arm d among None e = h.type_is
@@ -123,61 +123,61 @@ both_there (x ∷ xs) (y ∷ ys) (suc j) same = both_there xs ys j (next (length
     next n m e = cc
 
 -- the match of a function, and the types of the table
-module _ (x : Source) (f : FunctionTree) (m : MDeMatch TyId) (h : IsMatchOf x f m) where
-  of_type : (o : Option TyId) → table_type x.table.now (number_or m.type o) ≡ type_or (scrutinee_type (setting_in x) f) (option_map (table_type x.table.now) o)
+module _ (x : Source) (items : List ItemTree) (f : FunctionTree) (m : MDeMatch TyId) (h : IsMatchOf x items f m) where
+  of_type : (o : Option TyId) → table_type x.table.now (number_or m.type o) ≡ type_or (scrutinee_type (setting_in x items) f) (option_map (table_type x.table.now) o)
   of_type None = h.shown.type_is
   of_type (Some ty) = refl
 
-  arm_type : (d : MDeArm TyId) (a : ArmTree) (name : List ℕ) → shown (table_type x.table.now) d.pat ≡ elaborated_arm (setting_in x) f a
-      → table_type x.table.now (told_type m (Some d) name) ≡ type_in_arm (setting_in x) f (Some a) name
+  arm_type : (d : MDeArm TyId) (a : ArmTree) (name : List ℕ) → shown (table_type x.table.now) d.pat ≡ elaborated_arm (setting_in x items) f a
+      → table_type x.table.now (told_type m (Some d) name) ≡ type_in_arm (setting_in x items) f (Some a) name
   arm_type d a name shows =
       of_type (bound_type d.pat name)
-      ∙ ap (type_or (scrutinee_type (setting_in x) f)) (sym (bound_settled (table_type x.table.now) name _ d.pat))
-      ∙ ap (λ (p : MDePat MType). type_or (scrutinee_type (setting_in x) f) (bound_type p name)) shows
+      ∙ ap (type_or (scrutinee_type (setting_in x items) f)) (sym (bound_settled (table_type x.table.now) name _ d.pat))
+      ∙ ap (λ (p : MDePat MType). type_or (scrutinee_type (setting_in x items) f) (bound_type p name)) shows
 
   -- a name has the type of the table that it has in the arm
-  type_shown : (j : ℕ) (name : List ℕ) → table_type x.table.now (type_told m j name) ≡ type_in_arm (setting_in x) f (slice_get f.arms j) name
+  type_shown : (j : ℕ) (name : List ℕ) → table_type x.table.now (type_told m j name) ≡ type_in_arm (setting_in x items) f (slice_get f.arms j) name
   type_shown j name = by (both_there m.arms f.arms j h.shown.count)
     where
       by : ((slice_get m.arms j ≡ None) × (slice_get f.arms j ≡ None)) ⊎ ((d : MDeArm TyId) × (a : ArmTree) × (slice_get m.arms j ≡ Some d) × (slice_get f.arms j ≡ Some a))
-          → table_type x.table.now (type_told m j name) ≡ type_in_arm (setting_in x) f (slice_get f.arms j) name
+          → table_type x.table.now (type_told m j name) ≡ type_in_arm (setting_in x items) f (slice_get f.arms j) name
       by (inl none) =
           ap (λ (o : Option (MDeArm TyId)). table_type x.table.now (told_type m o name)) none.0
           ∙ h.shown.type_is
-          ∙ ap (λ (o : Option ArmTree). type_in_arm (setting_in x) f o name) (sym none.1)
+          ∙ ap (λ (o : Option ArmTree). type_in_arm (setting_in x items) f o name) (sym none.1)
       by (inr both) =
           ap (λ (o : Option (MDeArm TyId)). table_type x.table.now (told_type m o name)) both.2
           ∙ arm_type both.0 both.1 name (h.shown.arms j both.1 both.0 both.3 both.2).pattern
-          ∙ ap (λ (o : Option ArmTree). type_in_arm (setting_in x) f o name) (sym both.3)
+          ∙ ap (λ (o : Option ArmTree). type_in_arm (setting_in x items) f o name) (sym both.3)
 
-  binding_shown : (j : ℕ) (b : Binding) → told_binding x.table.now (type_told m j b.name) b ≡ shown_binding (setting_in x) f j b
+  binding_shown : (j : ℕ) (b : Binding) → told_binding x.table.now (type_told m j b.name) b ≡ shown_binding (setting_in x items) f j b
   binding_shown j b =
-      let program_is : table_program x.table.now ≡ program (setting_in x) = h.table_is.program in
+      let program_is : table_program x.table.now ≡ program (setting_in x items) = h.table_is.program in
       ap (λ (p : MProgram). record {
         name = b.name;
         mode = b.mode;
         value = written_text (written_value p (table_type x.table.now (type_told m j b.name)) b.value);
       }) program_is
-      ∙ ap (λ (t : MType). record { name = b.name; mode = b.mode; value = written_text (written_value (program (setting_in x)) t b.value) }) (type_shown j b.name)
+      ∙ ap (λ (t : MType). record { name = b.name; mode = b.mode; value = written_text (written_value (program (setting_in x items)) t b.value) }) (type_shown j b.name)
 
-  bindings_shown : (j : ℕ) (bs : List Binding) → map (λ b. told_binding x.table.now (type_told m j b.name) b) bs ≡ map (shown_binding (setting_in x) f j) bs
+  bindings_shown : (j : ℕ) (bs : List Binding) → map (λ b. told_binding x.table.now (type_told m j b.name) b) bs ≡ map (shown_binding (setting_in x items) f j) bs
   bindings_shown j [] = refl
   bindings_shown j (b ∷ bs) =
       ap (λ (c : HeldTree). c ∷ map (λ b. told_binding x.table.now (type_told m j b.name) b) bs) (binding_shown j b)
-      ∙ ap (λ (cs : List HeldTree). shown_binding (setting_in x) f j b ∷ cs) (bindings_shown j bs)
+      ∙ ap (λ (cs : List HeldTree). shown_binding (setting_in x items) f j b ∷ cs) (bindings_shown j bs)
 
-  asked_shown : (gs : List Asked) → map (told_asked x.table.now m) gs ≡ map (shown_asked (setting_in x) f) gs
+  asked_shown : (gs : List Asked) → map (told_asked x.table.now m) gs ≡ map (shown_asked (setting_in x items) f) gs
   asked_shown [] = refl
   asked_shown (a ∷ gs) =
       ap (λ (cs : List HeldTree). record { arm = a.arm; bindings = cs } ∷ map (told_asked x.table.now m) gs) (bindings_shown a.arm a.bindings)
-      ∙ ap (λ (cs : List AskedTree). shown_asked (setting_in x) f a ∷ cs) (asked_shown gs)
+      ∙ ap (λ (cs : List AskedTree). shown_asked (setting_in x items) f a ∷ cs) (asked_shown gs)
 
-  ending_shown : (o : Outcome) → told_ending x.table.now m o ≡ shown_ending (setting_in x) f o
+  ending_shown : (o : Outcome) → told_ending x.table.now m o ≡ shown_ending (setting_in x items) f o
   ending_shown (Took arm bindings) = ap (ArmTaken arm) (bindings_shown arm bindings)
   ending_shown Missed = refl
   ending_shown Short = refl
 
-  pub outcome_shown : (s : Selected) → told_outcome x.table.now m s ≡ shown_outcome (setting_in x) f s
+  pub outcome_shown : (s : Selected) → told_outcome x.table.now m s ≡ shown_outcome (setting_in x items) f s
   outcome_shown s =
       ap (λ (gs : List AskedTree). record { asked = gs; ending = told_ending x.table.now m s.outcome }) (asked_shown s.asked)
-      ∙ ap (λ (e : EndingTree). record { asked = map (shown_asked (setting_in x) f) s.asked; ending = e }) (ending_shown s.outcome)
+      ∙ ap (λ (e : EndingTree). record { asked = map (shown_asked (setting_in x items) f) s.asked; ending = e }) (ending_shown s.outcome)

@@ -17,12 +17,11 @@ use Rattle.pattern_laws.specs.TreeLaws.{IsTreeOn}
 use Rattle.tree_text.specs.Trees.{NodeTree}
 use Rattle.witness_names.specs.Named.{named_witness}
 use Rattle.witness_names.specs.NamedTrees.{named_node}
-use Rattle.verdict_json.specs.declared.entry.Unreachable.{Unreachable}
 use Rattle.verdict_json.specs.declared.refusal.Refusal.{Refusal}
 use Rattle.verdict_json.specs.declared.summary.Summary.{Summary}
 use Rattle.verdict_json.specs.Report.{ReportEntry, JudgedFunction, RefusedFunction, report_text}
 use Rattle.verdict_json.specs.Summaries.{IsSummary, summary_text}
-use Rattle.verdict_json.specs.Trees.{ReportTree}
+use Rattle.verdict_json.specs.Trees.{ReportTree, UnreachableTree}
 use Rattle.match_top.specs.declared.option_words.Options.{Options}
 use Rattle.match_top.specs.declared.statuses.Status.{Status}
 use Rattle.match_top.specs.declared.statuses.Status.TheVariants.{Clean, Found}
@@ -63,7 +62,7 @@ abbrev pub refusal_of : (number rule : ℕ) → (arm : Option ℕ) → (at : ℕ
 refusal_of number rule arm at = record { rule = rule; item = Some number; arm = arm; at = Some at }
 
 -- an unreachable arm or alternative as a report shows it: its arm, its place, and whether it is the whole arm
-abbrev pub shown_entry : Entry → Unreachable
+abbrev pub shown_entry : Entry → UnreachableTree
 shown_entry e = record { arm = e.arm; at = e.at; whole = e.whole }
 
 -- the nodes of a tree as a report shows them: with the names of the file's types

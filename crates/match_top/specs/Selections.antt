@@ -1,6 +1,7 @@
 -- No meaning: what is read off a tree for one value, for the proofs of `selecting` and `evaluating`.
 use Rattle.std.specs.Prelude.{ℕ, List, map, slice_get, Option, Some, None}
 use Rattle.decl_syntax.specs.Functions.{FunctionTree, function_view}
+use Rattle.decl_syntax.specs.Items.{ItemTree}
 use Rattle.match_model.specs.ArenaPatterns.{MDeMatch}
 use Rattle.match_model.specs.Select.{Asked, Outcome, Took, Missed, Short, Selected}
 use Rattle.match_model.specs.Trees.{MNode, bindings_in}
@@ -62,7 +63,7 @@ end_at nodes v (runs.Missed used) = Missed
 end_at nodes v (runs.Short used) = Short
 
 -- the match is the function's, the nodes are its tree, and the value is one of its domain
-pub record IsReady (x : Source) (f : FunctionTree) (m : MDeMatch TyId) (nodes : List MNode) (v : MValue) : Type 0 where
-  pub match_is : IsMatchOf x f m
-  pub tree_is : IsTreeOn (setting_in x) f nodes
-  pub inside : Domain (setting_in x) f v
+pub record IsReady (x : Source) (items : List ItemTree) (f : FunctionTree) (m : MDeMatch TyId) (nodes : List MNode) (v : MValue) : Type 0 where
+  pub match_is : IsMatchOf x items f m
+  pub tree_is : IsTreeOn (setting_in x items) f nodes
+  pub inside : Domain (setting_in x items) f v

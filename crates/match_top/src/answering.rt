@@ -11,7 +11,7 @@ ghost use Rattle.match_top.specs.Answers.{Answers, IsJudged, IsAnswerToItems, Is
 ghost use Rattle.match_top.specs.Answers.{taken, longest_source};
 ghost use Rattle.match_top.specs.Asked.{question_view, request_view};
 ghost use Rattle.match_top.specs.Reports.{IsReported, IsCounted, status_of};
-ghost use Rattle.match_top.specs.Reporting.{AreSpelled, IsSound, items_in, setting_in};
+ghost use Rattle.match_top.specs.Reporting.{AreSpelled, IsSound, setting_in};
 ghost use Rattle.match_top.specs.Statuses.{IsVerdict};
 ghost use Rattle.match_top.specs.declared.words.Command.TheVariants.{Check};
 
@@ -97,7 +97,7 @@ fn answer_to_tokens(
     ensures verdict { IfOk result (λ a. IsVerdict a.status) }
 {
     let fault = match file_of(alloc, tokens) {
-        Ok(file) => return answer_to_file(alloc, request, &file),
+        Ok(file) => return answer_to_file(alloc, request, file),
         Err(fault) => fault,
     };
     match fault {
@@ -117,61 +117,71 @@ fn file_of(alloc: Global, tokens: Tokens) -> Result<File, ParseFault>
 }
 
 // The answer to a file that tokens spell: its first fault on declarations, or else what is asked.
-fn answer_to_file(alloc: Global, request: &Request<'_>, file: &File) -> Result<Answer, NoMemory>
-    requires spelled { AreSpelled (file_view file.now) }
-    requires few { sum_by (λ i. kind_arms i.kind) (file_view file.now) < 2 ^ 32 }
-    ensures answers { IfOk result (λ a. IsAnswerToItems (request_view request.now) (file_view file.now) a.text.items a.status) }
+fn answer_to_file(alloc: Global, request: &Request<'_>, file: File) -> Result<Answer, NoMemory>
+    requires spelled { AreSpelled (file_view file) }
+    requires few { sum_by (λ i. kind_arms i.kind) (file_view file) < 2 ^ 32 }
+    ensures answers { IfOk result (λ a. IsAnswerToItems (request_view request.now) (file_view file) a.text.items a.status) }
     ensures verdict { IfOk result (λ a. IsVerdict a.status) }
 {
-    match TypeTable::build(alloc, file, request.options.width) {
+    match TypeTable::build(alloc, &file, request.options.width) {
         Ok(table) => done(
             alloc,
             &request.question,
             &Source {
-                file,
                 table: &table,
                 options: request.options,
             },
+            file,
         ),
         Err(DeclFault::Rule { rule, item, at }) => refused_in(alloc, rule, Some(item), Some(at)),
         Err(DeclFault::NoMemory) => Err(NoMemory),
     }
 }
 
-// What is asked of a file of which no item breaks a rule on declarations.
-fn done(alloc: Global, question: &Question<'_>, source: &Source<'_>) -> Result<Answer, NoMemory>
-    requires sound { IsSound source.now }
-    requires few { sum_by (λ i. kind_arms i.kind) (items_in source.now) < 2 ^ 32 }
-    ensures answers { IfOk result (λ a. IsDone (question_view question.now) (setting_in source.now) a.text.items a.status) }
+// What is asked of a file of which no item breaks a rule on declarations. A report takes the file apart.
+fn done(
+    alloc: Global,
+    question: &Question<'_>,
+    source: &Source<'_>,
+    file: File,
+) -> Result<Answer, NoMemory>
+    requires sound { IsSound source.now (file_view file) }
+    requires few { sum_by (λ i. kind_arms i.kind) (file_view file) < 2 ^ 32 }
+    ensures answers { IfOk result (λ a. IsDone (question_view question.now) (setting_in source.now (file_view file)) a.text.items a.status) }
     ensures verdict { IfOk result (λ a. IsVerdict a.status) }
 {
     match question {
-        Question::Report(command) => reported(alloc, *command, source),
-        Question::Outcome(evaluation) => evaluated(alloc, evaluation, source),
-        Question::Counts => counted(alloc, source),
+        Question::Report(command) => reported(alloc, *command, source, file),
+        Question::Outcome(evaluation) => evaluated(alloc, evaluation, source, &file),
+        Question::Counts => counted(alloc, source, file),
     }
 }
 
 // The report on its functions.
-fn reported(alloc: Global, command: Command, source: &Source<'_>) -> Result<Answer, NoMemory>
-    requires sound { IsSound source.now }
-    requires few { sum_by (λ i. kind_arms i.kind) (items_in source.now) < 2 ^ 32 }
-    ensures answers { IfOk result (λ a. IsReported command (setting_in source.now) a.text.items a.status) }
+fn reported(
+    alloc: Global,
+    command: Command,
+    source: &Source<'_>,
+    file: File,
+) -> Result<Answer, NoMemory>
+    requires sound { IsSound source.now (file_view file) }
+    requires few { sum_by (λ i. kind_arms i.kind) (file_view file) < 2 ^ 32 }
+    ensures answers { IfOk result (λ a. IsReported command (setting_in source.now (file_view file)) a.text.items a.status) }
     ensures verdict { IfOk result (λ a. IsVerdict a.status) }
 {
-    let Reported { text, clean, .. } = report_on(alloc, command, source)?;
+    let Reported { text, clean, .. } = report_on(alloc, command, source, file)?;
     let status = status_of(clean);
     Ok(Answer { text, status })
 }
 
 // The counts in the report that `check` has on its functions.
-fn counted(alloc: Global, source: &Source<'_>) -> Result<Answer, NoMemory>
-    requires sound { IsSound source.now }
-    requires few { sum_by (λ i. kind_arms i.kind) (items_in source.now) < 2 ^ 32 }
-    ensures answers { IfOk result (λ a. IsCounted Check (setting_in source.now) a.text.items a.status) }
+fn counted(alloc: Global, source: &Source<'_>, file: File) -> Result<Answer, NoMemory>
+    requires sound { IsSound source.now (file_view file) }
+    requires few { sum_by (λ i. kind_arms i.kind) (file_view file) < 2 ^ 32 }
+    ensures answers { IfOk result (λ a. IsCounted Check (setting_in source.now (file_view file)) a.text.items a.status) }
     ensures verdict { IfOk result (λ a. IsVerdict a.status) }
 {
-    let Reported { counts, clean, .. } = report_on(alloc, Command::Check, source)?;
+    let Reported { counts, clean, .. } = report_on(alloc, Command::Check, source, file)?;
     let text = demo_bytes(alloc, &counts)?;
     let status = status_of(clean);
     Ok(Answer { text, status })

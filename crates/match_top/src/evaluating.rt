@@ -1,7 +1,8 @@
 // What the match of one function does with one value.
-ghost use Rattle.std.specs.Prelude.{◌≡◌, ◌<◌, ◌^◌, IfOk, length, map, sum_by};
+ghost use Rattle.std.specs.Prelude.{◌≡◌, ◌<◌, ◌^◌, IfOk, List, length, map, sum_by};
 ghost use Rattle.decl_syntax.specs.Counts.{kind_arms};
 ghost use Rattle.decl_syntax.specs.Functions.{FunctionTree, function_view};
+ghost use Rattle.decl_syntax.specs.Items.{ItemTree, file_view};
 ghost use Rattle.match_model.specs.Select.{select};
 ghost use Rattle.pattern_arena.specs.Trees.{plain_match};
 ghost use Rattle.pattern_rules.specs.Verdicts.{written_arms};
@@ -9,7 +10,7 @@ ghost use Rattle.tree_eval.specs.Nodes.{tree_nodes};
 ghost use Rattle.tree_eval.specs.Views.{plain_value};
 ghost use Rattle.match_top.specs.Asked.{evaluation_view};
 ghost use Rattle.match_top.specs.Outcomes.{IsEvaluated, IsEvaluatedOf, IsShownOutcome, status_of_outcome};
-ghost use Rattle.match_top.specs.Reporting.{IsSound, StandsAt, IsFineFunction, items_in, setting_in};
+ghost use Rattle.match_top.specs.Reporting.{IsSound, StandsAt, IsFineFunction, setting_in};
 ghost use Rattle.match_top.specs.Reports.{numbered};
 ghost use Rattle.match_top.specs.Selections.{IsReady, ending_view};
 ghost use Rattle.match_top.specs.Statuses.{IsVerdict};
@@ -27,7 +28,7 @@ use crate::trees::tree_of_match;
 use crate::words::Evaluation;
 use bumpalo::Bump;
 use decl_lexer::name_form;
-use decl_syntax::FnItem;
+use decl_syntax::{File, FnItem};
 use no_memory::NoMemory;
 use pattern_arena::{CheckedMatch, Placer};
 use pattern_check::function::first_fault;
@@ -42,15 +43,16 @@ pub(crate) fn evaluated(
     alloc: Global,
     evaluation: &Evaluation<'_>,
     source: &Source<'_>,
+    file: &File,
 ) -> Result<Answer, NoMemory>
-    requires sound { IsSound source.now }
-    requires few { sum_by (λ i. kind_arms i.kind) (items_in source.now) < 2 ^ 32 }
-    ensures answers { IfOk result (λ a. IsEvaluated (evaluation_view evaluation.now) (setting_in source.now)
-        a.text.items a.status) }
+    requires sound { IsSound source.now (file_view file.now) }
+    requires few { sum_by (λ i. kind_arms i.kind) (file_view file.now) < 2 ^ 32 }
+    ensures answers { IfOk result (λ a. IsEvaluated (evaluation_view evaluation.now)
+        (setting_in source.now (file_view file.now)) a.text.items a.status) }
     ensures verdict { IfOk result (λ a. IsVerdict a.status) }
 {
     let name = name_form(alloc, evaluation.function)?;
-    match function_named(&source.file.items, name.as_str()) {
+    match function_named(&file.items, name.as_str()) {
         None => refused_at(alloc, 42, None),
         Some(found) => evaluated_of(alloc, evaluation, source, found.number, found.function),
     }
@@ -64,10 +66,10 @@ fn evaluated_of(
     number: u64,
     f: &FnItem,
 ) -> Result<Answer, NoMemory>
-    requires sound { IsSound source.now }
-    requires there { StandsAt (items_in source.now) number (function_view f.now) }
+    requires there { (whole : List ItemTree) × IsSound source.now whole × StandsAt whole number (function_view f.now) }
     requires few { length f.now.arms.items < 2 ^ 32 }
-    ensures answers { IfOk result (λ a. IsEvaluatedOf (setting_in source.now) (numbered number (function_view f.now))
+    ensures answers { (whole : List ItemTree) → IsSound source.now whole → StandsAt whole number (function_view f.now)
+        → IfOk result (λ a. IsEvaluatedOf (setting_in source.now whole) (numbered number (function_view f.now))
         (evaluation_view evaluation.now) a.text.items a.status) }
     ensures verdict { IfOk result (λ a. IsVerdict a.status) }
 {
@@ -85,9 +87,10 @@ fn evaluated_fine(
     number: u64,
     f: &FnItem,
 ) -> Result<Answer, NoMemory>
-    requires fine { IsFineFunction source.now number (function_view f.now) }
+    requires fine { (whole : List ItemTree) × IsFineFunction source.now whole number (function_view f.now) }
     requires few { length f.now.arms.items < 2 ^ 32 }
-    ensures answers { IfOk result (λ a. IsEvaluatedOf (setting_in source.now) (numbered number (function_view f.now))
+    ensures answers { (whole : List ItemTree) → IsFineFunction source.now whole number (function_view f.now)
+        → IfOk result (λ a. IsEvaluatedOf (setting_in source.now whole) (numbered number (function_view f.now))
         (evaluation_view evaluation.now) a.text.items a.status) }
     ensures verdict { IfOk result (λ a. IsVerdict a.status) }
 {
@@ -113,11 +116,11 @@ fn outcome_of<'a>(
     value: &Value,
     answers: &[bool],
 ) -> Result<Answer, NoMemory>
-    requires ready { (f : FunctionTree) × IsReady source.now f (plain_match m.now) (tree_nodes tree.now)
-        (plain_value value.now) }
-    ensures answers { (f : FunctionTree) → IsReady source.now f (plain_match m.now) (tree_nodes tree.now)
-        (plain_value value.now) → IfOk result (λ a. IsShownOutcome (setting_in source.now) f
-        (select (written_arms (setting_in source.now) f) (plain_value value.now) answers.now) a.text.items a.status) }
+    requires ready { (whole : List ItemTree) × (f : FunctionTree) × IsReady source.now whole f (plain_match m.now)
+        (tree_nodes tree.now) (plain_value value.now) }
+    ensures answers { (whole : List ItemTree) → (f : FunctionTree) → IsReady source.now whole f (plain_match m.now)
+        (tree_nodes tree.now) (plain_value value.now) → IfOk result (λ a. IsShownOutcome (setting_in source.now whole) f
+        (select (written_arms (setting_in source.now whole) f) (plain_value value.now) answers.now) a.text.items a.status) }
     ensures verdict { IfOk result (λ a. IsVerdict a.status) }
 {
     let selection = selected(alloc, tree, value, answers)?;

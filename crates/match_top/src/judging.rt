@@ -1,9 +1,10 @@
 // What is found of a function that breaks no rule: its match as the engine has it, and the engine's verdict.
-ghost use Rattle.std.specs.Prelude.{◌≡◌, ◌<◌, ◌^◌, length, map, IfOk};
+ghost use Rattle.std.specs.Prelude.{◌<◌, ◌^◌, List, length, map, IfOk};
 ghost use Rattle.match_model.specs.ArenaWays.{match_arms, InMatchDomain};
 ghost use Rattle.match_model.specs.Overlaps.{IsOverlapList};
 ghost use Rattle.match_model.specs.WellTyped.{IsWellTyped};
 ghost use Rattle.decl_syntax.specs.Functions.{FunctionTree, function_view};
+ghost use Rattle.decl_syntax.specs.Items.{ItemTree};
 ghost use Rattle.pattern_arena.specs.Trees.{plain_match};
 ghost use Rattle.pattern_lints.specs.Views.{plain_overlaps};
 ghost use Rattle.pattern_matrix.specs.SearchLaws.{IsJudged};
@@ -11,7 +12,6 @@ ghost use Rattle.type_table.specs.TableContext.{TableValue, table_context};
 ghost use Rattle.type_table.specs.Tables.{IsOf};
 ghost use Rattle.witness_search.specs.Entries.{plain_entries};
 ghost use Rattle.witnesses.specs.Views.{plain_witness};
-ghost use Rattle.match_top.specs.Reports.{shown_entry};
 ghost use Rattle.match_top.specs.Reporting.{AreOverlapsFor, IsFineFunction, IsMatchOf, IsVerdictFor};
 
 use crate::source::Source;
@@ -28,9 +28,8 @@ use rust_context::laws::context_is_the_tables;
 use std::alloc::Global;
 use type_table::{TyId, TypeTable};
 use usefulness::reach;
-use verdict_json::Unreachable;
 use witness_search::judge_by;
-use witnesses::{Judgement, Overlap, Unreachable as Left};
+use witnesses::{Judgement, Overlap};
 
 /// The match of a function that breaks no rule, as the engine has it. `number` is that of the function's item.
 pub(crate) fn match_of<'a>(
@@ -40,8 +39,9 @@ pub(crate) fn match_of<'a>(
     number: u64,
     f: &FnItem,
 ) -> Result<CheckedMatch<'a, TyId>, NoMemory>
-    requires fine { IsFineFunction source.now number (function_view f.now) }
-    ensures { IfOk result (λ m. IsMatchOf source.now (function_view f.now) (plain_match m)) }
+    requires fine { (whole : List ItemTree) × IsFineFunction source.now whole number (function_view f.now) }
+    ensures { (whole : List ItemTree) → IsFineFunction source.now whole number (function_view f.now)
+        → IfOk result (λ m. IsMatchOf source.now whole (function_view f.now) (plain_match m)) }
 {
     parsed_arms_are_sound();
     match elaborate(alloc, source.table, placer, number, f)? {
@@ -78,9 +78,9 @@ pub(crate) fn verdict_on<'a>(
     m: &CheckedMatch<'a, TyId>,
 ) -> Result<Judgement, NoMemory>
     requires few { length m.now.arms.now < 2 ^ 32 }
-    requires shown { (f : FunctionTree) × IsMatchOf source.now f (plain_match m.now) }
-    ensures { (f : FunctionTree) → IsMatchOf source.now f (plain_match m.now)
-        → IfOk result (λ j. IsVerdictFor source.now f j) }
+    requires shown { (whole : List ItemTree) × (f : FunctionTree) × IsMatchOf source.now whole f (plain_match m.now) }
+    ensures { (whole : List ItemTree) → (f : FunctionTree) → IsMatchOf source.now whole f (plain_match m.now)
+        → IfOk result (λ j. IsVerdictFor source.now whole f j) }
 {
     table_match_is_well_typed();
     judged_table_match();
@@ -108,26 +108,11 @@ pub(crate) fn overlaps_on<'a>(
     source: &Source<'_>,
     m: &CheckedMatch<'a, TyId>,
 ) -> Result<Vec<Overlap>, NoMemory>
-    requires { (f : FunctionTree) × IsMatchOf source.now f (plain_match m.now) }
-    ensures { (f : FunctionTree) → IsMatchOf source.now f (plain_match m.now)
-        → IfOk result (λ v. AreOverlapsFor source.now f v.items) }
+    requires { (whole : List ItemTree) × (f : FunctionTree) × IsMatchOf source.now whole f (plain_match m.now) }
+    ensures { (whole : List ItemTree) → (f : FunctionTree) → IsMatchOf source.now whole f (plain_match m.now)
+        → IfOk result (λ v. AreOverlapsFor source.now whole f v.items) }
 {
     table_match_is_well_typed();
     overlaps_of_table_match();
     table_overlaps(alloc, source.table, m)
-}
-
-/// The entries of the unreachable list as a report shows them.
-pub(crate) fn shown_entries(alloc: Global, entries: &[Left]) -> Result<Vec<Unreachable>, NoMemory>
-    ensures { IfOk result (λ v. v.items ≡ map shown_entry (plain_entries entries.now)) }
-{
-    let mut shown = Vec::with_capacity(alloc, entries.len())?;
-    for entry in entries {
-        shown.push(Unreachable {
-            arm: entry.arm,
-            at: entry.at,
-            whole: entry.whole,
-        })?;
-    }
-    Ok(shown)
 }

@@ -1,8 +1,9 @@
 // The report on a file: an entry for each function, written as soon as it is judged.
 ghost use Rattle.std.specs.Prelude.{◌≡◌, ◌<◌, ◌^◌, ◌&&◌, ◌++◌, ◌∷◌, [], ℕ, List, Some, map, length, slice_get, sum_by, IfOk};
+ghost use Rattle.std.specs.Rc.{rc_str_bytes};
 ghost use Rattle.decl_syntax.specs.Counts.{kind_arms};
-ghost use Rattle.decl_syntax.specs.Functions.{function_view};
-ghost use Rattle.decl_syntax.specs.Items.{item_view, kind_view};
+ghost use Rattle.decl_syntax.specs.Functions.{FunctionTree, function_view};
+ghost use Rattle.decl_syntax.specs.Items.{ItemTree, file_view, item_view, kind_view};
 ghost use Rattle.pattern_rules.specs.Settings.{Setting};
 ghost use Rattle.type_table.specs.Faults.{BreaksNone};
 ghost use Rattle.type_table.specs.Tables.{IsOf};
@@ -13,15 +14,16 @@ ghost use Rattle.verdict_json.specs.Trees.{report_view};
 ghost use Rattle.match_top.specs.Reports.{NumberedFunction, numbered, function_at, functions_of};
 ghost use Rattle.match_top.specs.Reports.{IsEntry, IsReported, IsCounted, status_of};
 ghost use Rattle.match_top.specs.declared.words.Command.{Command};
-ghost use Rattle.match_top.specs.Reporting.{IsSound, StandsAt, IsFineFunction, IsFoundOn, ReportsOn, items_in, setting_in};
+ghost use Rattle.match_top.specs.Reporting.{IsSound, StandsAt, IsFineFunction, IsFoundOn, ReportsOn, setting_in};
 
-use crate::judging::{match_of, overlaps_on, shown_entries, verdict_on};
+use crate::judging::{match_of, overlaps_on, verdict_on};
 use crate::refusals::refusal_of;
 use crate::source::Source;
 use crate::trees::{named_tree, tree_of};
 use crate::words::Command;
 use bumpalo::Bump;
-use decl_syntax::{FnItem, Item, ItemKind};
+use decl_lexer::Name;
+use decl_syntax::{File, FnItem, Item, ItemKind};
 use no_memory::NoMemory;
 use pattern_arena::Placer;
 use pattern_check::function::first_fault;
@@ -30,7 +32,7 @@ use tree_eval::Tree;
 use type_table::TyId;
 use verdict_json::{FnReport, Refusal, ReportText, Summary};
 use witness_names::name_witnesses;
-use witnesses::{Judgement, Overlap};
+use witnesses::{Judgement, Overlap, Unreachable, Witness};
 
 /// The report on a file as it is written, the counts in it, and whether every function is judged and every match is
 /// exhaustive.
@@ -49,10 +51,14 @@ struct Progress {
     clean: bool,
 }
 
-// What is found of a function: the engine's verdict, and its decision tree where it was asked for.
+// A function's name, how many arms it has, whether its match is exhaustive, what is missing, and its decision tree where it
+// was asked for.
 #[derive(Debug, Drop)]
 struct Found {
-    judgement: Judgement,
+    name: Name,
+    arms: u64,
+    exhaustive: bool,
+    witnesses: Vec<Witness>,
     tree: Option<Tree>,
 }
 
@@ -61,55 +67,64 @@ pub(crate) fn report_on(
     alloc: Global,
     command: Command,
     source: &Source<'_>,
+    file: File,
 ) -> Result<Reported, NoMemory>
-    requires sound { IsSound source.now }
-    requires few { sum_by (λ i. kind_arms i.kind) (items_in source.now) < 2 ^ 32 }
-    ensures reported { IfOk result (λ r. IsReported command (setting_in source.now) r.text.items (status_of r.clean)) }
-    ensures counted { IfOk result (λ r. IsCounted command (setting_in source.now) (summary_text r.counts) (status_of r.clean)) }
+    requires sound { IsSound source.now (file_view file) }
+    requires few { sum_by (λ i. kind_arms i.kind) (file_view file) < 2 ^ 32 }
+    ensures reported { IfOk result (λ r. IsReported command (setting_in source.now (file_view file)) r.text.items
+        (status_of r.clean)) }
+    ensures counted { IfOk result (λ r. IsCounted command (setting_in source.now (file_view file)) (summary_text r.counts)
+        (status_of r.clean)) }
 {
-    let entries = all_entries(alloc, command, source, &source.file.items)?;
+    let File { items } = file;
+    let entries = all_entries(alloc, command, source, items)?;
     finished(entries)
 }
 
-// The entries of the functions among the items.
-fn all_entries<'f>(
+// The entries of the functions among the items. Each item is given back once its entry is written.
+fn all_entries(
     alloc: Global,
     command: Command,
-    source: &Source<'f>,
-    items: &'f [Item],
+    source: &Source<'_>,
+    items: Vec<Item>,
 ) -> Result<Progress, NoMemory>
-    requires sound { IsSound source.now }
-    requires items { map item_view items.now ≡ items_in source.now }
-    requires few { sum_by (λ i. kind_arms i.kind) (map item_view items.now) < 2 ^ 32 }
-    ensures { IfOk result (ReportsOn command (setting_in source.now) (functions_of (map item_view items.now))) }
+    ghost whole: { List ItemTree }
+    requires sound { IsSound source.now whole }
+    requires items { map item_view items.items ≡ whole }
+    requires few { sum_by (λ i. kind_arms i.kind) whole < 2 ^ 32 }
+    ensures { IfOk result (ReportsOn command (setting_in source.now whole) (functions_of whole)) }
 {
     let mut so_far = Progress {
         text: ReportText::begin(alloc)?,
         counts: Summary::new(),
         clean: true,
     };
-    for (number, item) in items.iter().enumerate() {
-        so_far = add_item(alloc, command, source, so_far, number as u64, item)?;
+    let mut number = 0;
+    for item in items {
+        so_far = add_item(alloc, command, source, so_far, number, item)?;
+        number += 1;
     }
     Ok(so_far)
 }
 
 // Adds the entry of the item with this number, if it is a function.
-fn add_item<'f>(
+fn add_item(
     alloc: Global,
     command: Command,
-    source: &Source<'f>,
+    source: &Source<'_>,
     so_far: Progress,
     number: u64,
-    item: &'f Item,
+    item: Item,
 ) -> Result<Progress, NoMemory>
-    requires sound { IsSound source.now }
-    requires there { slice_get (items_in source.now) number ≡ Some (item_view item.now) }
-    requires few { kind_arms (kind_view item.now.kind) < 2 ^ 32 }
-    ensures { (fs : List NumberedFunction) → ReportsOn command (setting_in source.now) fs so_far
-        → IfOk result (ReportsOn command (setting_in source.now) (fs ++ function_at number (kind_view item.now.kind))) }
+    ghost whole: { List ItemTree }
+    requires sound { IsSound source.now whole }
+    requires there { slice_get whole number ≡ Some (item_view item) }
+    requires few { kind_arms (kind_view item.kind) < 2 ^ 32 }
+    ensures { (fs : List NumberedFunction) → ReportsOn command (setting_in source.now whole) fs so_far
+        → IfOk result (ReportsOn command (setting_in source.now whole) (fs ++ function_at number (kind_view item.kind))) }
 {
-    match &item.kind {
+    let Item { kind, .. } = item;
+    match kind {
         ItemKind::Enum(_) => Ok(so_far),
         ItemKind::Struct(_) => Ok(so_far),
         ItemKind::Import(_) => Ok(so_far),
@@ -118,21 +133,22 @@ fn add_item<'f>(
 }
 
 // Adds the entry of a function, the item with this number: its first broken rule, or what is found of it.
-fn add_function<'f>(
+fn add_function(
     alloc: Global,
     command: Command,
-    source: &Source<'f>,
+    source: &Source<'_>,
     so_far: Progress,
     number: u64,
-    f: &'f FnItem,
+    f: FnItem,
 ) -> Result<Progress, NoMemory>
-    requires sound { IsSound source.now }
-    requires there { StandsAt (items_in source.now) number (function_view f.now) }
-    requires few { length f.now.arms.items < 2 ^ 32 }
-    ensures { (fs : List NumberedFunction) → ReportsOn command (setting_in source.now) fs so_far
-        → IfOk result (ReportsOn command (setting_in source.now) (fs ++ numbered number (function_view f.now) ∷ [])) }
+    ghost whole: { List ItemTree }
+    requires sound { IsSound source.now whole }
+    requires there { StandsAt whole number (function_view f) }
+    requires few { length f.arms.items < 2 ^ 32 }
+    ensures { (fs : List NumberedFunction) → ReportsOn command (setting_in source.now whole) fs so_far
+        → IfOk result (ReportsOn command (setting_in source.now whole) (fs ++ numbered number (function_view f) ∷ [])) }
 {
-    match first_fault(alloc, source.table, source.options.edition, number, f)? {
+    match first_fault(alloc, source.table, source.options.edition, number, &f)? {
         Some(fault) => {
             let refusal = refusal_of(number, &fault);
             add_refused(so_far, f.name.as_str(), f.arms.len() as u64, &refusal)
@@ -165,64 +181,82 @@ fn add_refused(
     })
 }
 
-// Adds a function that breaks no rule, with what is found of it, and its tree where the command asks for it. Its match goes
-// with its arena before anything is written of it.
-fn add_judged<'f>(
+// Adds a function that breaks no rule, with what is found of it, and its tree where the command asks for it. Its arms are
+// given back as soon as its match stands in the arena, and the match goes with its arena before anything is written of it.
+fn add_judged(
     alloc: Global,
     command: Command,
-    source: &Source<'f>,
+    source: &Source<'_>,
     so_far: Progress,
     number: u64,
-    f: &'f FnItem,
+    f: FnItem,
 ) -> Result<Progress, NoMemory>
-    requires fine { IsFineFunction source.now number (function_view f.now) }
-    requires few { length f.now.arms.items < 2 ^ 32 }
-    ensures { (fs : List NumberedFunction) → ReportsOn command (setting_in source.now) fs so_far
-        → IfOk result (ReportsOn command (setting_in source.now) (fs ++ numbered number (function_view f.now) ∷ [])) }
+    ghost whole: { List ItemTree }
+    requires fine { IsFineFunction source.now whole number (function_view f) }
+    requires few { length f.arms.items < 2 ^ 32 }
+    ensures { (fs : List NumberedFunction) → ReportsOn command (setting_in source.now whole) fs so_far
+        → IfOk result (ReportsOn command (setting_in source.now whole) (fs ++ numbered number (function_view f) ∷ [])) }
 {
     let arena = Bump::new(alloc);
     let placer = Placer::new(&arena);
-    let m = match_of(alloc, source, &placer, number, f)?;
-    let found = Found {
-        judgement: verdict_on(alloc, source, &m)?,
-        tree: tree_of(alloc, command, source, &arena, &m)?,
-    };
+    let m = match_of(alloc, source, &placer, number, &f)?;
+    let FnItem { name, arms, .. } = f;
+    let count = arms.len() as u64;
+    drop(arms);
+    let judgement = verdict_on(alloc, source, &m)?;
+    let tree = tree_of(alloc, command, source, &arena, &m)?;
     let overlaps = overlaps_on(alloc, source, &m)?;
     let ty = m.ty;
     drop(arena);
-    add_found(alloc, source, so_far, f, ty, &found, overlaps)
+    let Judgement {
+        exhaustive,
+        witnesses,
+        unreachable,
+    } = judgement;
+    let found = Found {
+        name,
+        arms: count,
+        exhaustive,
+        witnesses,
+        tree,
+    };
+    add_found(alloc, *source, so_far, ty, &found, unreachable, overlaps)
 }
 
-// Adds a function with what is found of it and its overlapping ranges, over a scrutinee of this type.
+// Adds a function with what is found of it, what is unreachable and its overlapping ranges, over a scrutinee of this type.
 fn add_found<'r>(
     alloc: Global,
-    source: &Source<'r>,
+    source: Source<'r>,
     so_far: Progress,
-    f: &'r FnItem,
     ty: TyId,
     found: &'r Found,
+    unreachable: Vec<Unreachable>,
     overlaps: Vec<Overlap>,
 ) -> Result<Progress, NoMemory>
-    requires sound { IsSound source.now }
-    requires of { IsOf source.now.table.now ty }
-    ensures { (command : Command) → (number : ℕ) → (fs : List NumberedFunction)
-        → ReportsOn command (setting_in source.now) fs so_far
-        → IsFoundOn command source.now number (function_view f.now) ty found.now.judgement overlaps.items
-        found.now.tree
-        → IfOk result (ReportsOn command (setting_in source.now) (fs ++ numbered number (function_view f.now) ∷ [])) }
+    ghost whole: { List ItemTree }
+    requires sound { IsSound source whole }
+    requires of { IsOf source.table.now ty }
+    ensures { (command : Command) → (number : ℕ) → (f : FunctionTree) → (fs : List NumberedFunction)
+        → ReportsOn command (setting_in source whole) fs so_far
+        → IsFoundOn command source whole number f ty (record {
+          exhaustive = found.now.exhaustive;
+          witnesses = found.now.witnesses;
+          unreachable = unreachable;
+        }) overlaps.items found.now.tree
+        → rc_str_bytes found.now.name ≡ f.name → length f.arms ≡ found.now.arms
+        → IfOk result (ReportsOn command (setting_in source whole) (fs ++ numbered number f ∷ [])) }
 {
-    let unreachable = shown_entries(alloc, &found.judgement.unreachable)?;
-    let witnesses = name_witnesses(alloc, source.table, ty, &found.judgement.witnesses)?;
+    let witnesses = name_witnesses(alloc, source.table, ty, &found.witnesses)?;
     let tree = named_tree(alloc, source.table, ty, &found.tree)?;
     let report = FnReport {
-        name: f.name.as_str(),
-        exhaustive: found.judgement.exhaustive,
+        name: found.name.as_str(),
+        exhaustive: found.exhaustive,
         overlaps,
         unreachable,
         tree,
         witnesses,
     };
-    add_report(so_far, f.arms.len() as u64, &report)
+    add_report(so_far, found.arms, &report)
 }
 
 // Adds a function that has so many arms, with what is reported of it.

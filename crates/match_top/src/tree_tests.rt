@@ -1,12 +1,12 @@
 // The worked outcomes of `eval`, by the calls that they are made of: the match of the function is lowered to its tree,
 // and the tree is followed.
 ghost use Rattle.decl_syntax.specs.Functions.{function_view};
-ghost use Rattle.decl_syntax.specs.Items.{file_view};
+ghost use Rattle.decl_syntax.specs.Items.{ItemTree, file_view};
 ghost use Rattle.match_model.specs.Trees.{IsDefinedOn, IsForward};
-ghost use Rattle.std.specs.Prelude.{IfOk, IfSome};
+ghost use Rattle.std.specs.Prelude.{IfOk, IfSome, List};
 ghost use Rattle.tree_eval.specs.Nodes.{tree_nodes};
 ghost use Rattle.tree_eval.specs.Views.{plain_value};
-ghost use Rattle.match_top.specs.Reporting.{AreSpelled, IsFineFunction, IsSound, StandsAt, items_in};
+ghost use Rattle.match_top.specs.Reporting.{AreSpelled, IsFineFunction, IsSound, StandsAt};
 
 use crate::finding::function_named;
 use crate::judging::match_of;
@@ -234,10 +234,10 @@ fn file_holds(alloc: Global, file: &File, row: &Row) -> Result<bool, NoMemory>
         Ok(table) => source_holds(
             alloc,
             &Source {
-                file,
                 table: &table,
                 options,
             },
+            file,
             row,
         ),
         Err(_) => Ok(false),
@@ -245,10 +245,15 @@ fn file_holds(alloc: Global, file: &File, row: &Row) -> Result<bool, NoMemory>
 }
 
 // The same, of the file with its table.
-fn source_holds(alloc: Global, source: &Source<'_>, row: &Row) -> Result<bool, NoMemory>
-    requires { IsSound source.now }
+fn source_holds(
+    alloc: Global,
+    source: &Source<'_>,
+    file: &File,
+    row: &Row,
+) -> Result<bool, NoMemory>
+    requires { IsSound source.now (file_view file.now) }
 {
-    match function_named(&source.file.items, "f") {
+    match function_named(&file.items, "f") {
         Some(found) => function_holds(alloc, source, found.number, found.function, row),
         None => Ok(false),
     }
@@ -262,8 +267,7 @@ fn function_holds(
     f: &FnItem,
     row: &Row,
 ) -> Result<bool, NoMemory>
-    requires sound { IsSound source.now }
-    requires there { StandsAt (items_in source.now) number (function_view f.now) }
+    requires { (whole : List ItemTree) × IsSound source.now whole × StandsAt whole number (function_view f.now) }
 {
     match first_fault(alloc, source.table, source.options.edition, number, f)? {
         Some(_) => Ok(false),
@@ -279,7 +283,7 @@ fn fine_holds(
     f: &FnItem,
     row: &Row,
 ) -> Result<bool, NoMemory>
-    requires { IsFineFunction source.now number (function_view f.now) }
+    requires { (whole : List ItemTree) × IsFineFunction source.now whole number (function_view f.now) }
 {
     let arena = Bump::new(alloc);
     let placer = Placer::new(&arena);

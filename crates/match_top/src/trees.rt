@@ -1,6 +1,7 @@
 // The decision tree of a function, where it is asked for.
-ghost use Rattle.std.specs.Prelude.{◌≡◌, ◌<◌, ◌^◌, length, map, option_map, IfOk};
+ghost use Rattle.std.specs.Prelude.{◌≡◌, ◌<◌, ◌^◌, List, length, map, option_map, IfOk};
 ghost use Rattle.decl_syntax.specs.Functions.{FunctionTree};
+ghost use Rattle.decl_syntax.specs.Items.{ItemTree};
 ghost use Rattle.match_model.specs.MatchTree.{IsMatchTree};
 ghost use Rattle.match_model.specs.WellTyped.{IsWellTyped};
 ghost use Rattle.pattern_arena.specs.Trees.{plain_match};
@@ -53,9 +54,9 @@ pub(crate) fn tree_of_match<'a>(
     m: &CheckedMatch<'a, TyId>,
 ) -> Result<Tree, NoMemory>
     requires few { length m.now.arms.now < 2 ^ 32 }
-    requires shown { (f : FunctionTree) × IsMatchOf source.now f (plain_match m.now) }
-    ensures { (f : FunctionTree) → IsMatchOf source.now f (plain_match m.now)
-        → IfOk result (λ t. IsTreeOn (setting_in source.now) f (tree_nodes t)) }
+    requires shown { (whole : List ItemTree) × (f : FunctionTree) × IsMatchOf source.now whole f (plain_match m.now) }
+    ensures { (whole : List ItemTree) → (f : FunctionTree) → IsMatchOf source.now whole f (plain_match m.now)
+        → IfOk result (λ t. IsTreeOn (setting_in source.now whole) f (tree_nodes t)) }
 {
     table_match_is_well_typed();
     tree_of_table_match();
@@ -71,9 +72,9 @@ pub(crate) fn tree_of<'a>(
     m: &CheckedMatch<'a, TyId>,
 ) -> Result<Option<Tree>, NoMemory>
     requires few { length m.now.arms.now < 2 ^ 32 }
-    requires shown { (f : FunctionTree) × IsMatchOf source.now f (plain_match m.now) }
-    ensures { (f : FunctionTree) → IsMatchOf source.now f (plain_match m.now)
-        → IfOk result (IsTreeFor command source.now f) }
+    requires shown { (whole : List ItemTree) × (f : FunctionTree) × IsMatchOf source.now whole f (plain_match m.now) }
+    ensures { (whole : List ItemTree) → (f : FunctionTree) → IsMatchOf source.now whole f (plain_match m.now)
+        → IfOk result (IsTreeFor command source.now whole f) }
 {
     match command {
         Command::Check => Ok(None),

@@ -5,10 +5,10 @@ use std::alloc::Global;
 use std::test::Fail;
 use verdict_json::{
     AskedText, EndingText, FnReport, HeldText, OutcomeText, Refusal, ReportText, Summary,
-    Unreachable, demo_bytes, outcome_bytes, refusal_bytes, rule_name,
+    demo_bytes, outcome_bytes, refusal_bytes, rule_name,
 };
 use witness_text::{FormName, NamedWitness};
-use witnesses::Overlap;
+use witnesses::{Overlap, Unreachable};
 
 const EMPTY: &[u8] = b"{\"functions\":[]}\n";
 
@@ -83,11 +83,13 @@ fn three(alloc: Global) -> Result<Vec<u8>, Fail> {
     first.unreachable.push(Unreachable {
         arm: 2,
         at: 34,
+        uid: 5,
         whole: true,
     })?;
     first.unreachable.push(Unreachable {
         arm: 3,
         at: 4294967296,
+        uid: 8,
         whole: false,
     })?;
     let mut second = FnReport {

@@ -4,13 +4,13 @@ use Rattle.std.specs.Prelude.{decimal}
 use Rattle.serde_json.specs.Data.{boolean, string}
 use Rattle.serde_json.specs.Written.{compact_text}
 use Rattle.serde_json.proofs.OnLiterals.{serde_json_on_literals}
-use Rattle.verdict_json.specs.declared.entry.Unreachable.{Unreachable}
 use Rattle.verdict_json.specs.declared.refusal.Refusal.{Refusal}
 use Rattle.verdict_json.specs.Refused.{number_data, refusal_data, name_or_empty, refusal_text}
 use Rattle.verdict_json.specs.Report.{unreachable_data, refused_data}
 use Rattle.verdict_json.specs.Rules.{name_of}
+use Rattle.verdict_json.specs.Trees.{UnreachableTree}
 
-pub unreachable_written : (u : Unreachable) →
+pub unreachable_written : (u : UnreachableTree) →
     compact_text (unreachable_data u)
     ≡ codes "{\"arm\":" ++ (decimal u.arm ++ (codes ",\"at\":" ++ (decimal u.at
     ++ (codes ",\"whole\":" ++ (compact_text (boolean u.whole) ++ codes "}")))))

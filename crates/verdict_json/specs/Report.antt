@@ -6,11 +6,10 @@ use Rattle.serde_json.specs.Written.{compact_text}
 use Rattle.match_model.specs.Overlaps.{MOverlap}
 use Rattle.tree_text.specs.Trees.{NodeTree}
 use Rattle.tree_text.specs.Reported.{tree_data}
-use Rattle.verdict_json.specs.declared.entry.Unreachable.{Unreachable}
 use Rattle.verdict_json.specs.declared.refusal.Refusal.{Refusal}
 use Rattle.verdict_json.specs.Refused.{name_or_empty, refusal_data}
 use Rattle.verdict_json.specs.Rules.{name_of}
-use Rattle.verdict_json.specs.Trees.{ReportTree}
+use Rattle.verdict_json.specs.Trees.{ReportTree, UnreachableTree}
 use Rattle.witness_text.specs.Reported.{overlap_data, witnesses_data}
 
 -- an entry of the list of overlaps: where the two ranges begin, and their one common number
@@ -18,7 +17,7 @@ abbrev pub overlap_entry : MOverlap → Data
 overlap_entry o = overlap_data o.first o.second o.number
 
 -- an entry of the unreachable list
-abbrev pub unreachable_data : Unreachable → Data
+abbrev pub unreachable_data : UnreachableTree → Data
 unreachable_data u =
     object (member (codes "arm") (number (unsigned u.arm))
     (member (codes "at") (number (unsigned u.at))

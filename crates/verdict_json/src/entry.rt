@@ -3,20 +3,11 @@ ghost use Rattle.std.specs.Prelude.{◌≡◌, ◌++◌, OnOk, codes, string_byt
 ghost use Rattle.serde_json.specs.Data.{boolean};
 ghost use Rattle.serde_json.specs.Written.{compact_text};
 ghost use Rattle.verdict_json.specs.Report.{unreachable_data};
+ghost use Rattle.verdict_json.specs.Trees.{unreachable_view};
 
 use itoa::Buffer;
 use std::alloc::AllocError;
-
-/// An arm or an alternative that no value comes to (Maranget 2007, useless clauses).
-#[derive(Clone, Copy, Debug, PartialEq, Eq)]
-pub struct Unreachable {
-    /// The arm, counted from 0.
-    pub arm: u32,
-    /// The byte offset of its pattern, or of the alternative.
-    pub at: u64,
-    /// Whether it is the whole arm.
-    pub whole: bool,
-}
+use witnesses::Unreachable;
 
 // Whether it is the whole arm, with the key in front and the brace that closes the object.
 fn last_piece(whole: bool) -> &'static str
@@ -32,7 +23,7 @@ fn last_piece(whole: bool) -> &'static str
 // Adds an unreachable arm or alternative.
 pub fn push_entry(text: &mut String, entry: &Unreachable) -> Result<(), AllocError>
     ensures { OnOk result (string_bytes text.new
-        ≡ string_bytes text.old ++ compact_text (unreachable_data entry.now)) }
+        ≡ string_bytes text.old ++ compact_text (unreachable_data (unreachable_view entry.now))) }
 {
     let mut buffer = Buffer::new();
     text.push_str("{\"arm\":")?;

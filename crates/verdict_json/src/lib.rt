@@ -15,7 +15,6 @@ mod report;
 mod rules;
 mod summary;
 
-pub use entry::Unreachable;
 pub use outcome::{AskedText, EndingText, HeldText, OutcomeText, outcome_bytes};
 pub use refusal::{Refusal, refusal_bytes};
 pub use report::{FnReport, ReportText};

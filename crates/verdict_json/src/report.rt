@@ -6,16 +6,16 @@ ghost use Rattle.tree_text.specs.Trees.{node_view};
 ghost use Rattle.verdict_json.specs.Report.{ReportEntry, JudgedFunction, RefusedFunction, report_text};
 ghost use Rattle.verdict_json.specs.Report.{function_data, overlap_entry, unreachable_data};
 ghost use Rattle.verdict_json.specs.Rules.{IsRule};
-ghost use Rattle.verdict_json.specs.Trees.{overlap_view, report_view};
+ghost use Rattle.verdict_json.specs.Trees.{overlap_view, report_view, unreachable_view};
 ghost use Rattle.verdict_json.specs.Writing.{HasEntries, flag_word, shown_tree_text};
 
-use crate::entry::{Unreachable, push_entry};
+use crate::entry::push_entry;
 use crate::refusal::{Refusal, push_refused};
 use no_memory::NoMemory;
 use std::alloc::{AllocError, Global};
 use tree_text::{NamedNode, push_tree};
 use witness_text::{NamedWitness, push_comma, push_overlap, push_quoted, push_witnesses};
-use witnesses::Overlap;
+use witnesses::{Overlap, Unreachable};
 
 /// What is reported of a function.
 #[derive(Debug, Drop)]
@@ -45,7 +45,7 @@ pub struct ReportText {
 // Adds the entries of the unreachable list, with commas between them, and the bracket that closes them.
 fn push_unreachable(text: &mut String, entries: &[Unreachable]) -> Result<(), AllocError>
     ensures { OnOk result (string_bytes text.new
-        ≡ string_bytes text.old ++ items_text false (items_of (map unreachable_data entries.now))) }
+        ≡ string_bytes text.old ++ items_text false (items_of (map unreachable_data (map unreachable_view entries.now)))) }
 {
     let mut later = false;
     for entry in entries {

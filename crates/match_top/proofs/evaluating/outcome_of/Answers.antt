@@ -3,7 +3,6 @@ use Rattle.pattern_arena.specs.Trees.{plain_match}
 use Rattle.tree_eval.specs.Nodes.{tree_nodes}
 use Rattle.tree_eval.specs.Views.{plain_value}
 use Rattle.verdict_json.specs.Outcomes.{outcome_text}
-use Rattle.match_top.specs.Reporting.{items_in}
 use Rattle.match_top.specs.Selections.{selection_view}
 use Rattle.match_top.proofs.Evaluated.{outcome_told}
 use Rattle.match_top.proofs.Told.{are_numbered}
@@ -11,22 +10,22 @@ use Rattle.match_top.proofs.evaluating.outcome_of.Goals as goal
 
 pub selected-requires-clause-defined : goal.selected-requires-clause-defined
 selected-requires-clause-defined c =
-    let ready = c.requires.ready.1 in
+    let ready = c.requires.ready.2 in
     ready.tree_is.good.defined (plain_value c.args.value.now) ready.inside
 
 pub selected-requires-clause-forward : goal.selected-requires-clause-forward
-selected-requires-clause-forward c = c.requires.ready.1.tree_is.good.forward
+selected-requires-clause-forward c = c.requires.ready.2.tree_is.good.forward
 
 pub told-requires-clause-file : goal.told-requires-clause-file
-told-requires-clause-file c = (items_in c.args.source.now, c.args.source.now.options.width, c.requires.ready.1.match_is.table_is)
+told-requires-clause-file c = (c.requires.ready.0, c.args.source.now.options.width, c.requires.ready.2.match_is.table_is)
 
 pub told-requires-clause-numbered : goal.told-requires-clause-numbered
 told-requires-clause-numbered c =
-    are_numbered c.args.source.now c.requires.ready.0 (plain_match c.args.m.now) c.requires.ready.1.match_is
+    are_numbered c.args.source.now c.requires.ready.0 c.requires.ready.1 (plain_match c.args.m.now) c.requires.ready.2.match_is
 
 pub returns-clause-answers : goal.returns-clause-answers
-returns-clause-answers c = λ f ready.
-    outcome_told c.args.source.now f (plain_match c.args.m.now) (tree_nodes c.args.tree.now) (plain_value c.args.value.now) c.args.answers.now
+returns-clause-answers c = λ whole f ready.
+    outcome_told c.args.source.now whole f (plain_match c.args.m.now) (tree_nodes c.args.tree.now) (plain_value c.args.value.now) c.args.answers.now
     (selection_view c.in_ok-selection.selection) _ _ ready
     (λ s means. c.in_ok-selection.ensures s means)
     (c.in_ok-text.ensures ∙ ap outcome_text c.in_ok-shown.ensures)

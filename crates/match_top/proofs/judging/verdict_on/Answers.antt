@@ -6,7 +6,7 @@ use Rattle.match_top.proofs.judging.verdict_on.Goals as goal
 pub judge-requires-clause-typed : goal.judge-requires-clause-typed
 judge-requires-clause-typed c =
     let x = c.args.source.now in
-    c.table_match_is_well_typed.ensures x.table.now (setting_in x) c.requires.shown.0 (plain_match c.args.m.now) c.requires.shown.1
+    c.table_match_is_well_typed.ensures x.table.now (setting_in x c.requires.shown.0) c.requires.shown.1 (plain_match c.args.m.now) c.requires.shown.2
 
 pub returns : goal.returns
-returns c f h = verdict_of c.judged_table_match.ensures c.args.source.now f (plain_match c.args.m.now) _ h c.judge.ensures
+returns c whole f h = verdict_of c.judged_table_match.ensures c.args.source.now whole f (plain_match c.args.m.now) _ h c.judge.ensures

@@ -1,8 +1,8 @@
 use Rattle.std.proofs.Common.{◌≡◌, ◌∙◌, ℕ, List, map, Some, sym, ap}
 use Rattle.decl_syntax.specs.declared.items.Item.{Item}
-use Rattle.decl_syntax.specs.Items.{ItemTree, item_view}
+use Rattle.decl_syntax.specs.Items.{ItemTree, file_view, item_view}
 use Rattle.match_top.specs.Outcomes.{function_named}
-use Rattle.match_top.specs.Reporting.{StandsAt, items_in}
+use Rattle.match_top.specs.Reporting.{StandsAt}
 use Rattle.match_top.specs.Reports.{NumberedFunction, functions_of}
 use Rattle.match_top.specs.Selections.{numbered_view}
 use Rattle.match_top.proofs.Named.{named_is_item}
@@ -13,6 +13,7 @@ found_stands : (items : List Item) (all : List ItemTree) (name : List ℕ) (g : 
     → map item_view items ≡ all → StandsAt all g.number g.function
 found_stands items all name g found same = named_is_item all name g (ap (λ (its : List ItemTree). function_named (functions_of its) name) (sym same) ∙ sym found)
 
-pub function_holds-requires-clause-there : goal.function_holds-requires-clause-there
-function_holds-requires-clause-there c =
-    found_stands _ (items_in c.args.source.now) _ (numbered_view c.in-Some.found) (rw c.in-Some.is at c.function_named.ensures) (ap (map item_view) c.deref.ensures.value)
+pub function_holds-requires : goal.function_holds-requires
+function_holds-requires c =
+    let items = file_view c.args.file.now in
+    (items, c.requires, found_stands _ items _ (numbered_view c.in-Some.found) (rw c.in-Some.is at c.function_named.ensures) (ap (map item_view) c.deref.ensures.value))
