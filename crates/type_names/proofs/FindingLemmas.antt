@@ -1,73 +1,62 @@
 -- What names find, in loops over items, variants and listed names.
 use Rattle.std.proofs.Common.{◌≡◌, ℕ, ◌+◌, Bool, true, false, ◌&&◌, ◌||◌, List, [], ◌∷◌, ◌++◌, map, ◌<◌, length, Option, Some, None, refl, sym, ap, ◌∙◌, take, get_or, cond, arith, suc, zero}
-use Rattle.std.specs.Prelude.{slice_get, nat_eq}
+use Rattle.std.specs.Prelude.{slice_get}
 use Rattle.std.specs.List.{list_any, list_all}
 use Rattle.std.specs.Str.{bytes_eq}
 use Rattle.std.proofs.lemmas.List.{append-nil}
 use Rattle.std.proofs.lemmas.Slice.Eq.{bytes_eq-Decides}
-use Rattle.match_model.specs.Types.{MOwner, DeclaredItem, OptionOwner, ResultOwner}
+use Rattle.std.proofs.lemmas.Bool.{and_parts}
+use Rattle.std.proofs.Math.Bool.{and-true}
+use Rattle.std.proofs.lemmas.List.Folds.{list_all-append}
+use Rattle.std.specs.Cmp.Lexicographic.{nat_list_eq_equiv}
+use Rattle.match_model.specs.Types.{MOwner, DeclaredItem}
 use Rattle.decl_syntax.specs.Items.{VariantTree, KindTree, Enum, Struct, Import, Function, ItemTree}
 use Rattle.type_names.specs.declared.meanings.FormKind.{FormKind}
 use Rattle.type_names.specs.Meanings.{is_name}
 use Rattle.type_names.specs.Imports.{named_variant, item_variants, variant_number, owner_variants, enum_item}
 use Rattle.type_names.specs.NameRules.{is_among}
-use Rattle.type_names.specs.Finding.{FoundTree, FoundNothing, FoundTwice, FoundStruct, FoundVariant, numbered, variant_in, or_else, given_by, given_from, glob_owner, glob_owners, and_owner, and_variant, variants_named, same_owner, same_variant, agreed}
+use Rattle.type_names.specs.Finding.{FoundTree, FoundNothing, FoundTwice, FoundVariant, numbered, variant_in, or_else, given_by, given_from, glob_owner, glob_owners, and_owner, and_variant, variants_named, same_owner, same_variant, agreed}
 use Rattle.type_names.specs.declared.targets.Target.{Target}
 use Rattle.type_names.specs.FindingViews.{with_variant, joined, masked, told, target_view}
 use Rattle.type_names.proofs.Places.{front_more, length_front}
 use Rattle.type_names.proofs.ItemTests.{none_first}
 use Rattle.type_names.proofs.TakenLemmas.{among_push}
+use Rattle.match_model.proofs.Basics.{nat_itself}
 
 pub or_nothing : (f : FoundTree) → or_else f FoundNothing ≡ f
 or_nothing FoundNothing = refl
-or_nothing FoundTwice = refl
-or_nothing (FoundStruct i) = refl
-or_nothing (FoundVariant o k) = refl
+or_nothing _ = refl
 
 pub or_again : (f g : FoundTree) → or_else (or_else f g) g ≡ or_else f g
 or_again FoundNothing FoundNothing = refl
-or_again FoundNothing FoundTwice = refl
-or_again FoundNothing (FoundStruct i) = refl
-or_again FoundNothing (FoundVariant o k) = refl
-or_again FoundTwice g = refl
-or_again (FoundStruct i) g = refl
-or_again (FoundVariant o k) g = refl
+or_again _ _ = refl
 
 or_assoc : (f g h : FoundTree) → or_else f (or_else g h) ≡ or_else (or_else f g) h
 or_assoc FoundNothing g h = refl
-or_assoc FoundTwice g h = refl
-or_assoc (FoundStruct i) g h = refl
-or_assoc (FoundVariant o k) g h = refl
-
-nat_same : (n : ℕ) → nat_eq n n ≡ true
-nat_same n = grind arith
+or_assoc _ g h = refl
 
 pub owner_same : (o : MOwner) → same_owner o o ≡ true
-owner_same (DeclaredItem i) = nat_same i
-owner_same OptionOwner = refl
-owner_same ResultOwner = refl
+owner_same (DeclaredItem i) = nat_itself i
+owner_same _ = refl
 
 pub variant_same : (o : MOwner) (k : ℕ) → same_variant (o, k) (o, k) ≡ true
-variant_same o k = rw (owner_same o, nat_same k) refl
+variant_same o k = rw (owner_same o, nat_itself k) refl
 
 pub joined_nothing : (f : FoundTree) → joined f FoundNothing ≡ f
 joined_nothing f = refl
 
 with_again : (f : FoundTree) (o : MOwner) (k : ℕ) → with_variant (with_variant f o k) o k ≡ with_variant f o k
 with_again FoundNothing o k = rw (variant_same o k) refl
-with_again FoundTwice o k = refl
-with_again (FoundStruct i) o k = refl
 with_again (FoundVariant p l) o k = by (same_variant (p, l) (o, k)) refl
   where
     by : (b : Bool) → same_variant (p, l) (o, k) ≡ b → with_variant (cond b (FoundVariant p l) FoundTwice) o k ≡ cond b (FoundVariant p l) FoundTwice
     by true e = rw e refl
     by false e = refl
+with_again _ o k = refl
 
 pub joined_again : (f g : FoundTree) → joined (joined f g) g ≡ joined f g
-joined_again f FoundNothing = refl
-joined_again f FoundTwice = refl
-joined_again f (FoundStruct i) = refl
 joined_again f (FoundVariant o k) = with_again f o k
+joined_again f _ = refl
 
 -- one more name, of a list of names that find something
 pub masked_step : (op : FoundTree → FoundTree → FoundTree) → ((f : FoundTree) → op f FoundNothing ≡ f) → ((f g : FoundTree) → op (op f g) g ≡ op f g) →
@@ -95,15 +84,6 @@ masked_put op unit old n q found new here here_is new_is = new_is ∙ by (bytes_
     by true e = let same : q ≡ n = (bytes_eq-Decides q n).0 e in here_is ∙ ap (λ (m : List ℕ). op (old m) found) (sym same)
     by false e = sym (unit (old q))
 
-pub bytes_swap : (p q : List ℕ) → bytes_eq p q ≡ bytes_eq q p
-bytes_swap p q = by (bytes_eq p q) (bytes_eq q p) refl refl
-  where
-    by : (b c : Bool) → bytes_eq p q ≡ b → bytes_eq q p ≡ c → b ≡ c
-    by true true e f = refl
-    by false false e f = refl
-    by true false e f = let same : p ≡ q = (bytes_eq-Decides p q).0 e in let there : bytes_eq q p ≡ true = (bytes_eq-Decides q p).1 (sym same) in absurd cc
-    by false true e f = let same : q ≡ p = (bytes_eq-Decides q p).0 f in let there : bytes_eq p q ≡ true = (bytes_eq-Decides p q).1 (sym same) in absurd cc
-
 given_push : (items : List ItemTree) (q : List ℕ) (n : ℕ) (xs : List ItemTree) (y : ItemTree) →
     given_from items q n (xs ++ y ∷ []) ≡ or_else (given_from items q n xs) (given_by items q (n + length xs) y.kind)
 given_push items q n [] y =
@@ -128,16 +108,7 @@ given_more {A} f all xs i x lt is q old new old_is new_is =
     ∙ ap (given_from all q 0) (sym (front_more f xs i x lt is)))))
 
 all_push : {A : Type 0} (p : A → Bool) (xs : List A) (y : A) → list_all p (xs ++ y ∷ []) ≡ (list_all p xs && p y)
-all_push p [] y = and_true (p y)
-  where
-    and_true : (b : Bool) → (b && true) ≡ b
-    and_true true = refl
-    and_true false = refl
-all_push p (x ∷ xs) y = ap (λ b. p x && b) (all_push p xs y) ∙ and_assoc (p x) (list_all p xs) (p y)
-  where
-    and_assoc : (a b c : Bool) → (a && (b && c)) ≡ ((a && b) && c)
-    and_assoc true b c = refl
-    and_assoc false b c = refl
+all_push p xs y = list_all-append p xs (y ∷ []) ∙ ap (λ b. list_all p xs && b) (and-true (p y))
 
 agreed_push : (vs : List (MOwner × ℕ)) (o : MOwner) (k : ℕ) → agreed (vs ++ (o, k) ∷ []) ≡ with_variant (agreed vs) o k
 agreed_push [] o k = refl
@@ -208,10 +179,6 @@ owners_more {A} f all xs i x lt is q old new old_is new_is =
 IsMember : (MOwner × ℕ) → List (MOwner × ℕ) → Type 0
 IsMember w vs = (p : MOwner × ℕ → Bool) → list_all p vs ≡ true → p w ≡ true
 
-both : (a b : Bool) → (a && b) ≡ true → (a ≡ true) × (b ≡ true)
-both true b h = (refl, h)
-both false b h = absurd cc
-
 member_named : {A : Type 0} (f : A → MOwner) (same : A → Bool) (o : MOwner) → ((a : A) → same a ≡ true → f a ≡ o) →
     (items : List ItemTree) (q : List ℕ) (k : ℕ) → variant_number items o q ≡ Some k →
     (xs : List A) → list_any same xs ≡ true → IsMember (o, k) (variants_named items q (map f xs))
@@ -220,11 +187,11 @@ member_named f same o is items q k at [] h = absurd cc
 member_named {A} f same o is items q k at (x ∷ xs) h = by (same x) refl (member_named f same o is items q k at xs)
   where
     here : f x ≡ o → (p : MOwner × ℕ → Bool) → list_all p (variants_named items q (map f (x ∷ xs))) ≡ true → p (o, k) ≡ true
-    here e p all = (both (p (o, k)) (list_all p (variants_named items q (map f xs))) (rw (e, at) at all)).0
+    here e p all = (and_parts (p (o, k)) (list_all p (variants_named items q (map f xs))) (rw (e, at) at all)).0
 
     later : (n : Option ℕ) (p : MOwner × ℕ → Bool) → list_all p (and_variant (f x) n (variants_named items q (map f xs))) ≡ true → list_all p (variants_named items q (map f xs)) ≡ true
     later None p all = all
-    later (Some j) p all = (both (p (f x, j)) (list_all p (variants_named items q (map f xs))) all).1
+    later (Some j) p all = (and_parts (p (f x, j)) (list_all p (variants_named items q (map f xs))) all).1
 
     by : (b : Bool) → same x ≡ b → (list_any same xs ≡ true → (p : MOwner × ℕ → Bool) → list_all p (variants_named items q (map f xs)) ≡ true → p (o, k) ≡ true) →
         (p : MOwner × ℕ → Bool) → list_all p (variants_named items q (map f (x ∷ xs))) ≡ true → p (o, k) ≡ true
@@ -280,9 +247,8 @@ item_names items i vs are = names_of_variants vs ∙ ap (λ (ws : List VariantTr
 
 -- an item of a list is the same with itself in place of what stands for none
 pub get_or_same : {A : Type 0} (xs : List A) (i : ℕ) (d : A) → get_or xs i d ≡ get_or xs i (get_or xs i d)
-get_or_same [] i d = refl
-get_or_same (x ∷ xs) zero d = refl
 get_or_same (x ∷ xs) (suc i) d = get_or_same xs i d
+get_or_same _ _ d = refl
 
 -- what is no enum has no variants
 pub item_path : (items : List ItemTree) (i : ℕ) (q : List ℕ) → numbered (DeclaredItem i) (variant_number items (DeclaredItem i) q) ≡ variant_in items (enum_item i (slice_get items i)) q
@@ -300,7 +266,7 @@ item_path items i q = by (slice_get items i) refl
 
 -- a look-up of a name that is written
 pub told_if : (n q : List ℕ) (target : Target) (old : Option Target) → told (cond (bytes_eq n q) (Some target) old) ≡ cond (bytes_eq q n) (target_view target) (told old)
-told_if n q target old = by (bytes_eq n q) ∙ ap (λ b. cond b (target_view target) (told old)) (bytes_swap n q)
+told_if n q target old = by (bytes_eq n q) ∙ ap (λ b. cond b (target_view target) (told old)) (nat_list_eq_equiv.symm n q)
   where
     by : (b : Bool) → told (cond b (Some target) old) ≡ cond b (target_view target) (told old)
     by true = refl

@@ -5,7 +5,7 @@ use Rattle.std.specs.List.{list_all}
 use Rattle.std.specs.Str.{bytes_eq}
 use Rattle.match_model.specs.Types.{MOwner, OptionOwner, ResultOwner}
 use Rattle.decl_syntax.specs.Patterns.{PathTree}
-use Rattle.decl_syntax.specs.Items.{KindTree, Enum, Struct, Import, Function, ItemTree}
+use Rattle.decl_syntax.specs.Items.{KindTree, Struct, Import, ItemTree}
 use Rattle.type_names.specs.declared.meanings.FormKind.{FormKind}
 use Rattle.type_names.specs.Meanings.{is_name}
 use Rattle.type_names.specs.Imports.{variant_number, owner_variants, form_at, enum_of}
@@ -59,8 +59,7 @@ or_has : (items : List ItemTree) (f g : FoundTree) → HasForm items f → HasFo
 unfolding HasForm
 or_has items FoundNothing g f_has g_has = g_has
 or_has items FoundTwice g f_has g_has = refl
-or_has items (FoundStruct i) g f_has g_has = f_has
-or_has items (FoundVariant o k) g f_has g_has = f_has
+or_has items _ g f_has g_has = f_has
 
 given_has : (items : List ItemTree) (q : List ℕ) (n : ℕ) (item : ItemTree) → slice_get items n ≡ Some item → (k : KindTree) → item.kind ≡ k → HasForm items (given_by items q n k)
 unfolding HasForm
@@ -74,9 +73,7 @@ given_has items q n item at (Import owner (Some names)) is = by (is_among q name
     by : (b : Bool) → HasForm items (cond b (path_variant items owner q) FoundNothing)
     by true = path_has items (enum_of items owner) q
     by false = refl
-given_has items q n item at (Import owner None) is = refl
-given_has items q n item at (Enum name vs) is = refl
-given_has items q n item at (Function name parameter deref arms) is = refl
+given_has items q n item at _ is = refl
 
 from_has : (items : List ItemTree) (q : List ℕ) (n : ℕ) (xs : List ItemTree) → ((j : ℕ) → slice_get xs j ≡ slice_get items (n + j)) → HasForm items (given_from items q n xs)
 unfolding HasForm
@@ -113,12 +110,11 @@ prelude_has items q = by (bytes_eq q (codes "Some")) (bytes_eq q (codes "None"))
 
 names_have : (items : List ItemTree) (names : List (List ℕ)) → HasForm items (names_find items names)
 unfolding HasForm
-names_have items [] = refl
 names_have items (q ∷ []) =
     or_has items (given_from items q 0 items) (or_else (globbed items q) (prelude_variant q)) (from_has items q 0 items (λ j. ap (slice_get items) (let e : j ≡ 0 + j = omega arith in e)))
     (or_has items (globbed items q) (prelude_variant q) (agreed_has items q (glob_owners items items)) (prelude_has items q))
 names_have items (owner ∷ q ∷ []) = path_has items (enum_of items owner) q
-names_have items (a ∷ b ∷ c ∷ names) = refl
+names_have items _ = refl
 
 path_finds_has : (items : List ItemTree) (path : PathTree) → HasForm items (path_finds items path)
 unfolding HasForm

@@ -3,15 +3,9 @@ use Rattle.std.proofs.Common.{◌≡◌, ℕ, ◌+◌, ◌<◌, ◌≤◌, Bool,
 use Rattle.std.specs.Prelude.{position}
 use Rattle.std.specs.List.{list_any}
 use Rattle.std.proofs.lemmas.List.{map-append, take_all}
+use Rattle.std.proofs.Math.Bool.{or-true}
+use Rattle.std.proofs.lemmas.List.Folds.{list_any-append}
 use Rattle.type_names.proofs.Places.{front_more, position_hit, position_skip, length_front}
-
-or_assoc : (a b c : Bool) → ((a || b) || c) ≡ (a || (b || c))
-or_assoc true b c = refl
-or_assoc false b c = refl
-
-pub any_append : {A : Type 0} (p : A → Bool) (xs ys : List A) → list_any p (xs ++ ys) ≡ (list_any p xs || list_any p ys)
-any_append p [] ys = refl
-any_append p (x ∷ xs) ys = ap (λ b. p x || b) (any_append p xs ys) ∙ sym (or_assoc (p x) (list_any p xs) (list_any p ys))
 
 -- a list with the item at a place between its front and its rest
 pub parted : {A : Type 0} (xs : List A) (i : ℕ) (x : A) → i < length xs → x ≡ get_or xs i x → xs ≡ take i xs ++ x ∷ drop (i + 1) xs
@@ -21,7 +15,7 @@ parted {A} xs i x lt is = sym (take-append-drop i xs) ∙ ap (λ (ys : List A). 
 pub any_more : {A B : Type 0} (f : A → B) (p : B → Bool) (xs : List A) (i : ℕ) (x : A) → i < length xs → x ≡ get_or xs i x →
     list_any p (map f (take i xs)) ≡ false → p (f x) ≡ false → list_any p (map f (take (i + 1) xs)) ≡ false
 any_more {A} {B} f p xs i x lt is before here =
-    ap (list_any p) (front_more f xs i x lt is) ∙ (any_append p (map f (take i xs)) (f x ∷ []) ∙ rw (before, here) refl)
+    ap (list_any p) (front_more f xs i x lt is) ∙ (list_any-append p (map f (take i xs)) (f x ∷ []) ∙ rw (before, here) refl)
 
 -- an item passes
 pub any_found : {A B : Type 0} (f : A → B) (p : B → Bool) (xs : List A) (i : ℕ) (x : A) → i < length xs → x ≡ get_or xs i x →
@@ -29,11 +23,7 @@ pub any_found : {A B : Type 0} (f : A → B) (p : B → Bool) (xs : List A) (i :
 any_found {A} {B} f p xs i x lt is here =
     sym (ap (λ (ys : List A). list_any p (map f ys)) (parted xs i x lt is)
     ∙ (ap (list_any p) (map-append f (take i xs) (x ∷ drop (i + 1) xs))
-    ∙ (any_append p (map f (take i xs)) (f x ∷ map f (drop (i + 1) xs)) ∙ rw here (or_true (list_any p (map f (take i xs)))))))
-  where
-    or_true : (b : Bool) → (b || true) ≡ true
-    or_true true = refl
-    or_true false = refl
+    ∙ (list_any-append p (map f (take i xs)) (f x ∷ map f (drop (i + 1) xs)) ∙ rw here (or-true (list_any p (map f (take i xs)))))))
 
 -- where none passes there is no first
 pub none_first : {A : Type 0} (p : A → Bool) (xs : List A) → list_any p xs ≡ false → position p xs ≡ None

@@ -5,6 +5,7 @@ use Rattle.std.specs.Str.{bytes_eq}
 use Rattle.std.proofs.lemmas.Slice.Eq.{bytes_eq-Decides}
 use Rattle.std.specs.List.{prefix_len, position_or_len}
 use Rattle.std.proofs.lemmas.List.{length-map, length-take-le, take_more, map-append}
+use Rattle.std.specs.Cmp.Lexicographic.{nat_list_eq_equiv}
 use Rattle.type_names.specs.Views.{first_place, with_place}
 use Rattle.type_names.specs.Meanings.{is_name}
 
@@ -37,9 +38,8 @@ pub position_skip : {A : Type 0} (p : A → Bool) (x : A) (xs : List A) → p x 
 position_skip p x xs e = rw e (moved (position_or_len p xs) (length xs))
 
 first_suc : (o : Option ℕ) (b : Bool) (n : ℕ) → first_place (option_map suc o) b (suc n) ≡ option_map suc (first_place o b n)
-first_suc (Some k) b n = refl
 first_suc None true n = refl
-first_suc None false n = refl
+first_suc _ _ n = refl
 
 pub position_push : {A : Type 0} (p : A → Bool) (xs : List A) (y : A) → position p (xs ++ y ∷ []) ≡ first_place (position p xs) (p y) (length xs)
 position_push p [] y = by (p y) refl
@@ -72,12 +72,8 @@ position_more {A} {B} f p xs i x lt is =
     ap (position p) (front_more f xs i x lt is)
     ∙ (position_push p (map f (take i xs)) (f x) ∙ ap (first_place (position p (map f (take i xs))) (p (f x))) (length_front f xs i lt))
 
-not_equal : (b : Bool) → (b ≡ true → ⊥) → b ≡ false
-not_equal true h = absurd (h refl)
-not_equal false h = refl
-
 flipped : (x y : List ℕ) → bytes_eq x y ≡ false → bytes_eq y x ≡ false
-flipped x y e = not_equal (bytes_eq y x) (λ h. let same : x ≡ y = sym ((bytes_eq-Decides y x).0 h) in let there : bytes_eq x y ≡ true = (bytes_eq-Decides x y).1 same in cc)
+flipped x y e = nat_list_eq_equiv.symm y x ∙ e
 
 -- a look-up after a name is given the place that it has, or else this one
 pub with_entry : (old : List ℕ → Option ℕ) (name q : List ℕ) (at : ℕ) →

@@ -10,10 +10,8 @@ use Rattle.type_names.specs.TypeRules.{TypeTest, some_within, some_of_all, some_
 use Rattle.type_names.specs.SomeRule.{some_test}
 
 crossed : (a b c d : Bool) → ((a || b) || (c || d)) ≡ ((a || c) || (b || d))
-crossed true b c d = refl
 crossed false true true d = refl
-crossed false true false d = refl
-crossed false false c d = refl
+crossed _ _ _ d = refl
 
 any_split : {A : Type 0} (p q r : A → Bool) → ((x : A) → r x ≡ (p x || q x)) → (xs : List A) → list_any r xs ≡ (list_any p xs || list_any q xs)
 any_split p q r h [] = refl

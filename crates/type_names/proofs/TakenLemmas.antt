@@ -2,23 +2,13 @@
 use Rattle.std.proofs.Common.{◌≡◌, ℕ, ◌+◌, ◌<◌, ◌≤◌, Bool, true, false, not, ◌||◌, List, [], ◌∷◌, ◌++◌, map, length, refl, sym, ap, ◌∙◌, append_assoc, take, drop, get_or}
 use Rattle.std.specs.Str.{bytes_eq}
 use Rattle.std.proofs.lemmas.List.{append-nil, map-append, take_all}
+use Rattle.std.proofs.Math.Bool.{or_assoc, or-true, or-false}
+use Rattle.std.proofs.lemmas.List.Folds.{list_any-append}
 use Rattle.type_names.specs.NameRules.{is_among, repeats, some_among, is_taken, taken_names, function_names, value_names}
 use Rattle.decl_syntax.specs.Items.{KindTree, ItemTree}
 use Rattle.type_names.specs.Views.{among}
 use Rattle.type_names.proofs.Places.{same_functions, front_more}
-use Rattle.type_names.proofs.ItemTests.{any_append, parted}
-
-or_assoc : (a b c : Bool) → ((a || b) || c) ≡ (a || (b || c))
-or_assoc true b c = refl
-or_assoc false b c = refl
-
-pub or_true : (b : Bool) → (b || true) ≡ true
-or_true true = refl
-or_true false = refl
-
-pub or_false : (b : Bool) → (b || false) ≡ b
-or_false true = refl
-or_false false = refl
+use Rattle.type_names.proofs.ItemTests.{parted}
 
 pub repeats_append : (before xs ys : List (List ℕ)) → repeats before (xs ++ ys) ≡ (repeats before xs || repeats (before ++ xs) ys)
 repeats_append before [] ys = ap (λ (zs : List (List ℕ)). repeats zs ys) (sym (append-nil before))
@@ -28,9 +18,9 @@ repeats_append before (x ∷ xs) ys =
     ∙ sym (or_assoc (is_among x before) (repeats (before ++ x ∷ []) xs) (repeats (before ++ x ∷ xs) ys)))
 
 pub among_push : (xs : List (List ℕ)) (y q : List ℕ) → is_among q (xs ++ y ∷ []) ≡ (is_among q xs || bytes_eq q y)
-among_push xs y q = any_append (bytes_eq q) xs (y ∷ []) ∙ ap (λ b. is_among q xs || b) (or_false (bytes_eq q y))
+among_push xs y q = list_any-append (bytes_eq q) xs (y ∷ []) ∙ ap (λ b. is_among q xs || b) (or-false (bytes_eq q y))
 
-free : (b c : Bool) → c ≡ not b → c ≡ true → b ≡ false
+pub free : (b c : Bool) → c ≡ not b → c ≡ true → b ≡ false
 free true c e h = absurd cc
 free false c e h = refl
 
@@ -62,7 +52,7 @@ pub taken_twice : (before xs ys : List (List ℕ)) (old : List ℕ → Bool) (y 
     b ≡ not (old y) → b ≡ false → repeats before (xs ++ y ∷ ys) ≡ true
 taken_twice before xs ys old y b is fresh known =
     let there : is_among y (before ++ xs) ≡ true = ap (λ (f : List ℕ → Bool). f y) (sym is) ∙ bound (old y) b fresh known in
-    repeats_append before xs (y ∷ ys) ∙ rw there (or_true (repeats before xs))
+    repeats_append before xs (y ∷ ys) ∙ rw there (or-true (repeats before xs))
 
 -- the names of a list around one of them
 pub parted_map : {A B : Type 0} (f : A → B) (xs : List A) (i : ℕ) (x : A) → i < length xs → x ≡ get_or xs i x → map f xs ≡ map f (take i xs) ++ f x ∷ map f (drop (i + 1) xs)
@@ -89,9 +79,6 @@ pub not_taken : (all : List ItemTree) (types functions values : List (List ℕ))
     false ≡ is_taken all types functions values k
 not_taken all types functions values k ts fs vs t f v a b c d = rw (← t, ← f, ← v, a, b, c, d) refl
 
-pub not_is : (b c : Bool) → c ≡ not b → c ≡ true → b ≡ false
-not_is b c e known = free b c e known
-
 -- a name alone is free unless it is one of those before it
 pub free_is : (before : List (List ℕ)) (old : List ℕ → Bool) (name : List ℕ) (b : Bool) → old ≡ among before → b ≡ not (old name) → not b ≡ is_among name before
 free_is before old name b is fresh = ap not fresh ∙ (not_not (old name) ∙ ap (λ (f : List ℕ → Bool). f name) is)
@@ -103,7 +90,7 @@ free_is before old name b is fresh = ap not fresh ∙ (not_not (old name) ∙ ap
 -- what breaks rule 10 by one name
 pub is_taken_by_type : (all : List ItemTree) (types functions values : List (List ℕ)) (k : KindTree) (name : List ℕ) →
     name ∷ [] ≡ taken_names k → [] ≡ function_names k → [] ≡ value_names all k → is_among name types ≡ is_taken all types functions values k
-is_taken_by_type all types functions values k name t f v = rw (← t, ← f, ← v) (sym (or_false (is_among name types || false) ∙ or_false (is_among name types)))
+is_taken_by_type all types functions values k name t f v = rw (← t, ← f, ← v) (sym (or-false (is_among name types || false) ∙ or-false (is_among name types)))
 
 pub is_taken_by_function : (all : List ItemTree) (types functions values : List (List ℕ)) (k : KindTree) (name : List ℕ) →
     [] ≡ taken_names k → name ∷ [] ≡ function_names k → [] ≡ value_names all k → (is_among name functions || is_among name values) ≡ is_taken all types functions values k

@@ -23,9 +23,8 @@ listed_at names vs are = same_functions (λ q. ap (position (bytes_eq q)) are �
 
 -- an item of a list that is mapped
 pub get_map : {A B : Type 0} (f : A → B) (xs : List A) (i : ℕ) → slice_get (map f xs) i ≡ option_map f (slice_get xs i)
-get_map f [] i = refl
-get_map f (x ∷ xs) zero = refl
 get_map f (x ∷ xs) (suc i) = get_map f xs i
+get_map f _ _ = refl
 
 at_or : Option (List ℕ → Option ℕ) → List ℕ → Option ℕ
 at_or None q = None

@@ -1,6 +1,7 @@
 -- Lists of written types.
-use Rattle.std.proofs.Common.{◌≡◌, Bool, true, false, ◌||◌, List, [], ◌∷◌, length, refl, ap, ◌∙◌, suc}
+use Rattle.std.proofs.Common.{◌≡◌, Bool, ◌||◌, List, [], ◌∷◌, length, refl, ap, ◌∙◌, suc, sym}
 use Rattle.std.specs.List.{list_any}
+use Rattle.std.proofs.Math.Bool.{or_assoc}
 use Rattle.decl_syntax.specs.Types.{TypeTree, types_from}
 use Rattle.type_names.specs.Meanings.{Means}
 use Rattle.type_names.specs.TypeRules.{TypeTest, some_within, some_of_all, count_of}
@@ -16,10 +17,6 @@ pub some_from : (names : Means) (test : TypeTest) (sized : Bool) (ts : List Type
 some_from names test sized [] = refl
 some_from names test sized (t ∷ ts) = ap (λ b. some_within names test sized t || b) (some_from names test sized ts)
 
-or_assoc : (a b c : Bool) → (a || (b || c)) ≡ ((a || b) || c)
-or_assoc true b c = refl
-or_assoc false b c = refl
-
 pub patterns_any : (ps : List PatternTree) → some_unsupported (patterns_from ps) ≡ list_any pattern_unsupported ps
 patterns_any [] = refl
 patterns_any (p ∷ ps) = ap (λ b. pattern_unsupported p || b) (patterns_any ps)
@@ -28,4 +25,4 @@ pub fields_any : (fs : List FieldTree) → fields_unsupported (fields_from fs) �
 fields_any [] = refl
 fields_any (f ∷ fs) =
     ap (λ b. is_unsupported f.attrs || (pattern_unsupported f.pattern || b)) (fields_any fs)
-    ∙ or_assoc (is_unsupported f.attrs) (pattern_unsupported f.pattern) (list_any field_unsupported fs)
+    ∙ sym (or_assoc (is_unsupported f.attrs) (pattern_unsupported f.pattern) (list_any field_unsupported fs))

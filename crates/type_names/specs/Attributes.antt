@@ -4,7 +4,7 @@ use Rattle.std.specs.List.{list_any}
 use Rattle.std.specs.Str.{bytes_eq}
 use Rattle.decl_syntax.specs.Patterns.{AttrTree, PatternTree, At, Shape, PatternTrees, FieldTrees, no_field, and_field, FieldTree}
 use Rattle.decl_syntax.specs.Patterns as patterns
-use Rattle.decl_syntax.specs.Items.{FieldItem, FormTree, Unit, VariantTree, ArmTree, KindTree, Enum, Struct, Import, Function, ItemTree}
+use Rattle.decl_syntax.specs.Items.{FormTree, Unit, VariantTree, ArmTree, KindTree, Enum, Struct, Import, Function, ItemTree}
 use Rattle.decl_syntax.specs.Items as forms
 use Rattle.type_names.specs.Written.{is_marked_by}
 
@@ -27,21 +27,15 @@ abbrev mutual
 
   -- the same of the pattern's form
   pub shape_unsupported : Shape → Bool
-  shape_unsupported patterns.Wild = false
-  shape_unsupported patterns.Rest = false
-  shape_unsupported (patterns.Literal l) = false
-  shape_unsupported (patterns.Name name) = false
-  shape_unsupported (patterns.Bind name by_ref mutable) = false
   shape_unsupported (patterns.BindAs name by_ref mutable p) = pattern_unsupported p
-  shape_unsupported (patterns.Path path) = false
   shape_unsupported (patterns.TupleForm path ps) = some_unsupported ps
   shape_unsupported (patterns.Brace path fs rest) = fields_unsupported fs
   shape_unsupported (patterns.Tuple ps) = some_unsupported ps
   shape_unsupported (patterns.Group p) = pattern_unsupported p
   shape_unsupported (patterns.Slice ps) = some_unsupported ps
   shape_unsupported (patterns.Point mutable p) = pattern_unsupported p
-  shape_unsupported (patterns.Range low high closed) = false
   shape_unsupported (patterns.Or ps) = some_unsupported ps
+  shape_unsupported _ = false
 
   -- in one of these patterns
   pub some_unsupported : PatternTrees → Bool
@@ -81,9 +75,7 @@ parts_unsupported (Function name parameter deref arms) = list_any arm_unsupporte
 -- the attributes of the item itself may not stand there
 abbrev pub own_unsupported : KindTree → List AttrTree → Bool
 own_unsupported (Enum name variants) attrs = is_gated attrs
-own_unsupported (Struct name form) attrs = is_unsupported attrs
-own_unsupported (Import owner names) attrs = is_unsupported attrs
-own_unsupported (Function name parameter deref arms) attrs = is_unsupported attrs
+own_unsupported _ attrs = is_unsupported attrs
 
 -- rule 19: `cfg` or `cfg_attr` on the item, its parts or arms, or `non_exhaustive` on anything but an enum
 abbrev pub has_unsupported : ItemTree → Bool

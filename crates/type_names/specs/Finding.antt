@@ -5,7 +5,7 @@ use Rattle.std.specs.List.{list_all}
 use Rattle.std.specs.Str.{bytes_eq}
 use Rattle.match_model.specs.Types.{MOwner, DeclaredItem, OptionOwner, ResultOwner}
 use Rattle.decl_syntax.specs.Patterns.{PathTree}
-use Rattle.decl_syntax.specs.Items.{KindTree, Enum, Struct, Import, Function, ItemTree}
+use Rattle.decl_syntax.specs.Items.{KindTree, Struct, Import, ItemTree}
 use Rattle.type_names.specs.declared.meanings.FormKind.{FormKind}
 use Rattle.type_names.specs.Imports.{enum_of, variant_number, owner_variants, form_kind, form_at}
 use Rattle.type_names.specs.NameRules.{is_among}
@@ -34,9 +34,7 @@ path_variant items owner name = variant_in items (enum_of items owner) name
 abbrev pub given_by : List ItemTree → (name : List ℕ) → ℕ → KindTree → FoundTree
 given_by items name i (Struct n form) = if bytes_eq name n then FoundStruct i else FoundNothing
 given_by items name i (Import owner (Some names)) = if is_among name names then path_variant items owner name else FoundNothing
-given_by items name i (Import owner None) = FoundNothing
-given_by items name i (Enum n variants) = FoundNothing
-given_by items name i (Function n parameter deref arms) = FoundNothing
+given_by items name i _ = FoundNothing
 
 -- the first of the two that is something
 abbrev pub or_else : FoundTree → FoundTree → FoundTree
@@ -58,10 +56,7 @@ and_owner (Some o) os = o ∷ os
 -- the enum that `use E::*` names
 abbrev pub glob_owner : List ItemTree → KindTree → Option MOwner
 glob_owner items (Import owner None) = enum_of items owner
-glob_owner items (Import owner (Some names)) = None
-glob_owner items (Struct n form) = None
-glob_owner items (Enum n variants) = None
-glob_owner items (Function n parameter deref arms) = None
+glob_owner items _ = None
 
 -- the enums that these of all items name by `use E::*`, in order
 abbrev pub glob_owners : (all : List ItemTree) → List ItemTree → List MOwner
@@ -113,10 +108,9 @@ name_finds items name = or_else (given_from items name 0 items) (or_else (globbe
 
 -- what the names of a path find: one is looked up, and of two the first names the enum
 abbrev pub names_find : List ItemTree → List (List ℕ) → FoundTree
-names_find items [] = FoundNothing
 names_find items (name ∷ []) = name_finds items name
 names_find items (owner ∷ name ∷ []) = path_variant items owner name
-names_find items (a ∷ b ∷ c ∷ names) = FoundNothing
+names_find items _ = FoundNothing
 
 -- what a path finds; one with `crate`, `self`, `super` or `Self` finds nothing
 abbrev pub path_finds : List ItemTree → PathTree → FoundTree
@@ -125,9 +119,7 @@ path_finds items path = if path.plain then names_find items path.names else Foun
 -- the form of a struct
 abbrev pub kind_form : KindTree → Option FormKind
 kind_form (Struct n form) = Some (form_kind form)
-kind_form (Enum n variants) = None
-kind_form (Import owner names) = None
-kind_form (Function n parameter deref arms) = None
+kind_form _ = None
 
 -- the form of the struct that the item declares
 abbrev pub struct_form : Option ItemTree → Option FormKind
@@ -136,14 +128,12 @@ struct_form (Some i) = kind_form i.kind
 
 -- the form of the struct or variant that was found
 abbrev pub found_form : List ItemTree → FoundTree → Option FormKind
-found_form items FoundNothing = None
-found_form items FoundTwice = None
 found_form items (FoundStruct i) = struct_form (slice_get items i)
 found_form items (FoundVariant o k) = form_at (owner_variants items o) (Some k)
+found_form items _ = None
 
 -- a struct or a variant was found
 abbrev pub is_found : FoundTree → Bool
-is_found FoundNothing = false
-is_found FoundTwice = false
 is_found (FoundStruct i) = true
 is_found (FoundVariant o k) = true
+is_found _ = false

@@ -42,16 +42,14 @@ pub record IsFinder (items : List ItemTree) (finder : declared_finder.Finder) : 
 -- No meaning: what was found with a further variant of the name.
 abbrev pub with_variant : FoundTree → MOwner → ℕ → FoundTree
 with_variant FoundNothing o k = FoundVariant o k
-with_variant FoundTwice o k = FoundTwice
-with_variant (FoundStruct i) o k = FoundTwice
 with_variant (FoundVariant p l) o k = if same_variant (p, l) (o, k) then FoundVariant p l else FoundTwice
+with_variant _ o k = FoundTwice
 
 -- No meaning: what was found with what is found further.
 abbrev pub joined : FoundTree → FoundTree → FoundTree
 joined f FoundNothing = f
-joined f FoundTwice = FoundTwice
-joined f (FoundStruct i) = FoundTwice
 joined f (FoundVariant o k) = with_variant f o k
+joined f _ = FoundTwice
 
 -- No meaning: what is found where the test holds.
 abbrev pub masked : Bool → FoundTree → FoundTree

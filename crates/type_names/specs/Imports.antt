@@ -1,11 +1,11 @@
 -- Which variants `use E::..;` and paths `E::V` name.
 use Rattle.std.specs.Prelude.{ℕ, Bool, true, false, List, [], ◌∷◌, map, codes, position, slice_get, Option, Some, None, option_map}
 use Rattle.match_model.specs.Types.{MOwner, DeclaredItem, OptionOwner, ResultOwner}
-use Rattle.decl_syntax.specs.Items.{FormTree, Unit, VariantTree, KindTree, Enum, Struct, Import, Function, ItemTree}
+use Rattle.decl_syntax.specs.Items.{FormTree, Unit, VariantTree, KindTree, Enum, ItemTree}
 use Rattle.decl_syntax.specs.Items as forms
 use Rattle.type_names.specs.declared.meanings.FormKind.{FormKind}
 use Rattle.type_names.specs.declared.meanings.FormKind.TheVariants as kinds
-use Rattle.type_names.specs.Meanings.{Meaning, ItemName, BaseName, OpaqueName, OptionName, ResultName, means, is_name}
+use Rattle.type_names.specs.Meanings.{Meaning, ItemName, OptionName, ResultName, means, is_name}
 
 -- the kind of a form
 abbrev pub form_kind : FormTree → FormKind
@@ -16,9 +16,7 @@ form_kind (forms.Brace fields) = kinds.Brace
 -- the variants of an enum
 abbrev pub kind_variants : KindTree → List VariantTree
 kind_variants (Enum name variants) = variants
-kind_variants (Struct name form) = []
-kind_variants (Import owner names) = []
-kind_variants (Function name parameter deref arms) = []
+kind_variants _ = []
 
 -- the variants of the enum that may be there
 abbrev pub item_variants : Option ItemTree → List VariantTree
@@ -38,9 +36,7 @@ owner_variants items ResultOwner = (codes "Ok", kinds.Tuple) ∷ (codes "Err", k
 -- the item is an enum
 abbrev pub is_enum : KindTree → Bool
 is_enum (Enum name variants) = true
-is_enum (Struct name form) = false
-is_enum (Import owner names) = false
-is_enum (Function name parameter deref arms) = false
+is_enum _ = false
 
 -- the item with this number, if it is an enum
 abbrev pub enum_item : ℕ → Option ItemTree → Option MOwner
@@ -52,9 +48,7 @@ abbrev pub meant_enum : List ItemTree → Option Meaning → Option MOwner
 meant_enum items (Some (ItemName i)) = enum_item i (slice_get items i)
 meant_enum items (Some OptionName) = Some OptionOwner
 meant_enum items (Some ResultName) = Some ResultOwner
-meant_enum items (Some (BaseName t)) = None
-meant_enum items (Some (OpaqueName o)) = None
-meant_enum items None = None
+meant_enum items _ = None
 
 -- the enum whose variants are named behind `E::`
 abbrev pub enum_of : List ItemTree → (name : List ℕ) → Option MOwner

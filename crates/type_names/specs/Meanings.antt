@@ -75,11 +75,7 @@ int_of _ = None
 -- the integer type of this meaning
 abbrev pub meant_int : Option Meaning → Option IntKind
 meant_int (Some (BaseName t)) = int_of t
-meant_int (Some (ItemName i)) = None
-meant_int (Some (OpaqueName o)) = None
-meant_int (Some OptionName) = None
-meant_int (Some ResultName) = None
-meant_int None = None
+meant_int _ = None
 
 -- the integer type that the suffix of a literal names
 abbrev pub int_kind : (suffix : List ℕ) → Option IntKind
@@ -96,30 +92,22 @@ means items name = first_of_two (option_map ItemName (declared_at items name)) (
 
 -- how many type arguments what the name means has
 abbrev pub argument_count : Meaning → ℕ
-argument_count (ItemName i) = 0
-argument_count (BaseName t) = 0
 argument_count (OpaqueName o) = opaque_arguments o
 argument_count OptionName = 1
 argument_count ResultName = 2
+argument_count _ = 0
 
 -- an opaque type whose argument needs no size: `Box`, `Rc`, `Arc`
 abbrev pub holds_sizeless : MOpaque → Bool
 holds_sizeless BoxName = true
 holds_sizeless RcName = true
 holds_sizeless ArcName = true
-holds_sizeless StringName = false
-holds_sizeless F32Name = false
-holds_sizeless F64Name = false
-holds_sizeless VecName = false
+holds_sizeless _ = false
 
 -- the arguments of what the name means need a size
 abbrev pub arguments_sized : Option Meaning → Bool
 arguments_sized (Some (OpaqueName o)) = if holds_sizeless o then false else true
-arguments_sized (Some (ItemName i)) = true
-arguments_sized (Some (BaseName t)) = true
-arguments_sized (Some OptionName) = true
-arguments_sized (Some ResultName) = true
-arguments_sized None = true
+arguments_sized _ = true
 
 -- what names mean
 abbrev pub Means : Type 0

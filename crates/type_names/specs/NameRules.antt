@@ -3,7 +3,7 @@ use Rattle.std.specs.Prelude.{ℕ, Bool, true, false, ◌||◌, List, [], ◌∷
 use Rattle.std.specs.List.{list_any}
 use Rattle.std.specs.Str.{bytes_eq}
 use Rattle.match_model.specs.Types.{MOwner}
-use Rattle.decl_syntax.specs.Items.{FieldItem, FormTree, Unit, VariantTree, KindTree, Enum, Struct, Import, Function, ItemTree}
+use Rattle.decl_syntax.specs.Items.{FormTree, Unit, KindTree, Enum, Struct, Import, Function, ItemTree}
 use Rattle.decl_syntax.specs.Items as forms
 use Rattle.type_names.specs.declared.meanings.FormKind.{FormKind}
 use Rattle.type_names.specs.declared.meanings.FormKind.TheVariants as kinds
@@ -34,9 +34,7 @@ taken_names (Function name parameter deref arms) = []
 -- the name of a function
 abbrev pub function_names : KindTree → List (List ℕ)
 function_names (Function name parameter deref arms) = name ∷ []
-function_names (Enum name variants) = []
-function_names (Struct name form) = []
-function_names (Import owner names) = []
+function_names _ = []
 
 -- what has this form stands for a value or a function that makes one
 abbrev pub is_value_form : Option FormKind → Bool
@@ -55,9 +53,7 @@ struct_value name (forms.Brace fields) = []
 abbrev pub value_names : List ItemTree → KindTree → List (List ℕ)
 value_names items (Struct name form) = struct_value name form
 value_names items (Import owner (Some names)) = filter (λ n. is_value_form (variant_form items (enum_of items owner) n)) names
-value_names items (Import owner None) = []
-value_names items (Enum name variants) = []
-value_names items (Function name parameter deref arms) = []
+value_names items _ = []
 
 -- all names of the items of one kind, in order
 abbrev pub all_names : (KindTree → List (List ℕ)) → List ItemTree → List (List ℕ)
@@ -87,22 +83,18 @@ is_named_twice all before kind =
 -- rule 11: two variants of an enum have one name
 abbrev pub has_variant_twice : KindTree → Bool
 has_variant_twice (Enum name variants) = repeats [] (map (λ v. v.name) variants)
-has_variant_twice (Struct name form) = false
-has_variant_twice (Import owner names) = false
-has_variant_twice (Function name parameter deref arms) = false
+has_variant_twice _ = false
 
 -- two fields of a form have one name
 abbrev pub form_has_field_twice : FormTree → Bool
-form_has_field_twice Unit = false
-form_has_field_twice (forms.Tuple fields) = false
 form_has_field_twice (forms.Brace fields) = repeats [] (map (λ f. field_name f.name) fields)
+form_has_field_twice _ = false
 
 -- rule 12: two fields of a struct or variant have one name
 abbrev pub has_field_twice : KindTree → Bool
 has_field_twice (Enum name variants) = list_any (λ v. form_has_field_twice v.form) variants
 has_field_twice (Struct name form) = form_has_field_twice form
-has_field_twice (Import owner names) = false
-has_field_twice (Function name parameter deref arms) = false
+has_field_twice _ = false
 
 -- one of the names is no variant of the enum
 abbrev pub some_unlisted : List ItemTree → Option MOwner → Option (List (List ℕ)) → Bool
@@ -113,6 +105,4 @@ some_unlisted items (Some o) (Some names) = list_any (λ n. is_none (variant_num
 -- rule 18: the name before `::` is no enum, or a listed name is no variant of it
 abbrev pub is_bad_use : List ItemTree → KindTree → Bool
 is_bad_use items (Import owner names) = some_unlisted items (enum_of items owner) names
-is_bad_use items (Enum name variants) = false
-is_bad_use items (Struct name form) = false
-is_bad_use items (Function name parameter deref arms) = false
+is_bad_use items _ = false

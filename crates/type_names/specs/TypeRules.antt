@@ -4,7 +4,7 @@ use Rattle.std.specs.List.{list_any}
 use Rattle.match_model.specs.Typing.{is_str}
 use Rattle.decl_syntax.specs.Types.{TypeTree, TypeTrees, Never, none, more}
 use Rattle.decl_syntax.specs.Types as written
-use Rattle.decl_syntax.specs.Items.{FieldItem, FormTree, Unit, VariantTree, KindTree, Enum, Struct, Import, Function}
+use Rattle.decl_syntax.specs.Items.{FormTree, Unit, KindTree, Enum, Struct, Import, Function}
 use Rattle.decl_syntax.specs.Items as forms
 use Rattle.type_names.specs.Meanings.{Meaning, BaseName, Means, argument_count, arguments_sized}
 use Rattle.type_names.specs.declared.type_rules.TypeRule.{TypeRule}

@@ -9,7 +9,7 @@ use Rattle.match_model.specs.Declarations.{MField, MForm, UnitForm, TupleForm, B
 use Rattle.decl_syntax.specs.Types.{TypeTree, TypeTrees, none, more}
 use Rattle.decl_syntax.specs.Types as written
 use Rattle.decl_syntax.specs.Patterns.{AttrTree}
-use Rattle.decl_syntax.specs.Items.{FieldItem, FormTree, Unit, VariantTree, KindTree, Enum, Struct, Import, Function, ItemTree}
+use Rattle.decl_syntax.specs.Items.{FieldItem, FormTree, Unit, VariantTree, KindTree, Enum, Struct, ItemTree}
 use Rattle.decl_syntax.specs.Items as forms
 use Rattle.type_names.specs.Meanings.{Meaning, ItemName, BaseName, OpaqueName, OptionName, ResultName, Means, means, argument_count, arguments_sized}
 
@@ -96,8 +96,7 @@ is_marked_by attrs = list_any is_mark attrs
 abbrev pub kind_of : Means → (marked : Bool) → KindTree → MItem
 kind_of names marked (Enum name variants) = EnumItem name marked (map (variant_of names) variants)
 kind_of names marked (Struct name form) = StructItem (record { name = name; form = form_of names form })
-kind_of names marked (Import owner listed) = OtherItem
-kind_of names marked (Function name parameter deref arms) = OtherItem
+kind_of names marked _ = OtherItem
 
 -- the same, with its mark
 abbrev pub item_of : Means → ItemTree → MItem

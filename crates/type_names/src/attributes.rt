@@ -1,11 +1,11 @@
 //! Rule 19: attributes that are not supported.
 ghost use Rattle.std.specs.Prelude.{◌≡◌, map};
 ghost use Rattle.std.specs.List.{list_any};
-ghost use Rattle.decl_syntax.specs.Patterns.{attr_view, pattern_view, shape_view, patterns_from, fields_from};
+ghost use Rattle.decl_syntax.specs.Patterns.{attr_view, pattern_view, patterns_from, fields_from};
 ghost use Rattle.decl_syntax.specs.Patterns.{field_view as pattern_field_view};
 ghost use Rattle.decl_syntax.specs.Items.{field_view, form_view, variant_view, arm_view, kind_view, item_view};
 ghost use Rattle.type_names.specs.Written.{is_mark, is_marked_by};
-ghost use Rattle.type_names.specs.Attributes.{is_gate, is_gated, variant_unsupported, arm_unsupported, field_unsupported, is_unsupported, pattern_unsupported, shape_unsupported, some_unsupported, fields_unsupported, form_unsupported, parts_unsupported, own_unsupported, has_unsupported};
+ghost use Rattle.type_names.specs.Attributes.{is_gate, is_gated, variant_unsupported, arm_unsupported, field_unsupported, is_unsupported, pattern_unsupported, some_unsupported, fields_unsupported, form_unsupported, parts_unsupported, own_unsupported, has_unsupported};
 
 use decl_syntax::{Arm, Attr, Field, FieldPat, Form, Item, ItemKind, Pat, PatKind, Variant};
 

@@ -4,8 +4,8 @@
 //! of a name counting. By it a name means an item of the file or a built-in type ([`Meaning`]), and `E::V` names a
 //! variant ([`enum_of`], [`Names::variant`]).
 //!
-//! [`Finder`] finds what a path in a pattern means ([`Target`]), by maps that are made once, and [`target_form`] tells
-//! the form of it; `specs/Finding.antt` says what is found.
+//! [`Finder`] finds what a path in a pattern means ([`Target`]), by maps that are made once; `specs/Finding.antt` says
+//! what is found.
 //!
 //! [`first_name_twice`] finds the first item that breaks rule 10, and [`first_fault`] the first that breaks a rule that
 //! an item breaks by itself ([`ItemRule`]); [`some_fault`] says whether some item breaks one of these. Each rule is a
@@ -30,5 +30,5 @@ pub use item_rules::{ItemRule, first_fault, some_fault};
 pub use meanings::{Base, FormKind, Meaning, Opaque, Owner, built_in, int_kind};
 pub use name_rules::{field_name, first_name_twice};
 pub use names::Names;
-pub use targets::{Target, target_form};
+pub use targets::Target;
 pub use type_rules::{TypeRule, argument_count, arguments_sized, is_length};

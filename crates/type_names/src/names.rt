@@ -1,5 +1,5 @@
 //! The enums and structs of a file by name, and the variants of each enum by name.
-ghost use Rattle.std.specs.Prelude.{◌≡◌, ℕ, map, OnOk, IfOk, option_map};
+ghost use Rattle.std.specs.Prelude.{◌≡◌, map, OnOk, IfOk, option_map};
 ghost use Rattle.std.specs.Rc.{rc_str_bytes};
 ghost use Rattle.type_names.specs.NameMaps.{get_by_name};
 ghost use Rattle.decl_syntax.specs.Items.{item_view, kind_view, variant_view, file_view};
@@ -25,7 +25,7 @@ pub struct Names {
 /// The names of the variants of an item: in the order of declaration, or the number of the first variant of each
 /// name. What is no enum has none.
 #[derive(Debug, Drop)]
-pub enum VariantNames {
+pub(crate) enum VariantNames {
     Few(Vec<Name>),
     Many(Box<IndexMap<Name, usize>>),
 }

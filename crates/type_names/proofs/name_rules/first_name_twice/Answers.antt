@@ -1,4 +1,4 @@
-use Rattle.std.proofs.Common.{◌<◌, map, take, length, refl, ◌∙◌, arith, below_more}
+use Rattle.std.proofs.Common.{◌<◌, map, take, length, ◌∙◌, arith, below_more}
 use Rattle.decl_syntax.specs.Items.{item_view}
 use Rattle.type_names.specs.NameRules.{all_names, taken_names, function_names, value_names}
 use Rattle.type_names.proofs.FirstLemmas.{get_item, taken_at, taken_after, below_map, within_map}
@@ -11,7 +11,7 @@ returns-then-branch c =
     let at = get_item item_view c.args.items.now c.loop-i.i c.index-items-i.result c.loop-i-test.true c.index-items-i.is in
     let step = c.in_ok-take.ensures (all_names taken_names before) (all_names function_names before) (all_names (value_names items) before) c.loop-i.invariant.0 in (
       within_map item_view c.args.items.now c.loop-i.i c.loop-i-test.true,
-      taken_at items items c.loop-i.i (item_view c.index-items-i.result) c.in_ok-take.field-0 refl at step.0 ∙ c.if-branch.true,
+      taken_at items c.loop-i.i (item_view c.index-items-i.result) c.in_ok-take.field-0 at step.0 ∙ c.if-branch.true,
       c.loop-i.invariant.1,
     )
 
@@ -21,8 +21,8 @@ loop-i-preserved c =
     let before = take c.loop-i.i items in
     let at = get_item item_view c.args.items.now c.loop-i.i c.index-items-i.result c.loop-i-test.true c.index-items-i.is in
     let step = c.in_ok-take.ensures (all_names taken_names before) (all_names function_names before) (all_names (value_names items) before) c.loop-i.invariant.0 in (
-      taken_after items items c.loop-i.i (item_view c.index-items-i.result) c.take.new.self refl at (step.1 c.if-branch.false),
-      below_more _ _ c.loop-i.invariant.1 (taken_at items items c.loop-i.i (item_view c.index-items-i.result) c.in_ok-take.field-0 refl at step.0 ∙ c.if-branch.false),
+      taken_after items c.loop-i.i (item_view c.index-items-i.result) c.take.new.self at (step.1 c.if-branch.false),
+      below_more _ _ c.loop-i.invariant.1 (taken_at items c.loop-i.i (item_view c.index-items-i.result) c.in_ok-take.field-0 at step.0 ∙ c.if-branch.false),
     )
 
 pub returns : goal.returns

@@ -3,7 +3,7 @@ use Rattle.std.specs.Rc.{rc_str_bytes}
 use Rattle.decl_syntax.specs.Items.{item_view, kind_view}
 use Rattle.type_names.specs.NameRules.{some_among, taken_names, function_names, value_names}
 use Rattle.type_names.specs.Views.{among}
-use Rattle.type_names.proofs.TakenLemmas.{not_taken, not_is}
+use Rattle.type_names.proofs.TakenLemmas.{not_taken, free}
 use Rattle.type_names.proofs.name_rules.Taken.take_all.Goals as goal
 
 pub returns : goal.returns
@@ -17,7 +17,7 @@ returns c = λ types functions values are.
     let vs4 : map rc_str_bytes c.deref-4.result.now ≡ value_names all k = search rules in
     let fs2 : map rc_str_bytes c.deref-else-some_taken.result.now ≡ function_names k = search rules in
     let vs2 : map rc_str_bytes c.deref-else-some_taken-2.result.now ≡ value_names all k = search rules in
-    let a = not_is _ _ fresh.0 c.if-not-branch.false in
+    let a = free _ _ fresh.0 c.if-not-branch.false in
     let b = sym (c.some_taken.ensures functions are.functions_are) ∙ c.if-some_taken.false in
     let d = sym (c.some_taken-else-some_taken.ensures values are.values_are) ∙ c.if-some_taken-2.false in
     let e = sym (c.some_taken-else-some_taken-2.ensures functions are.functions_are) ∙ c.if-some_taken-3.false in (
