@@ -10,8 +10,8 @@ use Rattle.decl_syntax.specs.Units.{is_mark, is_word, units, halves, doubled_mar
 use Rattle.decl_syntax.specs.Patterns.{PathTree, PatternTree, Shape, FieldTree, patterns_from, fields_from}
 use Rattle.decl_syntax.specs.Grammar.{Spelling, CommaList, closed, last, next, Separated, only, further}
 use Rattle.decl_syntax.specs.FieldNames.{SpellsLabel, label}
-use Rattle.decl_syntax.specs.EndGrammar.{SpellsRange, both_ends, low_end, high_end, path_of}
-use Rattle.decl_syntax.specs.PatternGrammar.{shape_by_names, AltForm, a_range, a_plain, PatternForm, one, several, ItemForm, a_rest, a_pattern, SpellsBoundRest, bound_rest, SliceItemForm, a_bound_rest, an_item, FieldForm, labelled, shorthand, FieldList, all_closed, all_dotted, last_field, next_field, PlainForm, wild, literal, negative, bound_as, bound, path, tuple_form, brace_form, unit, only_rest, group, tuple, slice, point, SpellsPlain, SpellsPattern}
+use Rattle.decl_syntax.specs.EndGrammar.{SpellsRange, both_ends, path_of}
+use Rattle.decl_syntax.specs.PatternGrammar.{shape_by_names, AltForm, a_range, a_plain, PatternForm, one, several, ItemForm, a_rest, a_pattern, SpellsBoundRest, bound_rest, SliceItemForm, a_bound_rest, an_item, FieldForm, labelled, shorthand, FieldList, all_closed, all_dotted, last_field, next_field, PlainForm, bound_as, bound, path, tuple_form, brace_form, group, tuple, slice, point, SpellsPlain, SpellsPattern}
 use Rattle.decl_syntax.proofs.Joined.{maybe_shrinks}
 use Rattle.decl_syntax.proofs.EndLaws.{ranges, paths}
 use Rattle.decl_syntax.proofs.PatternLaws.{bindings}
@@ -63,15 +63,12 @@ fields_are (f ∷ fs) = ap (λ n. pattern_nodes f.pattern + n) (fields_are fs) �
 
 range_leaf : (ts rest : List Placed) (x : Shape) → SpellsRange ts x rest → nodes_within x ≡ 0
 range_leaf _ _ _ (both_ends ts us rest mark low high closed_ a m b) = refl
-range_leaf _ _ _ (low_end ts rest mark low a m n) = refl
-range_leaf _ _ _ (high_end us rest mark high closed_ m b) = refl
+range_leaf _ _ _ _ = refl
 
 path_leaf : (p : PathTree) (b : Bool) (names : List (List ℕ)) → nodes_within (shape_by_names p b names) ≡ 0
-path_leaf p true [] = refl
 path_leaf p true (x ∷ []) = refl
-path_leaf p true (x ∷ y ∷ xs) = refl
 path_leaf p false [] = refl
-path_leaf p false (x ∷ xs) = refl
+path_leaf p _ _ = refl
 
 abbrev plain_weight : Shape → ℕ
 plain_weight x = suc (nodes_within x)
@@ -111,9 +108,6 @@ module _ (Plain : Spelling Shape) (light : Light Plain plain_weight) where
   fields_light _ _ _ (next_field ts us rest f fs dotted t s e others) = omega (arith, sum_by-cons field_weight f fs, field_light ts (t ∷ us) f s, fields_light us rest (fs, dotted) others)
 
   form_light : Light (PlainForm Plain) plain_weight
-  form_light _ _ _ (wild t rest e) = omega arith
-  form_light _ _ _ (literal t rest x e) = omega arith
-  form_light _ _ _ (negative minus t rest x e f) = omega arith
   form_light _ _ _ (bound_as ts us rest at b p s e a) = omega (arith, bindings.shrinks ts (at ∷ us) b s, alt_light us rest p a)
   form_light _ _ _ (bound ts rest b s e n) = omega (arith, bindings.shrinks ts rest b s)
   form_light _ _ _ (path ts rest segments s n m k) = omega (arith, paths.shrinks ts rest segments s, path_leaf (path_of segments) (path_of segments).plain (path_of segments).names)
@@ -121,13 +115,12 @@ module _ (Plain : Spelling Shape) (light : Light Plain plain_weight) where
       omega (arith, paths.shrinks ts (opening ∷ us) segments s, comma_light marks.CloseRound (ItemForm Plain) pattern_nodes item_light us rest ps l, list_is ps)
   form_light _ _ _ (brace_form ts us rest segments opening fs dotted s e l) =
       omega (arith, paths.shrinks ts (opening ∷ us) segments s, fields_light us rest (fs, dotted) l, fields_are fs)
-  form_light _ _ _ (unit opening closing rest e f) = omega arith
-  form_light _ _ _ (only_rest opening dots closing rest e f g) = omega arith
   form_light _ _ _ (group opening closing ts rest p e s f) = omega (arith, whole_light ts (closing ∷ rest) p s)
   form_light _ _ _ (tuple opening comma ts us rest first others e s f l) =
       omega (arith, item_light ts (comma ∷ us) first s, comma_light marks.CloseRound (ItemForm Plain) pattern_nodes item_light us rest others l, list_is others)
   form_light _ _ _ (slice opening ts rest ps e l) = omega (arith, comma_light marks.CloseSquare (SliceItemForm Plain) pattern_nodes slice_light ts rest ps l, list_is ps)
   form_light _ _ _ (point and ts us rest mutable inner e m s) = omega (arith, maybe_shrinks (is_word words.Mut) ts us mutable m, light us rest inner s)
+  form_light _ _ _ _ = omega arith
 
 plain_light : (n : ℕ) → Light (SpellsPlain n) plain_weight
 unfolding SpellsPlain

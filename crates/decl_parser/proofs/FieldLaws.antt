@@ -102,10 +102,8 @@ visibility_complete _ _ _ (public_in_path word opening within closing ts rest p 
     rw (p, o, i, run_complete until.Bracket ts (closing ∷ rest) run, c) refl
 
 visibility_within : (ts rest : List Placed) (x : Bool) → SpellsVisibility ts x rest → length rest ≤ length ts
-visibility_within _ _ _ (private ts n) = omega arith
-visibility_within _ _ _ (public word ts p n) = omega arith
-visibility_within _ _ _ (public_in_scope word opening scope closing rest p o i c) = omega arith
 visibility_within _ _ _ (public_in_path word opening within closing ts rest p o i run c) = omega (arith, run_shrinks until.Bracket ts (closing ∷ rest) run)
+visibility_within _ _ _ _ = omega arith
 
 pub visibilities : Within SpellsVisibility visibility_at
 visibilities = record { sound = visibility_sound; complete = visibility_complete; within = visibility_within }

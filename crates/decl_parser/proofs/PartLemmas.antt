@@ -37,15 +37,3 @@ gives_read {A = A} P read h view ts (Err stops_at.Syntax) f n = by_case (read ts
     by_case : (o : Read A) → read ts ≡ o → o ≡ None
     by_case None e = refl
     by_case (Some y) e = absurd (n y.0 y.1 (h.sound ts y e))
-
--- what a function promises that gives what is read
-pub reads_found : {A X : Type 0} (P : Spelling A) (read : List Placed → Read A) (h : Reads P read) (view : X → A × List Placed) (ts : List Placed) (r : Result X Stop)
-    → Gives view r (read ts) → IfOk r (λ x. P ts (view x).0 (view x).1)
-reads_found P read h view ts (Ok x) g = h.sound ts (view x) g
-reads_found P read h view ts (Err e) g = tt
-
-pub reads_none : {A X : Type 0} (P : Spelling A) (read : List Placed → Read A) (h : Reads P read) (view : X → A × List Placed) (ts : List Placed) (r : Result X Stop)
-    → Gives view r (read ts) → IfErr r (NoneSpelled P ts)
-reads_none P read h view ts (Ok x) g = tt
-reads_none P read h view ts (Err stops_at.Memory) g = tt
-reads_none P read h view ts (Err stops_at.Syntax) g = λ x rest p. let k = h.complete ts rest x p in absurd cc
