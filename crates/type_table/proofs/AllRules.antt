@@ -28,11 +28,20 @@ first_named items found first = first_that (named_twice_at items) (length items)
 abbrev NoneBroken : ℕ → ℕ → Type 0
 NoneBroken i rule = ⊥
 
-none_low : (i other : ℕ) → NoneBroken i other → other < 10
-none_low i other h = absurd h
+-- the least fault of the rules below this one
+record UpTo (broken : ℕ → ℕ → Type 0) (next : ℕ) (best : Option (ℕ × ℕ)) : Type 0 where
+  low : (i other : ℕ) → broken i other → other < next
+  least : LeastFault broken best
 
-none_least : LeastFault NoneBroken None
-none_least i rule h = h
+none_broken : UpTo NoneBroken 10 None
+none_broken = record { low = λ i other h. absurd h; least = λ i rule h. h }
+
+one_more : (broken : ℕ → ℕ → Type 0) (rule next : ℕ) (P : ℕ → Type 0) (best : Option (ℕ × ℕ)) (found : Option ℕ) → rule < next →
+    UpTo broken rule best → FirstThat P found → UpTo (WithRule broken rule P) next (earlier best rule found)
+one_more broken rule next P best found lt before first = record {
+  low = low_more broken rule next P lt before.low;
+  least = least_more broken rule P best found before.low before.least first;
+}
 
 module _ (items : List ItemTree) (width : Width) where
   abbrev To10 : ℕ → ℕ → Type 0
@@ -68,36 +77,6 @@ module _ (items : List ItemTree) (width : Width) where
   abbrev To36 : ℕ → ℕ → Type 0
   To36 = WithRule To19 36 (IsEndless (program_of items width))
 
-  low10 : (i other : ℕ) → To10 i other → other < 11
-  low10 = low_more NoneBroken 10 11 (λ i. named_twice_at items i ≡ true) (omega arith) none_low
-
-  low11 : (i other : ℕ) → To11 i other → other < 12
-  low11 = low_more To10 11 12 (λ i. breaks_at item_rules.VariantTwice items i ≡ true) (omega arith) low10
-
-  low12 : (i other : ℕ) → To12 i other → other < 13
-  low12 = low_more To11 12 13 (λ i. breaks_at item_rules.FieldTwice items i ≡ true) (omega arith) low11
-
-  low13 : (i other : ℕ) → To13 i other → other < 14
-  low13 = low_more To12 13 14 (λ i. breaks_at (item_rules.Written type_rules.UnknownType) items i ≡ true) (omega arith) low12
-
-  low14 : (i other : ℕ) → To14 i other → other < 15
-  low14 = low_more To13 14 15 (λ i. breaks_at (item_rules.Written type_rules.SizelessPlace) items i ≡ true) (omega arith) low13
-
-  low15 : (i other : ℕ) → To15 i other → other < 16
-  low15 = low_more To14 15 16 (ContainsItself (program_of items width)) (omega arith) low14
-
-  low16 : (i other : ℕ) → To16 i other → other < 17
-  low16 = low_more To15 16 17 (λ i. breaks_at (item_rules.Written type_rules.ArrayLength) items i ≡ true) (omega arith) low15
-
-  low17 : (i other : ℕ) → To17 i other → other < 18
-  low17 = low_more To16 17 18 (λ i. breaks_at (item_rules.Written type_rules.ArgumentCount) items i ≡ true) (omega arith) low16
-
-  low18 : (i other : ℕ) → To18 i other → other < 19
-  low18 = low_more To17 18 19 (λ i. breaks_at item_rules.BadUse items i ≡ true) (omega arith) low17
-
-  low19 : (i other : ℕ) → To19 i other → other < 36
-  low19 = low_more To18 19 36 (λ i. breaks_at item_rules.UnsupportedAttribute items i ≡ true) (omega arith) low18
-
   pub all_rules : (f10 : Option ℕ) (f11 : Option ℕ) (f12 : Option ℕ) (f13 : Option ℕ) (f14 : Option ℕ) (f15 : Option ℕ) (f16 : Option ℕ) (f17 : Option ℕ) (f18 : Option ℕ) (f19 : Option ℕ) (f36 : Option ℕ) →
       FirstThat (λ i. named_twice_at items i ≡ true) f10 →
       FirstThat (λ i. breaks_at item_rules.VariantTwice items i ≡ true) f11 →
@@ -112,17 +91,17 @@ module _ (items : List ItemTree) (width : Width) where
       FirstThat (IsEndless (program_of items width)) f36 →
       LeastFault To36 (earlier (earlier (earlier (earlier (earlier (earlier (earlier (earlier (earlier (earlier (earlier None 10 f10) 11 f11) 12 f12) 13 f13) 14 f14) 15 f15) 16 f16) 17 f17) 18 f18) 19 f19) 36 f36)
   all_rules f10 f11 f12 f13 f14 f15 f16 f17 f18 f19 f36 h10 h11 h12 h13 h14 h15 h16 h17 h18 h19 h36 =
-      let l10 = least_more NoneBroken 10 (λ i. named_twice_at items i ≡ true) None f10 none_low none_least h10 in
-      let l11 = least_more To10 11 (λ i. breaks_at item_rules.VariantTwice items i ≡ true) (earlier None 10 f10) f11 low10 l10 h11 in
-      let l12 = least_more To11 12 (λ i. breaks_at item_rules.FieldTwice items i ≡ true) (earlier (earlier None 10 f10) 11 f11) f12 low11 l11 h12 in
-      let l13 = least_more To12 13 (λ i. breaks_at (item_rules.Written type_rules.UnknownType) items i ≡ true) (earlier (earlier (earlier None 10 f10) 11 f11) 12 f12) f13 low12 l12 h13 in
-      let l14 = least_more To13 14 (λ i. breaks_at (item_rules.Written type_rules.SizelessPlace) items i ≡ true) (earlier (earlier (earlier (earlier None 10 f10) 11 f11) 12 f12) 13 f13) f14 low13 l13 h14 in
-      let l15 = least_more To14 15 (ContainsItself (program_of items width)) (earlier (earlier (earlier (earlier (earlier None 10 f10) 11 f11) 12 f12) 13 f13) 14 f14) f15 low14 l14 h15 in
-      let l16 = least_more To15 16 (λ i. breaks_at (item_rules.Written type_rules.ArrayLength) items i ≡ true) (earlier (earlier (earlier (earlier (earlier (earlier None 10 f10) 11 f11) 12 f12) 13 f13) 14 f14) 15 f15) f16 low15 l15 h16 in
-      let l17 = least_more To16 17 (λ i. breaks_at (item_rules.Written type_rules.ArgumentCount) items i ≡ true) (earlier (earlier (earlier (earlier (earlier (earlier (earlier None 10 f10) 11 f11) 12 f12) 13 f13) 14 f14) 15 f15) 16 f16) f17 low16 l16 h17 in
-      let l18 = least_more To17 18 (λ i. breaks_at item_rules.BadUse items i ≡ true) (earlier (earlier (earlier (earlier (earlier (earlier (earlier (earlier None 10 f10) 11 f11) 12 f12) 13 f13) 14 f14) 15 f15) 16 f16) 17 f17) f18 low17 l17 h18 in
-      let l19 = least_more To18 19 (λ i. breaks_at item_rules.UnsupportedAttribute items i ≡ true) (earlier (earlier (earlier (earlier (earlier (earlier (earlier (earlier (earlier None 10 f10) 11 f11) 12 f12) 13 f13) 14 f14) 15 f15) 16 f16) 17 f17) 18 f18) f19 low18 l18 h19 in
-      least_more To19 36 (IsEndless (program_of items width)) (earlier (earlier (earlier (earlier (earlier (earlier (earlier (earlier (earlier (earlier None 10 f10) 11 f11) 12 f12) 13 f13) 14 f14) 15 f15) 16 f16) 17 f17) 18 f18) 19 f19) f36 low19 l19 h36
+      let l10 = one_more NoneBroken 10 11 (λ i. named_twice_at items i ≡ true) None f10 (omega arith) none_broken h10 in
+      let l11 = one_more To10 11 12 (λ i. breaks_at item_rules.VariantTwice items i ≡ true) (earlier None 10 f10) f11 (omega arith) l10 h11 in
+      let l12 = one_more To11 12 13 (λ i. breaks_at item_rules.FieldTwice items i ≡ true) (earlier (earlier None 10 f10) 11 f11) f12 (omega arith) l11 h12 in
+      let l13 = one_more To12 13 14 (λ i. breaks_at (item_rules.Written type_rules.UnknownType) items i ≡ true) (earlier (earlier (earlier None 10 f10) 11 f11) 12 f12) f13 (omega arith) l12 h13 in
+      let l14 = one_more To13 14 15 (λ i. breaks_at (item_rules.Written type_rules.SizelessPlace) items i ≡ true) (earlier (earlier (earlier (earlier None 10 f10) 11 f11) 12 f12) 13 f13) f14 (omega arith) l13 h14 in
+      let l15 = one_more To14 15 16 (ContainsItself (program_of items width)) (earlier (earlier (earlier (earlier (earlier None 10 f10) 11 f11) 12 f12) 13 f13) 14 f14) f15 (omega arith) l14 h15 in
+      let l16 = one_more To15 16 17 (λ i. breaks_at (item_rules.Written type_rules.ArrayLength) items i ≡ true) (earlier (earlier (earlier (earlier (earlier (earlier None 10 f10) 11 f11) 12 f12) 13 f13) 14 f14) 15 f15) f16 (omega arith) l15 h16 in
+      let l17 = one_more To16 17 18 (λ i. breaks_at (item_rules.Written type_rules.ArgumentCount) items i ≡ true) (earlier (earlier (earlier (earlier (earlier (earlier (earlier None 10 f10) 11 f11) 12 f12) 13 f13) 14 f14) 15 f15) 16 f16) f17 (omega arith) l16 h17 in
+      let l18 = one_more To17 18 19 (λ i. breaks_at item_rules.BadUse items i ≡ true) (earlier (earlier (earlier (earlier (earlier (earlier (earlier (earlier None 10 f10) 11 f11) 12 f12) 13 f13) 14 f14) 15 f15) 16 f16) 17 f17) f18 (omega arith) l17 h18 in
+      let l19 = one_more To18 19 36 (λ i. breaks_at item_rules.UnsupportedAttribute items i ≡ true) (earlier (earlier (earlier (earlier (earlier (earlier (earlier (earlier (earlier None 10 f10) 11 f11) 12 f12) 13 f13) 14 f14) 15 f15) 16 f16) 17 f17) 18 f18) f19 (omega arith) l18 h19 in
+      least_more To19 36 (IsEndless (program_of items width)) (earlier (earlier (earlier (earlier (earlier (earlier (earlier (earlier (earlier (earlier None 10 f10) 11 f11) 12 f12) 13 f13) 14 f14) 15 f15) 16 f16) 17 f17) 18 f18) 19 f19) f36 l19.low l19.least h36
 
   to_breaks : (i rule : ℕ) → To36 i rule → Breaks items width i rule
   to_breaks i rule (inr p) = endless_type p.0 p.1

@@ -2,8 +2,8 @@
 use Rattle.std.proofs.Common.{◌≡◌, ℕ, ◌+◌, ◌-◌, ◌<◌, ◌≤◌, Bool, true, false, not, ◌&&◌, ◌||◌, cond, List, [], ◌∷◌, map, length, Some, refl, sym, ap, ◌∙◌, suc, zero, arith}
 use Rattle.std.specs.Prelude.{slice_get, nat_lt, nat_eq}
 use Rattle.std.specs.List.{list_all, list_any}
-use Rattle.std.proofs.lemmas.Bool.{ltb-true, and_parts, or_left, or_right}
-use Rattle.match_model.specs.Types.{MType, MTypes, no_types, more_types, types_of, DeclaredItem, OptionOwner, ResultOwner, BoolType, CharType, StrType, NeverType, IntType, OpaqueType, TupleType, PointType, SliceType, ArrayType, NamedType}
+use Rattle.std.proofs.lemmas.Bool.{ltb-true, and_parts, or_left, or_right, lt-ltb, le-ltb, eqb-true}
+use Rattle.match_model.specs.Types.{MType, MTypes, no_types, more_types, types_of, DeclaredItem, ResultOwner, NeverType, TupleType, PointType, ArrayType, NamedType}
 use Rattle.match_model.specs.Declarations.{form_types}
 use Rattle.match_model.specs.Emptiness.{mark_of}
 use Rattle.type_names.specs.declared.meanings.Base.TheVariants as bases
@@ -20,7 +20,6 @@ use Rattle.type_table.specs.Nodes.{head_type, type_at, first_type, fits_head, ar
 use Rattle.type_table.specs.Entries.{field_entry, variant_entry, entry_told, form_with, field_below, variant_below, entry_below}
 use Rattle.type_table.specs.Bodies.{node_atoms, each_alone, outright, base_bodies, point_bodies, array_bodies, item_bodies, node_bodies, form_atoms, variant_body, enum_bodies, entry_bodies}
 use Rattle.type_table.specs.Possible.{may_be, may_all_be, may_some_be, is_unseen, item_may_be}
-use Rattle.type_table.proofs.KindLemmas.{count_is}
 
 -- all atoms of one of the bodies hold
 abbrev pub some_body : (ℕ → Bool) → List (List ℕ) → Bool
@@ -30,21 +29,15 @@ some_body f bodies = list_any (list_all f) bodies
 abbrev pub atom_says : (sure : Bool) → (count : ℕ) → (marks : List Bool) → (types : List MType) → ℕ → Bool
 atom_says sure count marks types a = cond (nat_lt a count) (mark_of (slice_get marks a)) (may_be sure marks (type_at types (a - count)))
 
-pub lower : (a n : ℕ) → a < n → nat_lt a n ≡ true
-lower a n lt = grind arith
-
-higher : (a n : ℕ) → n ≤ a → nat_lt a n ≡ false
-higher a n le = grind arith
-
 pub item_says : (sure : Bool) (count : ℕ) (marks : List Bool) (types : List MType) (a : ℕ) → a < count → atom_says sure count marks types a ≡ mark_of (slice_get marks a)
-item_says sure count marks types a lt = by (nat_lt a count) (lower a count lt)
+item_says sure count marks types a lt = by (nat_lt a count) (lt-ltb a count lt)
   where
     by : (b : Bool) → b ≡ true → cond b (mark_of (slice_get marks a)) (may_be sure marks (type_at types (a - count))) ≡ mark_of (slice_get marks a)
     by true e = refl
     by false e = absurd cc
 
 pub node_says : (sure : Bool) (count : ℕ) (marks : List Bool) (types : List MType) (n : ℕ) → atom_says sure count marks types (count + n) ≡ may_be sure marks (type_at types n)
-node_says sure count marks types n = by (nat_lt (count + n) count) (higher (count + n) count (omega arith))
+node_says sure count marks types n = by (nat_lt (count + n) count) (le-ltb (count + n) count (omega arith))
   where
     back : (count + n) - count ≡ n
     back = omega arith
@@ -74,11 +67,11 @@ module _ (sure : Bool) (count : ℕ) (marks : List Bool) (types : List MType) wh
   some_part_says (p ∷ ps) = rw (node_says sure count marks types p, some_part_says ps, ← and_all (may_be sure marks (type_at types p))) refl
 
   one_says : (parts : List ℕ) → nat_eq (length parts) 1 ≡ true → may_be sure marks (first_type (map (type_at types) parts)) ≡ some_body Says (node_atoms count parts ∷ [])
-  one_says [] fits = let e : length no_parts ≡ 1 = count_is (length no_parts) 1 fits in absurd (omega arith)
+  one_says [] fits = let e : length no_parts ≡ 1 = eqb-true (length no_parts) 1 fits in absurd (omega arith)
     where
       no_parts : List ℕ
       no_parts = []
-  one_says (p ∷ q ∷ ps) fits = let e : length (p ∷ q ∷ ps) ≡ 1 = count_is (length (p ∷ q ∷ ps)) 1 fits in absurd (omega arith)
+  one_says (p ∷ q ∷ ps) fits = let e : length (p ∷ q ∷ ps) ≡ 1 = eqb-true (length (p ∷ q ∷ ps)) 1 fits in absurd (omega arith)
   one_says (p ∷ []) fits = sym (node_says sure count marks types p) ∙ (and_all (Says (count + p)) ∙ or_none (Says (count + p) && true))
 
   array_says : (n : ℕ) (b : Bool) (atoms : List ℕ) → b ≡ some_body Says (atoms ∷ []) → (nat_eq n 0 || b) ≡ some_body Says (array_bodies n atoms)
@@ -117,30 +110,13 @@ module _ (sure : Bool) (count : ℕ) (marks : List Bool) (types : List MType) wh
   -- a node's type has a value where all atoms of one of its bodies say so
   pub node_is : (h : Head) (parts : List ℕ) → fits_head h (length parts) ≡ true → length marks ≡ count →
       may_be sure marks (head_type h (map (type_at types) parts)) ≡ some_body Says (node_bodies sure count h parts)
-  node_is (heads.Base bases.Bool) parts fits len = refl
-  node_is (heads.Base bases.Char) parts fits len = refl
-  node_is (heads.Base bases.Str) parts fits len = refl
   node_is (heads.Base bases.Never) parts fits len = never_says sure
-  node_is (heads.Base bases.U8) parts fits len = refl
-  node_is (heads.Base bases.U16) parts fits len = refl
-  node_is (heads.Base bases.U32) parts fits len = refl
-  node_is (heads.Base bases.U64) parts fits len = refl
-  node_is (heads.Base bases.U128) parts fits len = refl
-  node_is (heads.Base bases.USize) parts fits len = refl
-  node_is (heads.Base bases.I8) parts fits len = refl
-  node_is (heads.Base bases.I16) parts fits len = refl
-  node_is (heads.Base bases.I32) parts fits len = refl
-  node_is (heads.Base bases.I64) parts fits len = refl
-  node_is (heads.Base bases.I128) parts fits len = refl
-  node_is (heads.Base bases.ISize) parts fits len = refl
-  node_is (heads.Opaque o) parts fits len = refl
   node_is heads.Tuple parts fits len = parts_say parts ∙ or_none (list_all Says (node_atoms count parts))
   node_is (heads.Point mutable) parts fits len = point_says sure (may_be sure marks (first_type (map (type_at types) parts))) (node_atoms count parts) (one_says parts fits)
-  node_is heads.Slice parts fits len = refl
   node_is (heads.Array n) parts fits len = array_says n (may_be sure marks (first_type (map (type_at types) parts))) (node_atoms count parts) (one_says parts fits)
   node_is (heads.Named (owners.Item i)) parts fits len = item_node_says i len
-  node_is (heads.Named owners.Option) parts fits len = refl
   node_is (heads.Named owners.Result) parts fits len = some_part_says parts
+  node_is _ parts fits len = refl
 
   tuple_says : (fs : List FieldEntry) → may_all_be sure marks (types_of (map (λ f. f.type) (map (field_entry types) fs))) ≡ list_all Says (node_atoms count (map (λ f. f.ty) fs))
   tuple_says [] = refl
@@ -149,8 +125,7 @@ module _ (sure : Bool) (count : ℕ) (marks : List Bool) (types : List MType) wh
   fields_say : (k : FormKind) (fs : List FieldEntry) →
       may_all_be sure marks (form_types (form_with k (map (field_entry types) fs))) ≡ list_all Says (form_atoms k (node_atoms count (map (λ f. f.ty) fs)))
   fields_say form_kinds.Unit fs = refl
-  fields_say form_kinds.Tuple fs = tuple_says fs
-  fields_say form_kinds.Brace fs = tuple_says fs
+  fields_say _ fs = tuple_says fs
 
   variants_say : (vs : List VariantEntry) → list_any (λ v. may_all_be sure marks (form_types v.form)) (map (variant_entry types) vs) ≡ some_body Says (map (variant_body count) vs)
   variants_say [] = refl
@@ -166,10 +141,8 @@ module _ (sure : Bool) (count : ℕ) (marks : List Bool) (types : List MType) wh
   -- an item has a value where all atoms of one of its bodies say so
   pub item_is : (e : Entry) → item_may_be sure marks (Some (entry_told types e).item) ≡ some_body Says (entry_bodies sure count e)
   item_is (entries.Struct id v) = fields_say v.form v.fields.items ∙ or_none (list_all Says (variant_body count v))
-  item_is (entries.Enum id name true variants) = refl
   item_is (entries.Enum id name false variants) = enum_says sure variants.items _ (variants_say variants.items)
-  item_is (entries.Function param deref) = refl
-  item_is entries.Import = refl
+  item_is _ = refl
 
 or_more : (a b c : Bool) → (b ≡ true → c ≡ true) → (a || b) ≡ true → (a || c) ≡ true
 or_more true b c f h = refl
@@ -186,19 +159,13 @@ some_more false b c d f g h = or_right c d (g h)
 module _ (sure : Bool) (old new : List Bool) (more : (j : ℕ) → mark_of (slice_get old j) ≡ true → mark_of (slice_get new j) ≡ true) where
   mutual
     pub may_still : (t : MType) → may_be sure old t ≡ true → may_be sure new t ≡ true
-    may_still BoolType h = refl
-    may_still CharType h = refl
-    may_still StrType h = refl
     may_still NeverType h = h
-    may_still (IntType kind) h = refl
-    may_still (OpaqueType o args) h = refl
     may_still (TupleType ts) h = all_still ts h
     may_still (PointType mutable t) h = or_more sure (may_be sure old t) (may_be sure new t) (may_still t) h
-    may_still (SliceType t) h = refl
     may_still (ArrayType t n) h = or_more (nat_eq n 0) (may_be sure old t) (may_be sure new t) (may_still t) h
     may_still (NamedType (DeclaredItem i) args) h = more i h
-    may_still (NamedType OptionOwner args) h = refl
     may_still (NamedType ResultOwner args) h = some_still args h
+    may_still _ h = refl
 
     all_still : (ts : MTypes) → may_all_be sure old ts ≡ true → may_all_be sure new ts ≡ true
     all_still no_types h = refl
@@ -235,7 +202,7 @@ within_parts count n [] h = refl
 within_parts count n (p ∷ ps) h =
     let halves = and_parts (nat_lt p n) (are_below ps n) h in
     let lt : p < n = ltb-true p n halves.0 in
-    rw (lower (count + p) (count + n) (omega arith), within_parts count n ps halves.1) refl
+    rw (lt-ltb (count + p) (count + n) (omega arith), within_parts count n ps halves.1) refl
 
 within_each : (w : ℕ → Bool) (atoms : List ℕ) → list_all w atoms ≡ true → list_all (list_all w) (each_alone atoms) ≡ true
 within_each w [] h = refl
@@ -253,15 +220,12 @@ node_within sure count n (heads.Base bases.Never) parts below = by sure
     by : (s : Bool) → list_all (list_all (λ a. nat_lt a (count + n))) (base_bodies s bases.Never) ≡ true
     by true = refl
     by false = refl
-node_within sure count n (heads.Base _) parts below = refl
-node_within sure count n (heads.Opaque o) parts below = refl
 node_within sure count n heads.Tuple parts below = within_one (λ a. nat_lt a (count + n)) (node_atoms count parts) (within_parts count n parts below)
 node_within sure count n (heads.Point mutable) parts below = by sure
   where
     by : (s : Bool) → list_all (list_all (λ a. nat_lt a (count + n))) (point_bodies s (node_atoms count parts)) ≡ true
     by true = refl
     by false = within_one (λ a. nat_lt a (count + n)) (node_atoms count parts) (within_parts count n parts below)
-node_within sure count n heads.Slice parts below = refl
 node_within sure count n (heads.Array len) parts below = by (nat_eq len 0)
   where
     by : (b : Bool) → list_all (list_all (λ a. nat_lt a (count + n))) (cond b outright (node_atoms count parts ∷ [])) ≡ true
@@ -271,21 +235,20 @@ node_within sure count n (heads.Named (owners.Item i)) parts below = by (nat_lt 
   where
     by : (b : Bool) → nat_lt i count ≡ b → list_all (list_all (λ a. nat_lt a (count + n))) (cond b ((i ∷ []) ∷ []) []) ≡ true
     by false e = refl
-    by true e = let lt : i < count = ltb-true i count e in rw (lower i (count + n) (omega arith)) refl
-node_within sure count n (heads.Named owners.Option) parts below = refl
+    by true e = let lt : i < count = ltb-true i count e in rw (lt-ltb i (count + n) (omega arith)) refl
 node_within sure count n (heads.Named owners.Result) parts below = within_each (λ a. nat_lt a (count + n)) (node_atoms count parts) (within_parts count n parts below)
+node_within sure count n _ parts below = refl
 
 within_fields : (count n : ℕ) (fs : List FieldEntry) → list_all (field_below n) fs ≡ true → list_all (λ a. nat_lt a (count + n)) (node_atoms count (map (λ f. f.ty) fs)) ≡ true
 within_fields count n [] h = refl
 within_fields count n (f ∷ fs) h =
     let halves = and_parts (nat_lt f.ty n) (list_all (field_below n) fs) h in
     let lt : f.ty < n = ltb-true f.ty n halves.0 in
-    rw (lower (count + f.ty) (count + n) (omega arith), within_fields count n fs halves.1) refl
+    rw (lt-ltb (count + f.ty) (count + n) (omega arith), within_fields count n fs halves.1) refl
 
 within_form : (k : FormKind) (w : ℕ → Bool) (atoms : List ℕ) → list_all w atoms ≡ true → list_all w (form_atoms k atoms) ≡ true
 within_form form_kinds.Unit w atoms h = refl
-within_form form_kinds.Tuple w atoms h = h
-within_form form_kinds.Brace w atoms h = h
+within_form _ w atoms h = h
 
 pub within_variant : (count n : ℕ) (v : VariantEntry) → variant_below n v ≡ true → list_all (λ a. nat_lt a (count + n)) (variant_body count v) ≡ true
 within_variant count n v h = within_form v.form (λ a. nat_lt a (count + n)) (node_atoms count (map (λ f. f.ty) v.fields.items)) (within_fields count n v.fields.items h)
@@ -308,5 +271,4 @@ entry_within sure count n (entries.Struct id v) h =
 entry_within sure count n (entries.Enum id name later variants) h =
     within_enum sure later (list_all (λ a. nat_lt a (count + n))) (map (variant_body count) variants.items) refl
     (within_variants count n variants.items (and_parts (nat_lt id n) (list_all (variant_below n) variants.items) h).1)
-entry_within sure count n (entries.Function param deref) h = refl
-entry_within sure count n entries.Import h = refl
+entry_within sure count n _ h = refl

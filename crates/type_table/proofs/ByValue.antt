@@ -2,10 +2,10 @@
 use Rattle.std.proofs.Common.{◌≡◌, ◌⊎◌, inl, inr, ⊎_elim, ℕ, ◌+◌, ◌-◌, ◌<◌, ◌≤◌, Bool, true, false, cond, List, [], ◌∷◌, ◌++◌, map, length, Option, Some, None, refl, sym, ap, subst, ◌∙◌, suc, zero, arith, get_or}
 use Rattle.std.specs.Prelude.{slice_get, nat_lt, nat_eq, option_map, IfSome, IsNone, is_some}
 use Rattle.std.specs.List.{Contains}
-use Rattle.std.proofs.lemmas.Bool.{ltb-true, cases_lt}
+use Rattle.std.proofs.lemmas.Bool.{ltb-true, cases_lt, lt-ltb, le-ltb, eqb-true}
 use Rattle.std.proofs.lemmas.List.{append-nil, length-map, get_or_past, get_or_append_left, get_or-append-add}
 use Rattle.std.proofs.lemmas.List.Elements.{Contains-append_left, Contains-append_right, Contains-append_cases}
-use Rattle.std.proofs.lemmas.Option.{slice_get-map, slice_get_past, get_or_from_slice_get}
+use Rattle.std.proofs.lemmas.Option.{slice_get-map, slice_get_past, get_or_from_slice_get, slice_get_read}
 use Rattle.match_model.specs.declared.Width.{Width}
 use Rattle.match_model.specs.Types.{MType, MTypes, no_types, types_list, types_of, DeclaredItem, OptionOwner, ResultOwner, NeverType, TupleType, ArrayType, NamedType}
 use Rattle.match_model.specs.Declarations.{MVariant, MItem, MProgram, node_types, item_types, item_variants, variant_types}
@@ -33,21 +33,15 @@ use Rattle.type_table.specs.Possible.{program_in}
 use Rattle.type_table.specs.Readings.{tuple_part, option_part, result_part, part_type}
 use Rattle.type_table.specs.Readers.{type_owner}
 use Rattle.type_table.specs.Tables.{part_of, field_type, field_number, number_with}
-use Rattle.type_table.proofs.NodeLemmas.{type_of_node, get_below, count_types}
-use Rattle.type_table.proofs.KindLemmas.{count_is}
+use Rattle.type_table.proofs.NodeLemmas.{type_of_node, get_below, count_types, item_at, map_has}
 use Rattle.type_table.proofs.FieldLemmas.{base_field, base_owner, tuple_field, option_field, result_field, entry_field}
-use Rattle.type_table.proofs.Clauses.{get_there}
-use Rattle.type_table.proofs.BodyLemmas.{lower}
-
-higher : (a n : ℕ) → n ≤ a → nat_lt a n ≡ false
-higher a n le = grind arith
 
 -- a place of the list has it
 abbrev At : {A : Type 0} → List A → A → Type 0
 At xs x = (k : ℕ) × (slice_get xs k ≡ Some x)
 
 at_of : {A : Type 0} (xs : List A) (x : A) → Contains xs x → At xs x
-at_of xs x h = (h.0, get_there xs h.0 x h.1 (sym h.2))
+at_of xs x h = (h.0, slice_get_read xs (length xs) h.0 x refl h.1 (sym h.2))
 
 contains_of : {A : Type 0} (xs : List A) (x : A) → At xs x → Contains xs x
 contains_of xs x h = (h.0, get_below xs h.0 x h.1, get_or_from_slice_get xs h.0 x x h.1)
@@ -65,9 +59,6 @@ mapped {A} {B} f xs k y h = by (slice_get xs k) refl (sym (slice_get-map f xs k)
     by : (o : Option A) → slice_get xs k ≡ o → option_map f o ≡ Some y → (x : A) × (slice_get xs k ≡ Some x) × (f x ≡ y)
     by None e g = absurd cc
     by (Some x) e g = (x, e, cc)
-
-pub map_has : {A B : Type 0} (f : A → B) (xs : List A) (k : ℕ) (x : A) → slice_get xs k ≡ Some x → slice_get (map f xs) k ≡ Some (f x)
-map_has f xs k x h = slice_get-map f xs k ∙ ap (option_map f) h
 
 -- a type has another by value exactly as the item of an array or as a field of one of its variants
 abbrev FieldOf : MProgram → MType → MType → Type 0
@@ -134,27 +125,21 @@ module _ (count : ℕ) (v : VariantEntry) where
 
       by : (k : FormKind) → number_with k (option_map (λ f. f.ty) (slice_get v.fields.items i)) ≡ Some p → At (form_atoms k (node_atoms count (map (λ f. f.ty) v.fields.items))) (count + p)
       by form_kinds.Unit g = absurd cc
-      by form_kinds.Tuple g = node_atom count (map (λ f. f.ty) v.fields.items) p (number (slice_get v.fields.items i) refl g)
-      by form_kinds.Brace g = node_atom count (map (λ f. f.ty) v.fields.items) p (number (slice_get v.fields.items i) refl g)
+      by _ g = node_atom count (map (λ f. f.ty) v.fields.items) p (number (slice_get v.fields.items i) refl g)
 
 -- the variants of an entry
 abbrev entry_variants : Entry → List VariantEntry
 entry_variants (entry_kinds.Struct id variant) = variant ∷ []
 entry_variants (entry_kinds.Enum id name later variants) = variants.items
-entry_variants (entry_kinds.Function param deref) = []
-entry_variants entry_kinds.Import = []
+entry_variants _ = []
 
 variants_told : (types : List MType) (e : Entry) → item_variants (Some (entry_told types e).item) ≡ map (variant_entry types) (entry_variants e)
 variants_told types (entry_kinds.Struct id variant) = refl
-variants_told types (entry_kinds.Enum id name later variants) = refl
-variants_told types (entry_kinds.Function param deref) = refl
-variants_told types entry_kinds.Import = refl
+variants_told types _ = refl
 
 entry_edges_are : (count : ℕ) (e : Entry) → entry_edges count e ≡ variants_edges count (entry_variants e)
 entry_edges_are count (entry_kinds.Struct id variant) = sym (append-nil (variant_body count variant))
-entry_edges_are count (entry_kinds.Enum id name later variants) = refl
-entry_edges_are count (entry_kinds.Function param deref) = refl
-entry_edges_are count entry_kinds.Import = refl
+entry_edges_are count _ = refl
 
 variants_edge : (count : ℕ) (vs : List VariantEntry) (b : ℕ) → Contains (variants_edges count vs) b → (k : ℕ) × (v : VariantEntry) × (slice_get vs k ≡ Some v) × FieldNode count v b
 variants_edge count [] b h = absurd (none_in b h)
@@ -211,27 +196,12 @@ array_item _ = None
 
 base_array : (b : Base) → None ≡ array_item (base_view b)
 base_array bases.Bool = refl
-base_array bases.Char = refl
-base_array bases.Str = refl
-base_array bases.Never = refl
-base_array bases.U8 = refl
-base_array bases.U16 = refl
-base_array bases.U32 = refl
-base_array bases.U64 = refl
-base_array bases.U128 = refl
-base_array bases.USize = refl
-base_array bases.I8 = refl
-base_array bases.I16 = refl
-base_array bases.I32 = refl
-base_array bases.I64 = refl
-base_array bases.I128 = refl
-base_array bases.ISize = refl
+base_array _ = refl
 
 -- the only part
 one_part : (parts : List ℕ) → length parts ≡ 1 → (p : ℕ) × (parts ≡ p ∷ [])
-one_part [] e = absurd (omega (arith, e))
 one_part (p ∷ []) e = (p, refl)
-one_part (p ∷ q ∷ ps) e = absurd (omega (arith, e))
+one_part _ e = absurd (omega (arith, e))
 
 only_at : {A : Type 0} (x y : A) → At (x ∷ []) y → x ≡ y
 only_at x y (zero, h) = cc
@@ -242,7 +212,7 @@ module _ (program : MProgram) (count : ℕ) (types : List MType) where
   parts_types parts = map (type_at types) parts
 
   count_types_of : (parts : List ℕ) (n : ℕ) → nat_eq (length parts) n ≡ true → length (parts_types parts) ≡ n
-  count_types_of parts n fits = length-map _ _ ∙ count_is (length parts) n fits
+  count_types_of parts n fits = length-map _ _ ∙ eqb-true (length parts) n fits
 
   -- where a node has another node by value
   abbrev NodeHas : Head → List ℕ → ℕ → Type 0
@@ -260,15 +230,13 @@ module _ (program : MProgram) (count : ℕ) (types : List MType) where
       by false e c = absurd (none_in b c)
 
   edge_item : (i : ℕ) → i < count → Contains (item_edges count i) i
-  edge_item i lt = by (nat_lt i count) (lower i count lt)
+  edge_item i lt = by (nat_lt i count) (lt-ltb i count lt)
     where
       by : (t : Bool) → t ≡ true → Contains (cond t (i ∷ []) []) i
       by true e = contains_of (i ∷ []) i (0, refl)
       by false e = absurd cc
 
   node_edge : (h : Head) (parts : List ℕ) → fits_head h (length parts) ≡ true → (b : ℕ) → Contains (node_edges count h parts) b → NodeHas h parts b ⊎ NodeNames h b
-  node_edge (heads.Base x) parts fits b c = absurd (none_in b c)
-  node_edge (heads.Opaque o) parts fits b c = absurd (none_in b c)
   node_edge heads.Tuple parts fits b c =
       let m = atom_node count types parts b (at_of (node_atoms count parts) b c) in
       inl (
@@ -277,11 +245,9 @@ module _ (program : MProgram) (count : ℕ) (types : List MType) where
         has_field program (TupleType (types_of (parts_types parts))) (type_at types m.0)
             (0, m.2.0, sym (tuple_field program (parts_types parts) 0 m.2.0) ∙ map_has (type_at types) parts m.2.0 m.0 m.2.1),
       )
-  node_edge (heads.Point mutable) parts fits b c = absurd (none_in b c)
-  node_edge heads.Slice parts fits b c = absurd (none_in b c)
   node_edge (heads.Array n) parts fits b c =
       let m = atom_node count types parts b (at_of (node_atoms count parts) b c) in
-      let one = one_part parts (count_is (length parts) 1 fits) in
+      let one = one_part parts (eqb-true (length parts) 1 fits) in
       let same : one.0 ≡ m.0 = only_at one.0 m.0 (subst (λ (ps : List ℕ). At ps m.0) one.1 m.2) in
       inl (
         m.0,
@@ -292,7 +258,7 @@ module _ (program : MProgram) (count : ℕ) (types : List MType) where
   node_edge (heads.Named (owners.Item i)) parts fits b c = let e = item_edge i b c in inr (ap (λ (j : ℕ). heads.Named (owners.Item j)) e.0, e.1)
   node_edge (heads.Named owners.Option) parts fits b c =
       let m = atom_node count types parts b (at_of (node_atoms count parts) b c) in
-      let long : length parts ≡ 1 = count_is (length parts) 1 fits in
+      let long : length parts ≡ 1 = eqb-true (length parts) 1 fits in
       let within : m.2.0 < length parts = get_below parts m.2.0 m.0 m.2.1 in
       let first : m.2.0 ≡ 0 = omega arith in
       inl (
@@ -307,9 +273,9 @@ module _ (program : MProgram) (count : ℕ) (types : List MType) where
       )
   node_edge (heads.Named owners.Result) parts fits b c =
       let m = atom_node count types parts b (at_of (node_atoms count parts) b c) in
-      let long : length parts ≡ 2 = count_is (length parts) 2 fits in
+      let long : length parts ≡ 2 = eqb-true (length parts) 2 fits in
       let within : m.2.0 < length parts = get_below parts m.2.0 m.0 m.2.1 in
-      let two : nat_lt m.2.0 2 ≡ true = lower m.2.0 2 (omega arith) in
+      let two : nat_lt m.2.0 2 ≡ true = lt-ltb m.2.0 2 (omega arith) in
       inl (
         m.0,
         m.1,
@@ -323,6 +289,7 @@ module _ (program : MProgram) (count : ℕ) (types : List MType) where
     where
       argument : (k : ℕ) → nat_lt k 2 ≡ true → result_part k 0 ≡ Some k
       argument k e = rw e refl
+  node_edge _ parts fits b c = absurd (none_in b c)
 
   -- an edge to the node of a type
   abbrev EdgeTo : Head → List ℕ → MType → Type 0
@@ -336,12 +303,8 @@ module _ (program : MProgram) (count : ℕ) (types : List MType) where
   field_edge_of : (h : Head) (parts : List ℕ) → fits_head h (length parts) ≡ true → (k i : ℕ) (u : MType) → field_type program (head_type h (parts_types parts)) k i ≡ Some u →
       EdgeTo h parts u ⊎ ((j : ℕ) × (h ≡ heads.Named (owners.Item j)))
   field_edge_of (heads.Base b) parts fits k i u f = let e : None ≡ Some u = base_field program b k i ∙ f in absurd cc
-  field_edge_of (heads.Opaque o) parts fits k i u f = absurd cc
   field_edge_of heads.Tuple parts fits k i u f =
       inl (to_part heads.Tuple parts u refl (part_there (parts_types parts) (tuple_part k i) u (tuple_field program (parts_types parts) k i ∙ f)))
-  field_edge_of (heads.Point mutable) parts fits k i u f = absurd cc
-  field_edge_of heads.Slice parts fits k i u f = absurd cc
-  field_edge_of (heads.Array n) parts fits k i u f = absurd cc
   field_edge_of (heads.Named (owners.Item j)) parts fits k i u f = inr (j, refl)
   field_edge_of (heads.Named owners.Option) parts fits k i u f =
       inl (to_part (heads.Named owners.Option) parts u refl
@@ -349,19 +312,16 @@ module _ (program : MProgram) (count : ℕ) (types : List MType) where
   field_edge_of (heads.Named owners.Result) parts fits k i u f =
       inl (to_part (heads.Named owners.Result) parts u refl
       (part_there (parts_types parts) (result_part k i) u (result_field program (parts_types parts) k i (count_types_of parts 2 fits) ∙ f)))
+  field_edge_of _ parts fits k i u f = absurd cc
 
   item_edge_of : (h : Head) (parts : List ℕ) → fits_head h (length parts) ≡ true → (u : MType) → array_item (head_type h (parts_types parts)) ≡ Some u → EdgeTo h parts u
   item_edge_of (heads.Base b) parts fits u e = let f : None ≡ Some u = base_array b ∙ e in absurd cc
-  item_edge_of (heads.Opaque o) parts fits u e = absurd cc
-  item_edge_of heads.Tuple parts fits u e = absurd cc
-  item_edge_of (heads.Point mutable) parts fits u e = absurd cc
-  item_edge_of heads.Slice parts fits u e = absurd cc
   item_edge_of (heads.Array n) parts fits u e =
-      let one = one_part parts (count_is (length parts) 1 fits) in
+      let one = one_part parts (eqb-true (length parts) 1 fits) in
       let first : array_item (head_type (heads.Array n) (parts_types parts)) ≡ Some (type_at types one.0) = ap (λ (ps : List ℕ). array_item (head_type (heads.Array n) (parts_types ps))) one.1 in
       let same : Some (type_at types one.0) ≡ Some u = sym first ∙ e in
       to_part (heads.Array n) parts u refl (0, map_has (type_at types) parts 0 one.0 (ap (λ (ps : List ℕ). slice_get ps 0) one.1) ∙ same)
-  item_edge_of (heads.Named o) parts fits u e = absurd cc
+  item_edge_of _ parts fits u e = absurd cc
 
   value_edge : (h : Head) (parts : List ℕ) → fits_head h (length parts) ≡ true → (u : MType) → HasByValue program (head_type h (parts_types parts)) u →
       EdgeTo h parts u ⊎ ((j : ℕ) × (h ≡ heads.Named (owners.Item j)))
@@ -374,23 +334,12 @@ module _ (program : MProgram) (count : ℕ) (types : List MType) where
 -- the head of a declared type's node
 declared_head : (h : Head) (ps : List MType) (i : ℕ) → type_owner (head_type h ps) ≡ Some (DeclaredItem i) → h ≡ heads.Named (owners.Item i)
 declared_head (heads.Base b) ps i e = let f : None ≡ Some (DeclaredItem i) = base_owner b ∙ e in absurd cc
-declared_head (heads.Opaque o) ps i e = absurd cc
-declared_head heads.Tuple ps i e = absurd cc
-declared_head (heads.Point mutable) ps i e = absurd cc
-declared_head heads.Slice ps i e = absurd cc
-declared_head (heads.Array n) ps i e = absurd cc
 declared_head (heads.Named (owners.Item j)) ps i e = let same : j ≡ i = cc in ap (λ (k : ℕ). heads.Named (owners.Item k)) same
-declared_head (heads.Named owners.Option) ps i e = absurd cc
-declared_head (heads.Named owners.Result) ps i e = absurd cc
+declared_head _ ps i e = absurd cc
 
 no_parts : (parts : List ℕ) → nat_eq (length parts) 0 ≡ true → parts ≡ []
 no_parts [] e = refl
-no_parts (p ∷ ps) e = let f : length (p ∷ ps) ≡ 0 = count_is (length (p ∷ ps)) 0 e in absurd (omega arith)
-
-there : {A : Type 0} (xs : List A) (i : ℕ) → i < length xs → (x : A) × (slice_get xs i ≡ Some x)
-there [] i lt = absurd (omega arith)
-there (x ∷ xs) zero lt = (x, refl)
-there (x ∷ xs) (suc i) lt = there xs i (omega arith)
+no_parts (p ∷ ps) e = let f : length (p ∷ ps) ≡ 0 = eqb-true (length (p ∷ ps)) 0 e in absurd (omega arith)
 
 -- an item that has fields is there
 field_item : (program : MProgram) (i k j : ℕ) (u : MType) → field_type program (NamedType (DeclaredItem i) no_types) k j ≡ Some u → i < length program.items
@@ -435,12 +384,12 @@ module _ (width : Width) (nodes : List Node) (entries : List Entry) (are : AreNo
   number_type a = cond (nat_lt a (length entries)) (own a) (type_at types (a - length entries))
 
   of_item : (a : ℕ) → a < length entries → number_type a ≡ own a
-  of_item a lt = ap (λ (b : Bool). cond b (own a) (type_at types (a - length entries))) (lower a (length entries) lt)
+  of_item a lt = ap (λ (b : Bool). cond b (own a) (type_at types (a - length entries))) (lt-ltb a (length entries) lt)
 
   of_node : (n : ℕ) → number_type (length entries + n) ≡ type_at types n
   of_node n =
       let back : (length entries + n) - length entries ≡ n = omega arith in
-      ap (λ (b : Bool). cond b (own (length entries + n)) (type_at types ((length entries + n) - length entries))) (higher (length entries + n) (length entries) (omega arith))
+      ap (λ (b : Bool). cond b (own (length entries + n)) (type_at types ((length entries + n) - length entries))) (le-ltb (length entries + n) (length entries) (omega arith))
       ∙ ap (type_at types) back
 
   out_item : (a : ℕ) (e : Entry) → slice_get entries a ≡ Some e → get_or graph a [] ≡ entry_edges (length entries) e
@@ -477,7 +426,7 @@ module _ (width : Width) (nodes : List Node) (entries : List Entry) (are : AreNo
 
   item_step : (a b : ℕ) → a < length entries → IsEdge graph a b → Step a b
   item_step a b lt edge =
-      let e = there entries a lt in
+      let e = item_at entries a lt in
       let f = edge_field (length entries) types e.0 b (subst (λ (xs : List ℕ). Contains xs b) (out_item a e.0 e.1) edge) in
       by_value a f.0 b (own a) (of_item a lt) f.1
       (has_field program (own a) (type_at types f.0) (f.2, f.3, ap (λ (o : Option MItem). part_of (item_types o f.2) f.3) (item_there a e.0 e.1) ∙ f.4))
@@ -492,7 +441,7 @@ module _ (width : Width) (nodes : List Node) (entries : List Entry) (are : AreNo
 
       here : n < length nodes → Step (length entries + n) b
       here lt =
-          let k = there nodes n lt in
+          let k = item_at nodes n lt in
           let type : number_type (length entries + n) ≡ head_type k.0.head (map (type_at types) k.0.parts.items) = of_node n ∙ node_is_type n k.0 k.1 in
           let fits = (are n k.0 k.1).1 in
           ⊎_elim
@@ -540,7 +489,7 @@ module _ (width : Width) (nodes : List Node) (entries : List Entry) (are : AreNo
   declared_below i k j u f =
       let same : length (map {B = MItem} (λ e. (entry_told types e).item) entries) ≡ length entries = length-map _ _ in
       let lt : i < length (map {B = MItem} (λ e. (entry_told types e).item) entries) = field_item program i k j u f in
-      there entries i (omega arith)
+      item_at entries i (omega arith)
 
   item_way : (i : ℕ) (u : MType) → HasByValue program (own i) u → WayTo i u × (i < length entries)
   item_way i u h = ⊎_elim fields (λ a. absurd (not_array a.0 a.1)) (field_or_item program (own i) u h)
@@ -576,7 +525,7 @@ module _ (width : Width) (nodes : List Node) (entries : List Entry) (are : AreNo
 
       here : n < length nodes → WayTo (length entries + n) u
       here lt =
-          let k = there nodes n lt in
+          let k = item_at nodes n lt in
           let type : type_at types n ≡ head_type k.0.head (map (type_at types) k.0.parts.items) = node_is_type n k.0 k.1 in
           let fits = (are n k.0 k.1).1 in
           ⊎_elim
@@ -618,7 +567,7 @@ module _ (width : Width) (nodes : List Node) (entries : List Entry) (are : AreNo
 
       here : n < length nodes → IsEdge graph (length entries + n) i
       here below =
-          let k = there nodes n below in
+          let k = item_at nodes n below in
           let owner : type_owner (head_type k.0.head (map (type_at types) k.0.parts.items)) ≡ Some (DeclaredItem i) = ap type_owner (sym (node_is_type n k.0 k.1) ∙ is) in
           to_item n k.0 i k.1 (declared_head k.0.head (map (type_at types) k.0.parts.items) i owner) lt
 

@@ -1,10 +1,11 @@
 -- Lists of clauses.
-use Rattle.std.proofs.Common.{◌≡◌, ℕ, ◌+◌, ◌<◌, true, List, [], ◌∷◌, ◌++◌, length, Some, sym, ap, ◌∙◌, append_assoc, suc, zero, arith, take, get_or}
-use Rattle.std.specs.Prelude.{slice_get, nat_lt}
+use Rattle.std.proofs.Common.{◌≡◌, ℕ, ◌+◌, ◌<◌, true, List, [], ◌∷◌, ◌++◌, length, sym, ap, ◌∙◌, append_assoc, suc, zero, arith, take, get_or, refl}
+use Rattle.std.specs.Prelude.{nat_lt}
 use Rattle.std.specs.List.{All, AllByRecursion}
 use Rattle.std.proofs.lemmas.List.{append-nil, take_more, length-take-le}
 use Rattle.std.proofs.lemmas.List.Elements.{All-from_recursion}
 use Rattle.std.proofs.lemmas.Bool.{ltb-true, and_parts}
+use Rattle.std.proofs.lemmas.Option.{slice_get_read}
 use Rattle.type_table.specs.declared.nodes.Node.{Node}
 use Rattle.type_table.specs.Nodes.{AreNodes, are_below}
 use Rattle.type_table.specs.Bodies.{said, said_from}
@@ -32,11 +33,6 @@ said_more {A} bodies start i h xs x init old new lt is e before more =
     ∙ (append_assoc init (said_from bodies start (take i xs)) (said h (bodies x))
     ∙ ap (λ (cs : List (ℕ × List ℕ)). init ++ cs) (sym (ap (said_from bodies start) front ∙ said_push bodies start (take i xs) x h place))))
 
-pub get_there : {A : Type 0} (xs : List A) (i : ℕ) (x : A) → i < length xs → x ≡ get_or xs i x → slice_get xs i ≡ Some x
-get_there [] i x lt is = absurd (omega arith)
-get_there (y ∷ ys) zero x lt is = ap Some (sym is)
-get_there (y ∷ ys) (suc i) x lt is = get_there ys i x (omega arith) is
-
 few_parts : (count n : ℕ) (parts : List ℕ) → are_below parts n ≡ true → count + n < 4294967296 → AllByRecursion (λ p. count + p < 4294967296) parts
 few_parts count n [] b l = tt
 few_parts count n (p ∷ ps) b l =
@@ -48,4 +44,4 @@ few_parts count n (p ∷ ps) b l =
 pub parts_few : (count : ℕ) (nodes : List Node) (i : ℕ) (n : Node) → AreNodes nodes → count + length nodes < 4294967296 →
     i < length nodes → n ≡ get_or nodes i n → All (λ p. count + p < 4294967296) n.parts.items
 parts_few count nodes i n are few lt is =
-    All-from_recursion (λ p. count + p < 4294967296) n.parts.items (few_parts count i n.parts.items (are i n (get_there nodes i n lt is)).0 (omega arith))
+    All-from_recursion (λ p. count + p < 4294967296) n.parts.items (few_parts count i n.parts.items (are i n (slice_get_read nodes (length nodes) i n refl lt is)).0 (omega arith))

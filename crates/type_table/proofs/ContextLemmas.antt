@@ -1,7 +1,6 @@
 -- The context of a table keeps the laws of a context, since it is seen through the types of its numbers as Rust's own.
-use Rattle.std.proofs.Common.{◌≡◌, ℕ, ◌+◌, Bool, refl, ap}
-use Rattle.match_model.specs.Values.{MValue}
-use Rattle.match_model.specs.Constructors.{MCtor, SingleCtor, PointCtor, LaterCtor, OtherTextCtor, WildCtor, OrCtor, VariantCtor, FlagCtor, NumbersCtor, TextCtor, RowCtor}
+use Rattle.std.proofs.Common.{◌≡◌, ℕ, refl, ap}
+use Rattle.match_model.specs.Constructors.{MCtor, SingleCtor, PointCtor, VariantCtor, RowCtor}
 use Rattle.match_model.specs.ContextViews.{View}
 use Rattle.match_model.specs.ContextLaws.{ValuesLaw, PartsLaw, EmptyLaw, UnsureLaw}
 use Rattle.match_model.specs.Emptiness.{IsRustType}
@@ -32,13 +31,7 @@ module _ (t : TypeTable) where
   sub_is (VariantCtor k) ty i = part_is t ty k i
   sub_is PointCtor ty i = inner_is t ty
   sub_is (RowCtor s) ty i = inner_is t ty
-  sub_is LaterCtor ty i = refl
-  sub_is OtherTextCtor ty i = refl
-  sub_is WildCtor ty i = refl
-  sub_is OrCtor ty i = refl
-  sub_is (FlagCtor b) ty i = refl
-  sub_is (NumbersCtor r) ty i = refl
-  sub_is (TextCtor u) ty i = refl
+  sub_is _ ty i = refl
 
   -- they are of the table
   sub_is_of : (c : MCtor) (ty : TyId) (i : ℕ) → IsOf t ty → IsOf t (table_sub t c ty i)
@@ -46,13 +39,7 @@ module _ (t : TypeTable) where
   sub_is_of (VariantCtor k) ty i of = part_id_is_of t ty k i of
   sub_is_of PointCtor ty i of = inner_is_of t ty of
   sub_is_of (RowCtor s) ty i of = inner_is_of t ty of
-  sub_is_of LaterCtor ty i of = of
-  sub_is_of OtherTextCtor ty i of = of
-  sub_is_of WildCtor ty i of = of
-  sub_is_of OrCtor ty i of = of
-  sub_is_of (FlagCtor b) ty i of = of
-  sub_is_of (NumbersCtor r) ty i of = of
-  sub_is_of (TextCtor u) ty i of = of
+  sub_is_of _ ty i of = of
 
   pub table_view : View (table_type t) (IsOf t) (IsRustType (table_program t)) (table_context t) (rust_context (table_program t))
   table_view = record {

@@ -1,16 +1,16 @@
 -- The names of a file mean only items that declare a type, so the types of its table are known.
-use Rattle.std.proofs.Common.{◌≡◌, ℕ, ◌<◌, zero, suc, Bool, true, false, not, List, [], ◌∷◌, map, length, Option, Some, None, refl, sym, ap, subst, ◌∙◌, arith}
+use Rattle.std.proofs.Common.{◌≡◌, ℕ, zero, suc, Bool, true, false, not, List, [], ◌∷◌, map, length, Option, Some, None, refl, sym, ap, ◌∙◌}
 use Rattle.std.specs.Prelude.{slice_get, slice_index_or, position, option_map, is_some, if◌then◌else◌}
 use Rattle.std.specs.List.{All, list_all}
 use Rattle.std.specs.Str.{bytes_eq}
 use Rattle.std.proofs.lemmas.Bool.{and_parts}
 use Rattle.std.proofs.lemmas.List.Sums.{AllPass-from_list_all}
 use Rattle.match_model.specs.Types.{MType}
-use Rattle.decl_syntax.specs.Items.{KindTree, Enum, Struct, Import, Function, ItemTree}
+use Rattle.decl_syntax.specs.Items.{KindTree, Import, Function, ItemTree}
 use Rattle.type_names.specs.declared.meanings.Owner.TheVariants as owners
 use Rattle.type_names.specs.declared.names.Names.{Names}
-use Rattle.type_names.specs.Meanings.{Meaning, ItemName, BaseName, OpaqueName, OptionName, ResultName, Means, means, declared_name, is_name, declared_at, built_in_types, entry_of, built_in, first_of_two}
-use Rattle.type_names.specs.Views.{AreNames, means_in}
+use Rattle.type_names.specs.Meanings.{Meaning, ItemName, Means, means, declared_name, is_name, declared_at, built_in_types, entry_of, built_in, first_of_two}
+use Rattle.type_names.specs.Views.{AreNames}
 use Rattle.type_names.proofs.Places.{position_hit, position_skip}
 use Rattle.type_names.proofs.Variants.{means_are}
 use Rattle.type_table.specs.declared.entries.Entry.{Entry}
@@ -49,10 +49,7 @@ position_at {A} p (y ∷ ys) j e = by (p y) refl (λ m at. position_at p ys m at
 -- a built-in type is no item
 is_item : Meaning → Bool
 is_item (ItemName i) = true
-is_item (BaseName t) = false
-is_item (OpaqueName o) = false
-is_item OptionName = false
-is_item ResultName = false
+is_item _ = false
 
 no_item : (es : List (List ℕ × Meaning)) (name : List ℕ) (i : ℕ) → list_all (λ e. not (is_item e.1)) es ≡ true → entry_of es name ≡ Some (ItemName i) → ⊥
 unfolding is_item
@@ -76,10 +73,9 @@ built_in_no_item name i e = no_item built_in_types name i refl e
 
 -- what has a name that is looked up declares a type
 named_declares : (name : List ℕ) (i : ℕ) (kind : KindTree) → is_name name (declared_name kind) ≡ true → is_some (own_type i kind) ≡ true
-named_declares name i (Enum n variants) h = refl
-named_declares name i (Struct n form) h = refl
 named_declares name i (Import owner listed) h = absurd cc
 named_declares name i (Function n parameter deref arms) h = absurd cc
+named_declares name i _ h = refl
 
 -- the names of a file mean only what the test says to declare a type, where it says so of each item that does
 pub names_declared : (items : List ItemTree) (names : Names) (is : ℕ → Bool) → AreNames items names → ((i : ℕ) (x : ItemTree) → slice_get items i ≡ Some x → ItemDeclared is i x.kind) → NamesDeclared is names
@@ -94,10 +90,9 @@ names_declared items names is are each name i e = by (declared_at items name) re
 
 -- an entry that declares a type is an enum or a struct
 entry_declares : (types : List MType) (e : Entry) → is_some (entry_told types e).own ≡ true → declares_type (Some e) ≡ true
-entry_declares types (entries.Struct id variant) h = refl
-entry_declares types (entries.Enum id name later variants) h = refl
 entry_declares types (entries.Function param deref) h = absurd cc
 entry_declares types entries.Import h = absurd cc
+entry_declares types _ h = refl
 
 -- so each item that declares a type has such an entry
 pub entries_declare : (types : List MType) (es : List Entry) (names : Means) (items : List ItemTree) → map (entry_told types) es ≡ items_told names items →
@@ -107,15 +102,10 @@ entries_declare types es names items told i x at own =
     ap declares_type m.1 ∙ entry_declares types m.0 (ap (λ (y : Told). is_some y.own) m.2 ∙ own)
 
 head_known : (es : List Entry) (h : Head) (n : ℕ) → head_declared (λ i. declares_type (slice_get es i)) h ≡ true → has_few h n ≡ true → is_known_head es h n ≡ true
-head_known es (heads.Base b) n d f = refl
-head_known es (heads.Opaque o) n d f = refl
 head_known es heads.Tuple n d f = f
-head_known es (heads.Point mutable) n d f = refl
-head_known es heads.Slice n d f = refl
 head_known es (heads.Array len) n d f = d
 head_known es (heads.Named (owners.Item i)) n d f = d
-head_known es (heads.Named owners.Option) n d f = refl
-head_known es (heads.Named owners.Result) n d f = refl
+head_known es _ n d f = refl
 
 -- nodes that name declared items alone, and have few parts, are known
 pub nodes_known : (es : List Entry) (nodes : List Node) → AreDeclared (λ i. declares_type (slice_get es i)) nodes → All HasFewParts nodes → All (IsKnown es) nodes

@@ -1,12 +1,11 @@
 -- What is put into a set of nodes keeps that they name declared items alone.
-use Rattle.std.proofs.Common.{◌≡◌, ℕ, ◌<◌, ◌^◌, Bool, true, false, cond, ◌&&◌, List, [], ◌∷◌, ◌++◌, map, take, length, Option, Some, None, Result, Ok, Err, refl, sym, ap, subst, ◌∙◌, suc, zero, arith, ◌+◌, ◌≤◌, get_or}
-use Rattle.std.specs.Prelude.{slice_get, nat_lt, nat_le, option_map, is_some, OnOk, if◌then◌else◌}
-use Rattle.std.specs.List.{list_any, list_all}
+use Rattle.std.proofs.Common.{◌≡◌, ℕ, ◌<◌, Bool, true, false, cond, List, [], ◌∷◌, ◌++◌, map, take, length, Option, Some, None, Result, Ok, Err, refl, sym, ap, ◌∙◌, suc, zero, arith, ◌+◌, ◌≤◌, get_or}
+use Rattle.std.specs.Prelude.{slice_get, nat_lt, nat_le, option_map, OnOk, if◌then◌else◌}
+use Rattle.std.specs.List.{list_any}
 use Rattle.indexmap.specs.IndexSet.{insert_key}
-use Rattle.std.proofs.lemmas.Bool.{and_parts, leb-true}
-use Rattle.decl_syntax.specs.Items.{KindTree, ItemTree, kind_view, item_view}
+use Rattle.std.proofs.lemmas.Bool.{and_parts, leb-true, lt-ltb}
+use Rattle.decl_syntax.specs.Items.{ItemTree, kind_view, item_view}
 use Rattle.decl_syntax.specs.declared.items.Item.{Item}
-use Rattle.match_model.proofs.Basics.{and_true}
 use Rattle.type_names.proofs.Places.{front_more, length_front}
 use Rattle.type_names.specs.declared.meanings.Meaning.{Meaning}
 use Rattle.type_names.specs.declared.meanings.Meaning.TheVariants as meanings
@@ -17,15 +16,10 @@ use Rattle.type_names.specs.Views.{means_in, meaning_view}
 use Rattle.type_table.specs.declared.nodes.Head.{Head}
 use Rattle.type_table.specs.declared.nodes.Node.{Node}
 use Rattle.type_table.specs.declared.nodes.Head.TheVariants as heads
-use Rattle.type_table.specs.Keeping.{head_declared, AreDeclared, meaning_declared, NamesDeclared, Keeps, KeepsWith, KeepsMeant, KeepsNamed, KeepsItem, KeepsItems}
-use Rattle.type_table.specs.Entries.{own_type}
+use Rattle.type_table.specs.Keeping.{head_declared, meaning_declared, NamesDeclared, Keeps, KeepsWith, KeepsMeant, KeepsNamed, KeepsItem, KeepsItems}
 use Rattle.type_table.specs.Readings.{array_length, is_str_base, head_of}
-use Rattle.type_table.proofs.BodyLemmas.{lower}
 use Rattle.type_table.proofs.NodeLemmas.{get_front, get_next, get_below}
-
-all_push : {A : Type 0} (p : A → Bool) (xs : List A) (x : A) → list_all p xs ≡ true → p x ≡ true → list_all p (xs ++ x ∷ []) ≡ true
-all_push p [] x h k = and_true (p x) true k refl
-all_push p (y ∷ ys) x h k = let halves = and_parts (p y) (list_all p ys) h in and_true (p y) (list_all p (ys ++ x ∷ [])) halves.0 (all_push p ys x halves.1 k)
+use Rattle.type_table.proofs.EntryLemmas.{all_push}
 
 -- a set of nodes with one more
 pub keeps_insert : (eq : Node → Node → Bool) (ks : List Node) (n : Node) → KeepsWith n.head ks (insert_key eq ks n)
@@ -59,12 +53,8 @@ keeps_none a = record { declared = λ is told all. all }
 
 -- names, and then a name with a meaning
 meant_declared : (is : ℕ → Bool) (names : Names) (m : Option Meaning) (name : List ℕ) → option_map meaning_view m ≡ means_in names name → NamesDeclared is names → meaning_declared is m ≡ true
-meant_declared is names None name e told = refl
 meant_declared is names (Some (meanings.Item i)) name e told = told name i (sym e)
-meant_declared is names (Some (meanings.Base b)) name e told = refl
-meant_declared is names (Some (meanings.Opaque o)) name e told = refl
-meant_declared is names (Some meanings.Option) name e told = refl
-meant_declared is names (Some meanings.Result) name e told = refl
+meant_declared is names _ name e told = refl
 
 pub keeps_meant : {names : Names} {m : Option Meaning} {a b c : List Node} (name : List ℕ) → option_map meaning_view m ≡ means_in names name → KeepsNamed names a b → KeepsMeant m b c → KeepsNamed names a c
 keeps_meant {names} {m} name e f g = record { declared = λ is told all. g.declared is (meant_declared is names m name e told) (f.declared is told all) }
@@ -78,7 +68,7 @@ length_few is (Some m) suffix n e = by (is_length (Some m) suffix) refl e
     by true h k =
         let same : n ≡ m = cc in
         let le : m ≤ 4294967295 = leb-true m 4294967295 (and_parts (nat_le m 4294967295) _ h).0 in
-        lower n 4294967296 (omega (arith, same, le))
+        lt-ltb n 4294967296 (omega (arith, same, le))
     by false h k = absurd cc
 
 -- the head of a meaning names an item only where the meaning does
@@ -125,10 +115,3 @@ items_more items i item lt is f g = record {
     before j x there =
         ap (λ (xs : List ItemTree). slice_get xs j) front
         ∙ (get_front (map item_view (take i items)) (item_view item ∷ []) j (get_below (map item_view (take i items)) j x there) ∙ there)
-
--- an item that declares a type has its own, behind those that it names
-pub keeps_own : {names : Names} {i : ℕ} {kind : KindTree} {a b c : List Node} → is_some (own_type i kind) ≡ true → KeepsNamed names a b → KeepsWith (heads.Named (owners.Item i)) b c → KeepsItem names i kind a c
-keeps_own own f g = record { declared = λ is told here all. g.declared is (here own) (f.declared is told all) }
-
-pub keeps_item : {names : Names} {i : ℕ} {kind : KindTree} {a b : List Node} → KeepsNamed names a b → KeepsItem names i kind a b
-keeps_item f = record { declared = λ is told here all. f.declared is told all }

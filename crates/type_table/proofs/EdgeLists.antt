@@ -3,7 +3,7 @@ use Rattle.std.proofs.Common.{◌≡◌, ℕ, ◌+◌, ◌<◌, ◌≤◌, Bool,
 use Rattle.std.specs.Prelude.{slice_get, nat_lt}
 use Rattle.std.specs.Global.{Vec}
 use Rattle.std.specs.List.{All, AllByRecursion, list_all}
-use Rattle.std.proofs.lemmas.Bool.{ltb-true, and_parts}
+use Rattle.std.proofs.lemmas.Bool.{ltb-true, and_parts, and_from, lt-ltb}
 use Rattle.std.proofs.lemmas.List.{append-nil, length-map, take_more}
 use Rattle.std.proofs.lemmas.List.Elements.{All-from_recursion}
 use Rattle.cycle_search.specs.Graphs.{plain_graph, HasTargetsBelow}
@@ -20,8 +20,7 @@ use Rattle.type_table.specs.Bodies.{variant_body}
 use Rattle.type_table.specs.Edges.{node_edges, edges_of, variants_edges, entry_edges}
 use Rattle.type_table.proofs.NodeLemmas.{get_below}
 use Rattle.type_table.proofs.FieldLemmas.{all_at}
-use Rattle.type_table.proofs.BodyLemmas.{lower, within_parts, within_variant}
-use Rattle.type_table.proofs.EntryLemmas.{both}
+use Rattle.type_table.proofs.BodyLemmas.{within_parts, within_variant}
 
 -- the edges of one variant more
 pub edges_more : (count i : ℕ) (vs : List VariantEntry) (v : VariantEntry) (old new more : List ℕ) → i < length vs → v ≡ get_or vs i v →
@@ -47,43 +46,39 @@ module _ (count n : ℕ) where
     where
       all_joined : (p : ℕ → Bool) (xs ys : List ℕ) → list_all p xs ≡ true → list_all p ys ≡ true → list_all p (xs ++ ys) ≡ true
       all_joined p [] ys f g = g
-      all_joined p (x ∷ xs) ys f g = let parts = and_parts (p x) (list_all p xs) f in both (p x) (list_all p (xs ++ ys)) parts.0 (all_joined p xs ys parts.1 g)
+      all_joined p (x ∷ xs) ys f g = let parts = and_parts (p x) (list_all p xs) f in and_from (p x) (list_all p (xs ++ ys)) parts.0 (all_joined p xs ys parts.1 g)
 
   entry_edges_within : (e : Entry) → entry_below n e ≡ true → list_all (λ a. nat_lt a (count + n)) (entry_edges count e) ≡ true
   entry_edges_within (entry_kinds.Struct id v) h = within_variant count n v (and_parts (nat_lt id n) (variant_below n v) h).1
   entry_edges_within (entry_kinds.Enum id name later variants) h = variants_within variants.items (and_parts (nat_lt id n) (list_all (variant_below n) variants.items) h).1
-  entry_edges_within (entry_kinds.Function param deref) h = refl
-  entry_edges_within entry_kinds.Import h = refl
+  entry_edges_within _ h = refl
 
   node_edges_within : (h : Head) (parts : List ℕ) → are_below parts n ≡ true → list_all (λ a. nat_lt a (count + n)) (node_edges count h parts) ≡ true
-  node_edges_within (heads.Base b) parts below = refl
-  node_edges_within (heads.Opaque o) parts below = refl
   node_edges_within heads.Tuple parts below = within_parts count n parts below
-  node_edges_within (heads.Point mutable) parts below = refl
-  node_edges_within heads.Slice parts below = refl
   node_edges_within (heads.Array len) parts below = within_parts count n parts below
   node_edges_within (heads.Named (owners.Item i)) parts below = by (nat_lt i count) refl
     where
       by : (b : Bool) → nat_lt i count ≡ b → list_all (λ a. nat_lt a (count + n)) (cond b (i ∷ []) []) ≡ true
       by false e = refl
-      by true e = let lt : i < count = ltb-true i count e in rw (lower i (count + n) (omega arith)) refl
+      by true e = let lt : i < count = ltb-true i count e in rw (lt-ltb i (count + n) (omega arith)) refl
   node_edges_within (heads.Named owners.Option) parts below = within_parts count n parts below
   node_edges_within (heads.Named owners.Result) parts below = within_parts count n parts below
+  node_edges_within _ parts below = refl
 
 mapped_all : {A : Type 0} (p : List ℕ → Bool) (f : A → List ℕ) (xs : List A) → ((i : ℕ) (x : A) → slice_get xs i ≡ Some x → p (f x) ≡ true) → list_all p (map f xs) ≡ true
 mapped_all p f [] each = refl
-mapped_all p f (x ∷ xs) each = both (p (f x)) (list_all p (map f xs)) (each 0 x refl) (mapped_all p f xs (λ i y at. each (suc i) y at))
+mapped_all p f (x ∷ xs) each = and_from (p (f x)) (list_all p (map f xs)) (each 0 x refl) (mapped_all p f xs (λ i y at. each (suc i) y at))
 
 lists_joined : (p : List ℕ → Bool) (xs ys : List (List ℕ)) → list_all p xs ≡ true → list_all p ys ≡ true → list_all p (xs ++ ys) ≡ true
 lists_joined p [] ys f g = g
-lists_joined p (x ∷ xs) ys f g = let parts = and_parts (p x) (list_all p xs) f in both (p x) (list_all p (xs ++ ys)) parts.0 (lists_joined p xs ys parts.1 g)
+lists_joined p (x ∷ xs) ys f g = let parts = and_parts (p x) (list_all p xs) f in and_from (p x) (list_all p (xs ++ ys)) parts.0 (lists_joined p xs ys parts.1 g)
 
 below_more : (parts : List ℕ) (m n : ℕ) → m ≤ n → are_below parts m ≡ true → are_below parts n ≡ true
 below_more [] m n le h = refl
 below_more (p ∷ ps) m n le h =
     let halves = and_parts (nat_lt p m) (are_below ps m) h in
     let lt : p < m = ltb-true p m halves.0 in
-    both (nat_lt p n) (are_below ps n) (lower p n (omega arith)) (below_more ps m n le halves.1)
+    and_from (nat_lt p n) (are_below ps n) (lt-ltb p n (omega arith)) (below_more ps m n le halves.1)
 
 module _ (nodes : List Node) (entries : List Entry) (are : AreNodes nodes) (below : list_all (entry_below (length nodes)) entries ≡ true) where
   graph_within : list_all (list_all (λ a. nat_lt a (length entries + length nodes))) (map (entry_edges (length entries)) entries ++ map (edges_of (length entries)) nodes) ≡ true

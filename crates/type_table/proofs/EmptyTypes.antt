@@ -1,10 +1,10 @@
 -- What a table tells of emptiness, by the model's law.
-use Rattle.std.proofs.Common.{◌≡◌, ℕ, ◌+◌, arith, Bool, true, false, not, ◌||◌, List, [], ◌∷◌, map, length, Option, Some, None, refl, sym, ap, subst, ◌∙◌, get_or}
+use Rattle.std.proofs.Common.{◌≡◌, ℕ, ◌+◌, arith, Bool, true, false, not, ◌||◌, List, [], ◌∷◌, map, length, Option, Some, refl, sym, ap, subst, ◌∙◌, get_or}
 use Rattle.std.specs.Prelude.{nat_eq, slice_get}
 use Rattle.std.specs.List.{list_any}
 use Rattle.match_model.specs.declared.Width.{Width}
-use Rattle.match_model.specs.Types.{MType, MTypes, no_types, more_types, DeclaredItem, OptionOwner, ResultOwner, BoolType, CharType, StrType, NeverType, IntType, OpaqueType, TupleType, PointType, SliceType, ArrayType, NamedType}
-use Rattle.match_model.specs.Declarations.{MVariant, MItem, StructItem, EnumItem, OtherItem, MProgram, form_types}
+use Rattle.match_model.specs.Types.{MType, MTypes, no_types, more_types, ResultOwner, TupleType, ArrayType, NamedType}
+use Rattle.match_model.specs.Declarations.{MVariant, MItem, StructItem, EnumItem, MProgram, form_types}
 use Rattle.match_model.specs.RustTypes.{IsSoundProgram, RustValue}
 use Rattle.match_model.specs.Contexts.{Context}
 use Rattle.match_model.specs.ContextLaws.{EmptyLaw}
@@ -29,19 +29,10 @@ use Rattle.type_table.proofs.EmptyVariants.{variant_tells}
 module _ (marks : List Bool) where
   mutual
     pub may_has : (t : MType) → may_be true marks t ≡ has_value marks t
-    may_has BoolType = refl
-    may_has CharType = refl
-    may_has StrType = refl
-    may_has NeverType = refl
-    may_has (IntType kind) = refl
-    may_has (OpaqueType o args) = refl
     may_has (TupleType ts) = all_have ts
-    may_has (PointType mutable t) = refl
-    may_has (SliceType t) = refl
     may_has (ArrayType t n) = ap (λ (b : Bool). nat_eq n 0 || b) (may_has t)
-    may_has (NamedType (DeclaredItem i) args) = refl
-    may_has (NamedType OptionOwner args) = refl
     may_has (NamedType ResultOwner args) = some_have args
+    may_has _ = refl
 
     all_have : (ts : MTypes) → may_all_be true marks ts ≡ all_have_value marks ts
     all_have no_types = refl
@@ -60,10 +51,9 @@ module _ (marks : List Bool) where
   seen (v ∷ vs) b = refl
 
   pub item_has : (o : Option MItem) → item_may_be true marks o ≡ item_has_value marks o
-  item_has None = refl
-  item_has (Some OtherItem) = refl
   item_has (Some (StructItem v)) = all_have (form_types v.form)
   item_has (Some (EnumItem name marked vs)) = ap (λ (b : Bool). marked || b) (seen vs _ ∙ variants_have vs)
+  item_has _ = refl
 
 abbrev program_with : Width → List MItem → MProgram
 program_with width items = record { items = items; width = width }

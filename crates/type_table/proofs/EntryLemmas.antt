@@ -1,13 +1,13 @@
 -- Entries whose types are numbers of nodes that grow.
-use Rattle.std.proofs.Common.{◌≡◌, ℕ, ◌+◌, ◌<◌, ◌≤◌, Bool, true, false, ◌&&◌, List, [], ◌∷◌, ◌++◌, map, length, Some, None, refl, sym, ap, ◌∙◌, suc, arith, length-append, take, get_or}
+use Rattle.std.proofs.Common.{◌≡◌, ℕ, ◌+◌, ◌<◌, ◌≤◌, Bool, true, List, [], ◌∷◌, ◌++◌, map, length, Some, None, refl, sym, ap, ◌∙◌, suc, arith, length-append, take, get_or}
 use Rattle.std.specs.Rc.{rc_str_bytes}
 use Rattle.std.specs.Prelude.{slice_get, nat_lt}
 use Rattle.std.specs.List.{list_all, enumerate_from}
 use Rattle.std.proofs.lemmas.List.{map-append}
-use Rattle.std.proofs.lemmas.Bool.{ltb-true, and_parts}
+use Rattle.std.proofs.lemmas.Bool.{ltb-true, and_parts, and_from, lt-ltb}
 use Rattle.match_model.specs.Types.{MType}
 use Rattle.match_model.specs.Declarations.{MField, MForm, TupleForm, MVariant, StructItem, EnumItem, MItem, MProgram}
-use Rattle.decl_syntax.specs.Items.{FormTree, Unit, FieldItem, KindTree, ItemTree, item_view}
+use Rattle.decl_syntax.specs.Items.{FormTree, KindTree, ItemTree, item_view}
 use Rattle.decl_syntax.specs.declared.items.Item.{Item}
 use Rattle.decl_syntax.specs.Items as forms
 use Rattle.type_names.specs.Meanings.{Means}
@@ -29,10 +29,6 @@ use Rattle.type_table.proofs.NodeLemmas.{types_stay}
 use Rattle.type_table.proofs.TypeNodes.{id_below}
 use Rattle.type_names.proofs.Places.{front_more, length_front}
 
-pub both : (a b : Bool) → a ≡ true → b ≡ true → (a && b) ≡ true
-both true b e f = f
-both false b e f = absurd cc
-
 -- what holds of each item of a list
 pub map_same : {E M : Type 0} (p : E → Bool) (f g : E → M) → ((e : E) → p e ≡ true → f e ≡ g e) → (es : List E) → list_all p es ≡ true → map f es ≡ map g es
 map_same p f g h [] all = refl
@@ -44,13 +40,13 @@ pub all_weaker : {E : Type 0} (p q : E → Bool) → ((e : E) → p e ≡ true �
 all_weaker p q h [] all = refl
 all_weaker p q h (e ∷ es) all =
     let halves = and_parts (p e) (list_all p es) all in
-    both (q e) (list_all q es) (h e halves.0) (all_weaker p q h es halves.1)
+    and_from (q e) (list_all q es) (h e halves.0) (all_weaker p q h es halves.1)
 
 pub all_push : {E : Type 0} (p : E → Bool) (es : List E) (e : E) → list_all p es ≡ true → p e ≡ true → list_all p (es ++ e ∷ []) ≡ true
-all_push p [] e all here = both (p e) true here refl
+all_push p [] e all here = and_from (p e) true here refl
 all_push p (x ∷ xs) e all here =
     let halves = and_parts (p x) (list_all p xs) all in
-    both (p x) (list_all p (xs ++ e ∷ [])) halves.0 (all_push p xs e halves.1 here)
+    and_from (p x) (list_all p (xs ++ e ∷ [])) halves.0 (all_push p xs e halves.1 here)
 
 longer : (old new : List Node) → Extends old new → length old ≤ length new
 longer old new more = let e : length new ≡ length (old ++ more.0) = ap length more.1 in omega (arith, length-append {A = Node})
@@ -93,10 +89,10 @@ module _ (old new : List Node) (more : Extends old new) where
   pub entry_still : (e : Entry) → entry_below (length old) e ≡ true → entry_below (length new) e ≡ true
   entry_still (entries.Struct id variant) h =
       let halves = and_parts (nat_lt id (length old)) (variant_below (length old) variant) h in
-      both (nat_lt id (length new)) (variant_below (length new) variant) (below_longer id (length old) (length new) (longer old new more) halves.0) (variant_still variant halves.1)
+      and_from (nat_lt id (length new)) (variant_below (length new) variant) (below_longer id (length old) (length new) (longer old new more) halves.0) (variant_still variant halves.1)
   entry_still (entries.Enum id name later variants) h =
       let halves = and_parts (nat_lt id (length old)) (list_all (variant_below (length old)) variants.items) h in
-      both (nat_lt id (length new)) (list_all (variant_below (length new)) variants.items) (below_longer id (length old) (length new) (longer old new more) halves.0)
+      and_from (nat_lt id (length new)) (list_all (variant_below (length new)) variants.items) (below_longer id (length old) (length new) (longer old new more) halves.0)
       (all_weaker (variant_below (length old)) (variant_below (length new)) variant_still variants.items halves.1)
   entry_still (entries.Function param deref) h = below_longer param (length old) (length new) (longer old new more) h
   entry_still entries.Import h = refl
@@ -121,16 +117,12 @@ map_map f g (x ∷ xs) = ap (λ ys. f (g x) ∷ ys) (map_map f g xs)
 
 -- a form by its kind and its fields
 pub form_is : (names : Means) (form : FormTree) → form_with (form_kind form) (form_fields names form) ≡ form_of names form
-form_is names Unit = refl
 form_is names (forms.Tuple fields) = ap TupleForm (map_map (λ f. f.type) (field_of names) fields)
-form_is names (forms.Brace fields) = refl
-
-below_test : (i n : ℕ) → i < n → nat_lt i n ≡ true
-below_test i n lt = grind arith
+form_is names _ = refl
 
 -- a number whose type is known is below that of the nodes
 pub id_test : (ks : List Node) (i : ℕ) (t : MType) → slice_get (types_in ks) i ≡ Some t → nat_lt i (length ks) ≡ true
-id_test ks i t h = below_test i (length ks) (id_below ks i t h)
+id_test ks i t h = lt-ltb i (length ks) (id_below ks i t h)
 
 pub map_front_more : {A B C : Type 0} (g : B → C) (f : A → B) (xs : List A) (i : ℕ) (x : A) → i < length xs → x ≡ get_or xs i x →
     map g (map f (take (i + 1) xs)) ≡ map g (map f (take i xs)) ++ g (f x) ∷ []

@@ -4,7 +4,7 @@ use Rattle.std.specs.Prelude.{slice_get, option_map}
 use Rattle.std.proofs.lemmas.Bool.{ltb-true}
 use Rattle.std.proofs.lemmas.List.{length-map}
 use Rattle.std.proofs.lemmas.List.Elements.{recursion_from_All}
-use Rattle.match_model.specs.Types.{DeclaredItem, OptionOwner, ResultOwner, MType, BoolType, CharType, StrType, NeverType, IntType, OpaqueType, TupleType, PointType, SliceType, ArrayType, NamedType, MTypes, no_types, more_types}
+use Rattle.match_model.specs.Types.{DeclaredItem, OptionOwner, ResultOwner, MType, TupleType, NamedType, MTypes, no_types, more_types}
 use Rattle.match_model.specs.Declarations.{MItem, form_types, item_types}
 use Rattle.match_model.specs.RustTypes.{is_type, count_of_types}
 use Rattle.match_model.proofs.Basics.{both}
@@ -32,8 +32,7 @@ entry_count_few types (entries.Enum id name later variants) few =
     let count : length (map (variant_entry types) variants.items) ≡ length variants.items = length-map _ _ in
     let lt : length variants.items < 4294967296 = few.0 in
     omega (arith, count, lt)
-entry_count_few types (entries.Function param deref) few = none_few
-entry_count_few types entries.Import few = none_few
+entry_count_few types _ few = none_few
 
 module _ (t : TypeTable) where
   -- the same of the item with this number
@@ -63,19 +62,9 @@ module _ (t : TypeTable) where
           (ap (λ (is : List MItem). item_types (slice_get is i) k) (same t) ∙ e)
 
   typed_count_few : (ty : MType) → is_type (table_program t) ty ≡ true → count_of_type (table_program t) ty < 4294967296
-  typed_count_few BoolType h = none_few
-  typed_count_few CharType h = none_few
-  typed_count_few StrType h = none_few
-  typed_count_few NeverType h = none_few
-  typed_count_few (IntType kind) h = none_few
-  typed_count_few (OpaqueType o arguments) h = none_few
   typed_count_few (TupleType ts) h = ltb-true _ _ (both _ _ h).1
-  typed_count_few (PointType mutable u) h = none_few
-  typed_count_few (SliceType u) h = none_few
-  typed_count_few (ArrayType u n) h = none_few
   typed_count_few (NamedType (DeclaredItem i) arguments) h = item_count_few i
-  typed_count_few (NamedType OptionOwner arguments) h = none_few
-  typed_count_few (NamedType ResultOwner arguments) h = none_few
+  typed_count_few _ h = none_few
 
   option_fields_few : (arguments : MTypes) (k : ℕ) → fields_of_type (table_program t) (NamedType OptionOwner arguments) k < 4294967296
   option_fields_few arguments zero = none_few
@@ -85,28 +74,16 @@ module _ (t : TypeTable) where
   option_fields_few (more_types u (more_types w us)) (suc k) = none_few
 
   result_fields_few : (arguments : MTypes) (k : ℕ) → fields_of_type (table_program t) (NamedType ResultOwner arguments) k < 4294967296
-  result_fields_few no_types k = none_few
-  result_fields_few (more_types u no_types) k = none_few
   result_fields_few (more_types u (more_types w no_types)) zero = one_few
   result_fields_few (more_types u (more_types w no_types)) (suc zero) = one_few
-  result_fields_few (more_types u (more_types w no_types)) (suc (suc k)) = none_few
-  result_fields_few (more_types u (more_types w (more_types x us))) k = none_few
+  result_fields_few _ _ = none_few
 
   typed_fields_few : (ty : MType) (k : ℕ) → is_type (table_program t) ty ≡ true → fields_of_type (table_program t) ty k < 4294967296
-  typed_fields_few BoolType k h = none_few
-  typed_fields_few CharType k h = none_few
-  typed_fields_few StrType k h = none_few
-  typed_fields_few NeverType k h = none_few
-  typed_fields_few (IntType kind) k h = none_few
-  typed_fields_few (OpaqueType o arguments) k h = none_few
   typed_fields_few (TupleType ts) zero h = ltb-true _ _ (both _ _ h).1
-  typed_fields_few (TupleType ts) (suc k) h = none_few
-  typed_fields_few (PointType mutable u) k h = none_few
-  typed_fields_few (SliceType u) k h = none_few
-  typed_fields_few (ArrayType u n) k h = none_few
   typed_fields_few (NamedType (DeclaredItem i) arguments) k h = item_fields_few i k
   typed_fields_few (NamedType OptionOwner arguments) k h = option_fields_few arguments k
   typed_fields_few (NamedType ResultOwner arguments) k h = result_fields_few arguments k
+  typed_fields_few _ _ h = none_few
 
   -- how many parts or variants a type of the table has
   pub count_few : (ty : TyId) → IsOf t ty → count_of_type (table_program t) (table_type t ty) < 4294967296

@@ -5,7 +5,7 @@ use Rattle.std.specs.List.{list_all}
 use Rattle.std.proofs.lemmas.Bool.{and_parts}
 use Rattle.match_model.specs.declared.IntKind.{IntKind}
 use Rattle.match_model.specs.declared.IntKind.TheVariants as ints
-use Rattle.match_model.specs.Types.{MType, BoolType, CharType, StrType, NeverType, IntType, OpaqueType, PointType, SliceType, ArrayType, TupleType, OptionOwner, ResultOwner, NamedType, no_types, more_types, types_list, types_of}
+use Rattle.match_model.specs.Types.{MType, BoolType, CharType, StrType, NeverType, IntType, TupleType, OptionOwner, ResultOwner, NamedType, no_types, more_types, types_list, types_of}
 use Rattle.match_model.specs.Declarations.{MProgram, variant_types, form_types, variants_of}
 use Rattle.type_names.specs.declared.meanings.Base.{Base}
 use Rattle.type_names.specs.declared.meanings.Base.TheVariants as bases
@@ -44,7 +44,7 @@ base_cases P bool char str never int bases.ISize = int ints.ISize
 pub base_field : (program : MProgram) (b : Base) (k i : ℕ) → None ≡ field_type program (base_view b) k i
 base_field program b k i = base_cases (λ t. None ≡ field_type program t k i) refl refl refl refl (λ kind. refl) b
 
-no_zero : (k : ℕ) → nat_eq (suc k) 0 ≡ false
+pub no_zero : (k : ℕ) → nat_eq (suc k) 0 ≡ false
 no_zero k = grind arith
 
 no_one : (k : ℕ) → nat_eq (suc (suc k)) 1 ≡ false
@@ -66,22 +66,19 @@ tuple_field program parts zero i = ap (λ (ts : List MType). slice_get ts i) (sy
 tuple_field program parts (suc k) i = rw (no_zero k) refl
 
 pub option_field : (program : MProgram) (parts : List MType) (k i : ℕ) → length parts ≡ 1 → part_type parts (option_part k i) ≡ field_type program (NamedType OptionOwner (types_of parts)) k i
-option_field program [] k i e = absurd (omega (arith, e))
-option_field program (t ∷ u ∷ ts) k i e = absurd (omega (arith, e))
 option_field program (t ∷ []) zero i e = refl
 option_field program (t ∷ []) (suc zero) zero e = refl
 option_field program (t ∷ []) (suc zero) (suc i) e = rw (no_zero i) refl
 option_field program (t ∷ []) (suc (suc k)) i e = rw (no_one k) refl
+option_field program _ k i e = absurd (omega (arith, e))
 
 pub result_field : (program : MProgram) (parts : List MType) (k i : ℕ) → length parts ≡ 2 → part_type parts (result_part k i) ≡ field_type program (NamedType ResultOwner (types_of parts)) k i
-result_field program [] k i e = absurd (omega (arith, e))
-result_field program (t ∷ []) k i e = absurd (omega (arith, e))
-result_field program (t ∷ u ∷ w ∷ ts) k i e = absurd (omega (arith, e))
 result_field program (t ∷ u ∷ []) zero zero e = refl
 result_field program (t ∷ u ∷ []) zero (suc i) e = rw (no_zero i) refl
 result_field program (t ∷ u ∷ []) (suc zero) zero e = refl
 result_field program (t ∷ u ∷ []) (suc zero) (suc i) e = rw (no_zero i) refl
 result_field program (t ∷ u ∷ []) (suc (suc k)) i e = rw (not_two k) refl
+result_field program _ k i e = absurd (omega (arith, e))
 
 -- the type of a field of a variant, by its number
 pub entry_field : (types : List MType) (v : VariantEntry) (i : ℕ) → option_map (type_at types) (field_number v i) ≡ part_of (variant_types (Some (variant_entry types v))) i
@@ -104,8 +101,7 @@ entry_field types v i = by v.form
 
     by : (k : FormKind) → option_map (type_at types) (number_with k (option_map (λ f. f.ty) (slice_get v.fields.items i))) ≡ part_of (Some (form_types (form_with k (map (field_entry types) v.fields.items)))) i
     by form_kinds.Unit = refl
-    by form_kinds.Tuple = listed
-    by form_kinds.Brace = listed
+    by _ = listed
 
 pub base_owner : (b : Base) → None ≡ type_owner (base_view b)
 base_owner b = base_cases (λ t. None ≡ type_owner t) refl refl refl refl (λ kind. refl) b
@@ -115,31 +111,19 @@ base_behind b = base_cases (λ t. None ≡ behind t) refl refl refl refl (λ kin
 
 -- a type that is not named has no variants
 pub no_variants : (program : MProgram) (t : MType) → None ≡ type_owner t → [] ≡ variants_of program t
-no_variants program BoolType e = refl
-no_variants program CharType e = refl
-no_variants program StrType e = refl
-no_variants program NeverType e = refl
-no_variants program (IntType kind) e = refl
-no_variants program (OpaqueType name args) e = refl
-no_variants program (TupleType ts) e = refl
-no_variants program (PointType mutable t) e = refl
-no_variants program (SliceType t) e = refl
-no_variants program (ArrayType t n) e = refl
 no_variants program (NamedType o args) e = absurd cc
+no_variants program _ e = refl
 
 -- the names of the variants of the built-in enums, with their arguments right
 pub option_named : (program : MProgram) (parts : List MType) (k : ℕ) (name : Option (List ℕ)) → length parts ≡ 1 →
     ((t : MType) → name ≡ variant_name_of (type_variant program (NamedType OptionOwner (more_types t no_types)) k)) → name ≡ variant_name_of (type_variant program (NamedType OptionOwner (types_of parts)) k)
-option_named program [] k name e h = absurd (omega (arith, e))
-option_named program (t ∷ u ∷ ts) k name e h = absurd (omega (arith, e))
 option_named program (t ∷ []) k name e h = h t
+option_named program _ k name e h = absurd (omega (arith, e))
 
 pub result_named : (program : MProgram) (parts : List MType) (k : ℕ) (name : Option (List ℕ)) → length parts ≡ 2 →
     ((t u : MType) → name ≡ variant_name_of (type_variant program (NamedType ResultOwner (more_types t (more_types u no_types))) k)) → name ≡ variant_name_of (type_variant program (NamedType ResultOwner (types_of parts)) k)
-result_named program [] k name e h = absurd (omega (arith, e))
-result_named program (t ∷ []) k name e h = absurd (omega (arith, e))
-result_named program (t ∷ u ∷ w ∷ ts) k name e h = absurd (omega (arith, e))
 result_named program (t ∷ u ∷ []) k name e h = h t u
+result_named program _ k name e h = absurd (omega (arith, e))
 
 -- their fields have no names
 pub option_unnamed : (program : MProgram) (parts : List MType) (k i : ℕ) → length parts ≡ 1 → None ≡ field_name_of (type_variant program (NamedType OptionOwner (types_of parts)) k) i
@@ -166,16 +150,13 @@ tuple_count program parts zero n e = e ∙ ap length (sym (list_back parts))
 tuple_count program parts (suc k) n e = rw (no_zero k) at e
 
 pub option_count : (program : MProgram) (parts : List MType) (k n : ℕ) → length parts ≡ 1 → n ≡ cond (nat_eq k 1) 1 0 → n ≡ fields_of_type program (NamedType OptionOwner (types_of parts)) k
-option_count program [] k n h e = absurd (omega (arith, h))
-option_count program (t ∷ u ∷ ts) k n h e = absurd (omega (arith, h))
 option_count program (t ∷ []) zero n h e = e
 option_count program (t ∷ []) (suc zero) n h e = e
 option_count program (t ∷ []) (suc (suc k)) n h e = rw (no_one k) at e
+option_count program _ k n h e = absurd (omega (arith, h))
 
 pub result_count : (program : MProgram) (parts : List MType) (k n : ℕ) → length parts ≡ 2 → n ≡ cond (nat_lt k 2) 1 0 → n ≡ fields_of_type program (NamedType ResultOwner (types_of parts)) k
-result_count program [] k n h e = absurd (omega (arith, h))
-result_count program (t ∷ []) k n h e = absurd (omega (arith, h))
-result_count program (t ∷ u ∷ w ∷ ts) k n h e = absurd (omega (arith, h))
 result_count program (t ∷ u ∷ []) zero n h e = e
 result_count program (t ∷ u ∷ []) (suc zero) n h e = e
 result_count program (t ∷ u ∷ []) (suc (suc k)) n h e = rw (not_two k) at e
+result_count program _ k n h e = absurd (omega (arith, h))

@@ -1,5 +1,6 @@
 -- Where no declared type is endless, each has a finite value.
 use Rattle.std.proofs.Common.{◌≡◌, ℕ, Bool, true, false, List, refl, slice_get}
+use Rattle.std.proofs.lemmas.Bool.{both_ways, false_from_ne_true}
 use Rattle.match_model.specs.Types.{DeclaredItem, NamedType, no_types}
 use Rattle.match_model.specs.Declarations.{MProgram}
 use Rattle.match_model.specs.Typing.{is_value}
@@ -10,7 +11,6 @@ use Rattle.type_table.specs.Empty.{NoneEndless}
 use Rattle.type_table.proofs.Growing.{StableMarks, stable_marks}
 use Rattle.type_table.proofs.Unsure.{value_has}
 use Rattle.type_table.proofs.UnsureFound.{FieldsShaped, grown_unsure}
-use Rattle.type_table.proofs.EndlessItems.{clash, not_true}
 
 -- each declared type has a finite value
 pub finite : (program : MProgram) → FieldsShaped program → NoneEndless program → (i : ℕ) → is_declared (slice_get program.items i) ≡ true → Found program false (NamedType (DeclaredItem i) no_types)
@@ -26,6 +26,6 @@ finite program shaped none i declared = by (mark_of (slice_get marks i)) refl
     by true e = grown_unsure program shaped marks found.1 i e
     by false e = absurd (none i (record {
       declared = declared;
-      endless = λ v. not_true (is_value program false (NamedType (DeclaredItem i) no_types) v)
-          (λ h. clash (mark_of (slice_get marks i)) (value_has program marks found.2 v (NamedType (DeclaredItem i) no_types) h) e);
+      endless = λ v. false_from_ne_true (is_value program false (NamedType (DeclaredItem i) no_types) v)
+          (λ h. both_ways (mark_of (slice_get marks i)) e (value_has program marks found.2 v (NamedType (DeclaredItem i) no_types) h));
     }))

@@ -2,7 +2,7 @@
 use Rattle.std.proofs.Common.{◌≡◌, ℕ, ◌<◌, true, List, map, length, Option, Some, None, refl, sym, ap, subst, ◌∙◌, arith, take, get_or}
 use Rattle.std.specs.Prelude.{slice_get, option_map}
 use Rattle.std.proofs.lemmas.List.{length-map}
-use Rattle.std.proofs.lemmas.Option.{slice_get-map}
+use Rattle.std.proofs.lemmas.Option.{slice_get-map, slice_get_read}
 use Rattle.match_model.specs.declared.Width.{Width}
 use Rattle.match_model.specs.Declarations.{MItem, MProgram}
 use Rattle.match_model.specs.RustTypes.{is_declared}
@@ -29,7 +29,6 @@ use Rattle.type_table.specs.Readings.{fault_pair}
 use Rattle.type_table.specs.Tables.{IsDraftOf, IsTableOf, table_told}
 use Rattle.type_table.proofs.AllRules.{passes_within}
 use Rattle.type_table.proofs.ByValue.{contains_within}
-use Rattle.type_table.proofs.Clauses.{get_there}
 use Rattle.type_table.proofs.EntryLemmas.{program_is, told_items}
 use Rattle.type_table.proofs.NodeLemmas.{get_below}
 
@@ -128,5 +127,5 @@ pub found_fault : (items : List Item) (width : Width) (best : Option (ℕ × ℕ
     LeastFault (Breaks (map item_view items) width) (option_map fault_pair best) → item ≡ get_or items i item → IsFirstFault (map item_view items) width rule i item.from
 found_fault items width best rule i item is least read =
     first_fault_is (map item_view items) width rule i item.from (item_view item)
-    (slice_get-map item_view items i ∙ ap (option_map item_view) (get_there items i item (found_below items width best rule i is least) read)) refl
+    (slice_get-map item_view items i ∙ ap (option_map item_view) (slice_get_read items (length items) i item refl (found_below items width best rule i is least) read)) refl
     (found_least (map item_view items) width best rule i is least)

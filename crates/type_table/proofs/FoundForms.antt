@@ -11,7 +11,7 @@ use Rattle.type_names.specs.declared.meanings.FormKind.{FormKind}
 use Rattle.type_names.specs.declared.meanings.FormKind.TheVariants as kinds
 use Rattle.type_names.specs.declared.meanings.Owner.{Owner}
 use Rattle.type_names.specs.declared.meanings.Owner.TheVariants as owners
-use Rattle.type_names.specs.Finding.{FoundTree, FoundNothing, FoundTwice, FoundStruct, FoundVariant, path_finds, kind_form, struct_form, found_form, is_found}
+use Rattle.type_names.specs.Finding.{FoundTree, FoundStruct, FoundVariant, path_finds, kind_form, struct_form, found_form, is_found}
 use Rattle.type_names.specs.Imports.{form_kind, owner_variants, form_at, named_variant, item_variants}
 use Rattle.type_names.specs.Meanings.{Means, means}
 use Rattle.type_names.specs.Views.{owner_view}
@@ -31,14 +31,9 @@ use Rattle.type_table.proofs.PathLemmas.{told_at, told_past}
 
 form_kept : (names : Means) (k : FormKind) (fields : List MField) (form : FormTree) → form_with k fields ≡ form_of names form → k ≡ form_kind form
 form_kept names kinds.Unit fields Unit e = refl
-form_kept names kinds.Unit fields (forms.Tuple fs) e = absurd cc
-form_kept names kinds.Unit fields (forms.Brace fs) e = absurd cc
-form_kept names kinds.Tuple fields Unit e = absurd cc
 form_kept names kinds.Tuple fields (forms.Tuple fs) e = refl
-form_kept names kinds.Tuple fields (forms.Brace fs) e = absurd cc
-form_kept names kinds.Brace fields Unit e = absurd cc
-form_kept names kinds.Brace fields (forms.Tuple fs) e = absurd cc
 form_kept names kinds.Brace fields (forms.Brace fs) e = refl
+form_kept names _ fields _ e = absurd cc
 
 struct_kept : (types : List MType) (names : Means) (marked : Bool) (e : Entry) (k : KindTree) → (entry_told types e).item ≡ kind_of names marked k → struct_entry_form (Some e) ≡ kind_form k
 struct_kept types names marked (entries.Struct id v) (Struct name form) e =
@@ -48,60 +43,41 @@ struct_kept types names marked (entries.Struct id v) (Enum name vs) e = absurd c
 struct_kept types names marked (entries.Struct id v) (Import owner listed) e = absurd cc
 struct_kept types names marked (entries.Struct id v) (Function name parameter deref arms) e = absurd cc
 struct_kept types names marked (entries.Enum id n later ws) (Struct name form) e = absurd cc
-struct_kept types names marked (entries.Enum id n later ws) (Enum name vs) e = refl
-struct_kept types names marked (entries.Enum id n later ws) (Import owner listed) e = refl
-struct_kept types names marked (entries.Enum id n later ws) (Function name parameter deref arms) e = refl
 struct_kept types names marked (entries.Function param d) (Struct name form) e = absurd cc
-struct_kept types names marked (entries.Function param d) (Enum name vs) e = refl
-struct_kept types names marked (entries.Function param d) (Import owner listed) e = refl
-struct_kept types names marked (entries.Function param d) (Function name parameter deref arms) e = refl
 struct_kept types names marked entries.Import (Struct name form) e = absurd cc
-struct_kept types names marked entries.Import (Enum name vs) e = refl
-struct_kept types names marked entries.Import (Import owner listed) e = refl
-struct_kept types names marked entries.Import (Function name parameter deref arms) e = refl
+struct_kept types names marked _ _ e = refl
 
 variants_kept : (types : List MType) (names : Means) (ws : List VariantEntry) (vs : List VariantTree) (k : ℕ) → map (variant_entry types) ws ≡ map (variant_of names) vs →
     option_map {U = FormKind} (λ w. w.form) (slice_get ws k) ≡ option_map {U = FormKind} (λ v. v.1) (slice_get (map named_variant vs) k)
 variants_kept types names [] [] k e = refl
-variants_kept types names [] (v ∷ vs) k e = absurd cc
-variants_kept types names (w ∷ ws) [] k e = absurd cc
 variants_kept types names (w ∷ ws) (v ∷ vs) zero e =
     let same : variant_entry types w ≡ variant_of names v = cc in
     ap Some (form_kept names w.form _ v.form (ap (λ (x : MVariant). x.form) same))
 variants_kept types names (w ∷ ws) (v ∷ vs) (suc k) e =
     let rest : map (variant_entry types) ws ≡ map (variant_of names) vs = cc in
     variants_kept types names ws vs k rest
+variants_kept types names _ _ k e = absurd cc
 
 enum_kept : (types : List MType) (names : Means) (marked : Bool) (e : Entry) (x : ItemTree) (kd : KindTree) (k : ℕ) → x.kind ≡ kd → (entry_told types e).item ≡ kind_of names marked kd →
     enum_entry_form (Some e) k ≡ option_map {U = FormKind} (λ v. v.1) (slice_get (map named_variant (item_variants (Some x))) k)
-enum_kept types names marked (entries.Struct id v) x (Struct name form) k is e = rw is refl
 enum_kept types names marked (entries.Struct id v) x (Enum name vs) k is e = absurd cc
-enum_kept types names marked (entries.Struct id v) x (Import owner listed) k is e = rw is refl
-enum_kept types names marked (entries.Struct id v) x (Function name parameter deref arms) k is e = rw is refl
 enum_kept types names marked (entries.Enum id n later ws) x (Struct name form) k is e = absurd cc
 enum_kept types names marked (entries.Enum id n later ws) x (Enum name vs) k is e =
     let same : map (variant_entry types) ws.items ≡ map (variant_of names) vs = cc in
     rw is (variants_kept types names ws.items vs k same)
 enum_kept types names marked (entries.Enum id n later ws) x (Import owner listed) k is e = absurd cc
 enum_kept types names marked (entries.Enum id n later ws) x (Function name parameter deref arms) k is e = absurd cc
-enum_kept types names marked (entries.Function param d) x (Struct name form) k is e = rw is refl
 enum_kept types names marked (entries.Function param d) x (Enum name vs) k is e = absurd cc
-enum_kept types names marked (entries.Function param d) x (Import owner listed) k is e = rw is refl
-enum_kept types names marked (entries.Function param d) x (Function name parameter deref arms) k is e = rw is refl
-enum_kept types names marked entries.Import x (Struct name form) k is e = rw is refl
 enum_kept types names marked entries.Import x (Enum name vs) k is e = absurd cc
-enum_kept types names marked entries.Import x (Import owner listed) k is e = rw is refl
-enum_kept types names marked entries.Import x (Function name parameter deref arms) k is e = rw is refl
+enum_kept types names marked _ x _ k is e = rw is refl
 
 option_kept : (items : List ItemTree) (es : List Entry) (k : ℕ) → variant_form_by es owners.Option k ≡ form_at (owner_variants items OptionOwner) (Some k)
-option_kept items es zero = refl
-option_kept items es (suc zero) = refl
 option_kept items es (suc (suc k)) = grind arith
+option_kept items es _ = refl
 
 result_kept : (items : List ItemTree) (es : List Entry) (k : ℕ) → variant_form_by es owners.Result k ≡ form_at (owner_variants items ResultOwner) (Some k)
-result_kept items es zero = refl
-result_kept items es (suc zero) = refl
 result_kept items es (suc (suc k)) = grind arith
+result_kept items es _ = refl
 
 module _ (items : List ItemTree) (width : Width) (t : TypeTable) (is : IsTableOf items width t) where
   struct_forms : (i : ℕ) → struct_entry_form (slice_get t.items.items i) ≡ struct_form (slice_get items i)
@@ -128,14 +104,13 @@ module _ (items : List ItemTree) (width : Width) (t : TypeTable) (is : IsTableOf
   variant_forms owners.Result k = result_kept items t.items.items k
 
   pub form_is : (told : FoundTree) (found : Found) → FoundIs t told found → form_by t found ≡ found_form items told
-  form_is FoundNothing found h = ap (form_by t) h
-  form_is FoundTwice found h = ap (form_by t) h
   form_is (FoundStruct i) found h =
       ap (form_by t) h.1
       ∙ (ap (λ (ty : MType). struct_form_by t.items.items (type_owner ty)) h.3 ∙ struct_forms i)
   form_is (FoundVariant o k) found h =
       ap (form_by t) h.1
       ∙ (variant_forms h.0 k ∙ ap (λ (w : MOwner). form_at (owner_variants items w) (Some k)) h.2)
+  form_is _ found h = ap (form_by t) h
 
   pub form_exact : (path : PathTree) (found : Found) → FoundIs t (path_finds items path) found → is_some (form_by t found) ≡ is_found (path_finds items path)
   form_exact path found h = target_has items path (path_finds items path) (form_by t found) (form_is (path_finds items path) found h) refl

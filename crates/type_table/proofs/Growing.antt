@@ -1,10 +1,10 @@
 -- Marks that come about one by one are the least by which no item is left, and the least come about so.
 use Rattle.std.proofs.Common.{◌≡◌, ◌⊎◌, inl, inr, ⊎_elim, ℕ, ◌≤◌, zero, suc, Bool, true, false, ◌&&◌, ◌||◌, List, [], ◌∷◌, Option, Some, None, length, replicate, refl, sym, ap, subst, ◌∙◌, arith, slice_get, slice_set, nat_eq, ◌+◌, take}
 use Rattle.std.specs.List.{list_any}
-use Rattle.std.proofs.lemmas.Bool.{and_parts}
+use Rattle.std.proofs.lemmas.Bool.{and_parts, both_ways}
 use Rattle.std.proofs.lemmas.List.{length-replicate, length-map, length-take-le}
-use Rattle.match_model.specs.Types.{DeclaredItem, OptionOwner, ResultOwner, MType, BoolType, CharType, StrType, NeverType, IntType, OpaqueType, TupleType, PointType, SliceType, ArrayType, NamedType, MTypes, no_types, more_types}
-use Rattle.match_model.specs.Declarations.{MVariant, MItem, StructItem, EnumItem, OtherItem, form_types}
+use Rattle.match_model.specs.Types.{DeclaredItem, ResultOwner, MType, NeverType, TupleType, PointType, ArrayType, NamedType, MTypes, no_types, more_types}
+use Rattle.match_model.specs.Declarations.{MVariant, MItem, StructItem, EnumItem, form_types}
 use Rattle.match_model.specs.Emptiness.{mark_of}
 use Rattle.match_model.proofs.Basics.{and_true, or_left, or_right}
 use Rattle.type_table.specs.declared.nodes.Node.{Node}
@@ -17,10 +17,6 @@ pub data GrownAt (sure : Bool) (items : List MItem) : (marks : List Bool) → Ty
   one_more : (marks : List Bool) (i : ℕ) → GrownAt sure items marks →
       item_may_be sure marks (slice_get items i) ≡ true → GrownAt sure items (slice_set marks i true)
 
-clash : (b : Bool) → b ≡ true → b ≡ false → ⊥
-clash true e f = absurd cc
-clash false e f = absurd cc
-
 -- how many are not marked
 abbrev missing : List Bool → ℕ
 missing [] = 0
@@ -28,16 +24,14 @@ missing (true ∷ ms) = missing ms
 missing (false ∷ ms) = suc (missing ms)
 
 set_length : (ms : List Bool) (i : ℕ) → length (slice_set ms i true) ≡ length ms
-set_length [] i = refl
-set_length (m ∷ ms) zero = refl
 set_length (m ∷ ms) (suc i) = ap suc (set_length ms i)
+set_length _ _ = refl
 
 set_fewer : (ms : List Bool) (i : ℕ) → slice_get ms i ≡ Some false → suc (missing (slice_set ms i true)) ≡ missing ms
-set_fewer [] i at = cc
 set_fewer (false ∷ ms) zero at = refl
-set_fewer (true ∷ ms) zero at = cc
 set_fewer (true ∷ ms) (suc i) at = set_fewer ms i at
 set_fewer (false ∷ ms) (suc i) at = ap suc (set_fewer ms i at)
+set_fewer _ _ at = cc
 
 -- the item is not marked, though it has a value by the marks
 abbrev IsLeft : (Option MItem → Bool) → List MItem → List Bool → Type 0
@@ -48,7 +42,7 @@ AreMarked has items ms = (i : ℕ) → has (slice_get items i) ≡ true → mark
 
 -- an item is left, or all are marked
 find : (has : Option MItem → Bool) → has None ≡ false → (items : List MItem) (ms : List Bool) → length ms ≡ length items → IsLeft has items ms ⊎ AreMarked has items ms
-find has none [] ms len = inr (λ i h. absurd (clash (has None) h none))
+find has none [] ms len = inr (λ i h. absurd (both_ways (has None) none h))
 find has none (x ∷ xs) [] len = absurd (omega (arith, len))
 find has none (x ∷ xs) (m ∷ ms) len = here m (has (Some x)) refl (find has none xs ms (omega (arith, len)))
   where
@@ -63,7 +57,7 @@ find has none (x ∷ xs) (m ∷ ms) len = here m (has (Some x)) refl (find has n
     here : (n b : Bool) → has (Some x) ≡ b → IsLeft has xs ms ⊎ AreMarked has xs ms → IsLeft has (x ∷ xs) (n ∷ ms) ⊎ AreMarked has (x ∷ xs) (n ∷ ms)
     here true b e rest = later true (λ h. refl) rest
     here false true e rest = inl (0, e, refl)
-    here false false e rest = later false (λ h. absurd (clash (has (Some x)) h e)) rest
+    here false false e rest = later false (λ h. absurd (both_ways (has (Some x)) e h)) rest
 
 abbrev pub StableMarks : (sure : Bool) → List MItem → Type 0
 StableMarks sure items = (marks : List Bool) × GrownAt sure items marks × IsStableAt sure items marks × (length marks ≡ length items)
@@ -105,19 +99,13 @@ module _ (sure : Bool) (marks others : List Bool) (below : AreBelow marks others
   mutual
     -- more marks, more types that have a value
     more_may : (t : MType) → may_be sure marks t ≡ true → may_be sure others t ≡ true
-    more_may BoolType h = refl
-    more_may CharType h = refl
-    more_may StrType h = refl
     more_may NeverType h = h
-    more_may (IntType kind) h = refl
-    more_may (OpaqueType o args) h = refl
     more_may (TupleType ts) h = more_all ts h
     more_may (PointType mutable t) h = or_mono sure (may_be sure marks t) sure (may_be sure others t) h (λ e. e) (more_may t)
-    more_may (SliceType t) h = refl
     more_may (ArrayType t n) h = or_mono (nat_eq n 0) (may_be sure marks t) (nat_eq n 0) (may_be sure others t) h (λ e. e) (more_may t)
     more_may (NamedType (DeclaredItem i) args) h = below i h
-    more_may (NamedType OptionOwner args) h = refl
     more_may (NamedType ResultOwner args) h = more_some args h
+    more_may _ h = refl
 
     more_all : (ts : MTypes) → may_all_be sure marks ts ≡ true → may_all_be sure others ts ≡ true
     more_all no_types h = refl
@@ -133,23 +121,19 @@ module _ (sure : Bool) (marks others : List Bool) (below : AreBelow marks others
       or_mono (may_all_be sure marks (form_types v.form)) _ (may_all_be sure others (form_types v.form)) _ h (more_all (form_types v.form)) (more_variants vs)
 
   more_item : (o : Option MItem) → item_may_be sure marks o ≡ true → item_may_be sure others o ≡ true
-  more_item None h = h
-  more_item (Some OtherItem) h = h
   more_item (Some (StructItem v)) h = more_all (form_types v.form) h
   more_item (Some (EnumItem name marked vs)) h =
       or_mono marked _ marked _ h (λ e. e) (λ k. or_mono (is_unseen sure vs) _ (is_unseen sure vs) _ k (λ e. e) (more_variants vs))
+  more_item _ h = h
 
 pub set_mark : (marks : List Bool) (i j : ℕ) → mark_of (slice_get (slice_set marks i true) j) ≡ true → (j ≡ i) ⊎ (mark_of (slice_get marks j) ≡ true)
-set_mark [] i j h = inr h
 set_mark (m ∷ marks) zero zero h = inl refl
-set_mark (m ∷ marks) zero (suc j) h = inr h
-set_mark (m ∷ marks) (suc i) zero h = inr h
 set_mark (m ∷ marks) (suc i) (suc j) h = elim (set_mark marks i j h) [ inl e ↦ inl (ap suc e) | inr e ↦ inr e ]
+set_mark _ _ _ h = inr h
 
 pub no_mark : (n j : ℕ) → mark_of (slice_get (replicate n false) j) ≡ true → ⊥
-no_mark zero j h = absurd cc
-no_mark (suc n) zero h = absurd cc
 no_mark (suc n) (suc j) h = no_mark n j h
+no_mark _ _ h = absurd cc
 
 -- marks that came about stay below those by which no item is left
 pub grown_least : (sure : Bool) (items : List MItem) (marks : List Bool) → GrownAt sure items marks → IsLeastAt sure items marks
@@ -160,18 +144,17 @@ grown_least sure items _ (one_more marks i g e) others stable j h =
     (λ before. grown_least sure items marks g others stable j before)
     (set_mark marks i j h)
 
-two_ways : (a b : Bool) → (a ≡ true → b ≡ true) → (b ≡ true → a ≡ true) → a ≡ b
+pub two_ways : (a b : Bool) → (a ≡ true → b ≡ true) → (b ≡ true → a ≡ true) → a ≡ b
 two_ways true b f g = sym (f refl)
 two_ways false true f g = g refl
 two_ways false false f g = refl
 
 same_marks : (ms ns : List Bool) → length ms ≡ length ns → AreBelow ms ns → AreBelow ns ms → ms ≡ ns
 same_marks [] [] len f g = refl
-same_marks [] (n ∷ ns) len f g = absurd (omega (arith, len))
-same_marks (m ∷ ms) [] len f g = absurd (omega (arith, len))
 same_marks (m ∷ ms) (n ∷ ns) len f g =
     ap (λ (b : Bool). b ∷ ms) (two_ways m n (f 0) (g 0))
     ∙ ap (λ (bs : List Bool). n ∷ bs) (same_marks ms ns (omega (arith, len)) (λ i. f (suc i)) (λ i. g (suc i)))
+same_marks _ _ len f g = absurd (omega (arith, len))
 
 -- the least marks by which no item is left came about one by one
 pub least_grown : (sure : Bool) (items : List MItem) (marks : List Bool) → length marks ≡ length items → IsStableAt sure items marks → IsLeastAt sure items marks → GrownAt sure items marks

@@ -1,7 +1,6 @@
 -- Types of a table by the heads of their nodes.
-use Rattle.std.proofs.Common.{◌≡◌, ℕ, ◌<◌, ◌≤◌, true, false, List, [], ◌∷◌, map, length, Option, Some, None, refl, sym, ap, ◌∙◌, suc, zero, get_or, arith}
-use Rattle.std.specs.Prelude.{slice_get, nat_lt, nat_eq, option_map}
-use Rattle.std.proofs.lemmas.Bool.{ltb-true, and_parts, eqb-true}
+use Rattle.std.proofs.Common.{◌≡◌, ℕ, true, false, List, [], ◌∷◌, map, length, Option, Some, None, refl, sym, ap, ◌∙◌, suc, zero, arith}
+use Rattle.std.specs.Prelude.{slice_get, option_map}
 use Rattle.std.proofs.lemmas.List.{length-map}
 use Rattle.match_model.specs.Types.{MType, MTypes, DeclaredItem, NamedType, no_types, more_types, types_list, types_of}
 use Rattle.match_model.specs.Declarations.{MItem, form_types, item_variants, item_is_marked}
@@ -17,7 +16,7 @@ use Rattle.type_table.specs.declared.entries.Entry.TheVariants as entries
 use Rattle.type_table.specs.declared.entries.VariantEntry.{VariantEntry}
 use Rattle.type_table.specs.declared.kinds.TyKind.{TyKind}
 use Rattle.type_table.specs.declared.kinds.TyKind.TheVariants as kinds
-use Rattle.type_table.specs.Nodes.{head_type, type_at, type_there, are_below, fits_head}
+use Rattle.type_table.specs.Nodes.{head_type, type_at, type_there, fits_head}
 use Rattle.type_table.specs.Entries.{Told, entry_told, variant_entry, field_entry, form_with}
 use Rattle.type_table.specs.Tables.{table_types, table_type, table_told, table_program, parts_at, type_parts, KindIs, ItemKindIs, is_struct, count_of_item, entry_count, fields_of_entry, fields_with}
 use Rattle.type_table.proofs.NodeLemmas.{type_of_node}
@@ -39,9 +38,6 @@ module _ (t : TypeTable) (ty : TyId) (n : Node) (at : slice_get t.nodes.keys ty.
   parts_fit h e =
       let count : length (type_parts t ty) ≡ length n.parts.items = ap length parts_are ∙ rw length-map refl in
       ap (fits_head h) count ∙ (ap (λ (g : Head). fits_head g (length n.parts.items)) (sym e) ∙ (t.whole.are ty.index n at).1)
-
-pub count_is : (n k : ℕ) → nat_eq n k ≡ true → n ≡ k
-count_is n k h = eqb-true n k h
 
 pub count_back : (ts : List MType) → length (types_list (types_of ts)) ≡ length ts
 count_back ts = ap length (list_back ts)
@@ -70,35 +66,19 @@ fields_count types v = by v.form
 
     by : (k : FormKind) → length (types_list (form_types (form_with k (map (field_entry types) v.fields.items)))) ≡ fields_with k (length v.fields.items)
     by form_kinds.Unit = refl
-    by form_kinds.Tuple = listed
-    by form_kinds.Brace = listed
+    by _ = listed
 
 pub entry_counted : (types : List MType) (e : Entry) → count_of_item (Some (entry_told types e).item) ≡ entry_count e
 entry_counted types (entries.Struct id variant) = fields_count types variant
 entry_counted types (entries.Enum id name later variants) = rw length-map refl
-entry_counted types (entries.Function param deref) = refl
-entry_counted types entries.Import = refl
+entry_counted types _ = refl
 
 -- the kind of a type whose item is there
 pub kind_of_item : (t : TypeTable) (i : ℕ) (item : MItem) (k : TyKind) → slice_get (table_program t).items i ≡ Some item → ItemKindIs item k → KindIs t (NamedType (DeclaredItem i) no_types) k
 kind_of_item t i item (kinds.Struct n) at h = (i, h.0, refl, at ∙ ap Some h.1, h.2)
 kind_of_item t i item (kinds.Enum count later) at h =
     (DeclaredItem i, no_types, refl, ap is_struct at ∙ h.0, ap (λ (o : Option MItem). length (item_variants o)) at ∙ h.1, ap item_is_marked at ∙ h.2)
-kind_of_item t i item kinds.Bool at h = absurd h
-kind_of_item t i item kinds.Char at h = absurd h
-kind_of_item t i item (kinds.Int kind) at h = absurd h
-kind_of_item t i item kinds.Str at h = absurd h
-kind_of_item t i item kinds.Never at h = absurd h
-kind_of_item t i item kinds.Opaque at h = absurd h
-kind_of_item t i item (kinds.Tuple n) at h = absurd h
-kind_of_item t i item (kinds.Point mutable inner) at h = absurd h
-kind_of_item t i item (kinds.Slice inner) at h = absurd h
-kind_of_item t i item (kinds.Array inner n) at h = absurd h
+kind_of_item t i item _ at h = absurd h
 
 pub kind_of_none : (t : TypeTable) (i : ℕ) → slice_get (table_program t).items i ≡ None → KindIs t (NamedType (DeclaredItem i) no_types) (kinds.Enum 0 false)
 kind_of_none t i at = (DeclaredItem i, no_types, refl, ap is_struct at, ap (λ (o : Option MItem). length (item_variants o)) at, ap item_is_marked at)
-
-pub get_past : {A : Type 0} (xs : List A) (i : ℕ) → length xs ≤ i → slice_get xs i ≡ None
-get_past [] i le = refl
-get_past (x ∷ xs) zero le = absurd (omega arith)
-get_past (x ∷ xs) (suc i) le = get_past xs i (omega arith)

@@ -1,7 +1,7 @@
 -- The least fault of several rules, from the first item that breaks each.
 use Rattle.std.proofs.Common.{◌≡◌, ℕ, ◌<◌, ◌≤◌, Bool, true, false, cond, Option, Some, None, refl, inl, inr, ◌⊎◌, arith}
 use Rattle.std.specs.Prelude.{nat_le}
-use Rattle.std.proofs.lemmas.Bool.{leb-true}
+use Rattle.std.proofs.lemmas.Bool.{leb-true, both_ways}
 use Rattle.type_names.specs.Rules.{FirstOf}
 use Rattle.type_table.specs.Faults.{FirstThat, LeastFault}
 use Rattle.type_table.specs.Readings.{earlier}
@@ -68,16 +68,8 @@ low_more broken rule next P lt low i other (inr p) = let same : other ≡ rule =
 
 -- a first among so many numbers, where it holds of none beyond
 pub first_that : (test : ℕ → Bool) (count : ℕ) (found : Option ℕ) → ((j : ℕ) → test j ≡ true → j < count) → FirstOf test count found → FirstThat (λ j. test j ≡ true) found
-first_that test count None within first = λ j yes_j. clash (test j) yes_j (first j (within j yes_j))
-  where
-    clash : (b : Bool) → b ≡ true → b ≡ false → ⊥
-    clash true h f = absurd cc
-    clash false h f = absurd cc
-first_that test count (Some i) within first = (first.1, λ j lt yes_j. clash (test j) yes_j (first.2 j lt))
-  where
-    clash : (b : Bool) → b ≡ true → b ≡ false → ⊥
-    clash true h f = absurd cc
-    clash false h f = absurd cc
+first_that test count None within first = λ j yes_j. both_ways (test j) (first j (within j yes_j)) yes_j
+first_that test count (Some i) within first = (first.1, λ j lt yes_j. both_ways (test j) (first.2 j lt) yes_j)
 
 -- the same fault, in other words
 pub least_same : (P Q : ℕ → ℕ → Type 0) (best : Option (ℕ × ℕ)) → ((i r : ℕ) → P i r → Q i r) → ((i r : ℕ) → Q i r → P i r) → LeastFault P best → LeastFault Q best

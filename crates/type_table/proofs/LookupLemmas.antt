@@ -1,23 +1,20 @@
 -- The first place at which a test passes, and the names of fields by their numbers.
-use Rattle.std.proofs.Common.{◌≡◌, ℕ, ◌+◌, ◌<◌, zero, suc, Bool, true, false, List, [], ◌∷◌, map, length, Option, Some, None, refl, sym, ap, ◌∙◌, arith, ⊎_elim, ◌≤◌}
+use Rattle.std.proofs.Common.{◌≡◌, ℕ, ◌+◌, ◌<◌, zero, suc, Bool, true, false, List, [], ◌∷◌, map, length, Option, Some, None, refl, sym, ap, ◌∙◌, arith, ◌≤◌}
 use Rattle.std.specs.Prelude.{slice_get, position, option_map}
 use Rattle.std.specs.Fmt.{decimal}
 use Rattle.std.specs.Str.{bytes_eq}
-use Rattle.std.proofs.lemmas.Bool.{cases_lt}
 use Rattle.std.proofs.lemmas.List.{length-map}
-use Rattle.match_model.specs.Types.{MType, MTypes, BoolType, CharType, StrType, NeverType, IntType, OpaqueType, TupleType, PointType, SliceType, ArrayType, DeclaredItem, OptionOwner, ResultOwner, NamedType, no_types, more_types, types_list, types_of}
-use Rattle.match_model.specs.Declarations.{MField, MForm, UnitForm, TupleForm, BraceForm, MVariant, MItem, StructItem, EnumItem, OtherItem, MProgram, form_types, variants_of, item_variants, node_types, variant_types}
+use Rattle.match_model.specs.Types.{MType, DeclaredItem, OptionOwner, ResultOwner, NamedType, no_types, more_types, types_list}
+use Rattle.match_model.specs.Declarations.{MField, MForm, UnitForm, TupleForm, BraceForm, MVariant, MItem, StructItem, EnumItem, OtherItem, MProgram, form_types, variants_of, item_variants, variant_types}
 use Rattle.match_model.specs.RustTypes.{count_of_types}
 use Rattle.type_names.proofs.Places.{position_hit, position_skip}
 use Rattle.type_names.proofs.Variants.{get_map}
-use Rattle.type_table.specs.declared.table.TyId.{TyId}
 use Rattle.type_table.specs.declared.table.TypeTable.{TypeTable}
 use Rattle.type_table.specs.Lookups.{numbered_names, form_names, field_names, name_or_number}
-use Rattle.type_table.specs.Tables.{IsOf, table_program, table_type, count_of_item, type_variant, variant_name_of, form_field_name, field_name_of, fields_of_type}
+use Rattle.type_table.specs.Tables.{table_program, count_of_item, type_variant, variant_name_of, form_field_name, field_name_of, fields_of_type}
 use Rattle.type_table.proofs.KindLemmas.{count_back}
 use Rattle.type_table.proofs.FewParts.{none_few, one_few, item_count_few}
-use Rattle.type_table.proofs.OneNumber.{node_there}
-use Rattle.type_table.proofs.NodeLemmas.{get_below}
+use Rattle.type_table.proofs.NodeLemmas.{get_below, item_at}
 
 -- the test passes at the element and at none before
 pub position_found : {A : Type 0} (p : A → Bool) (xs : List A) (k : ℕ) (x : A) → slice_get xs k ≡ Some x → p x ≡ true →
@@ -47,10 +44,9 @@ no_variant None e = refl
 no_variant (Some v) e = absurd cc
 
 past_end : {A : Type 0} (xs : List A) (k j : ℕ) (y : A) → slice_get xs k ≡ None → slice_get xs j ≡ Some y → j < k
-past_end [] k j y e at = absurd cc
-past_end (x ∷ xs) zero j y e at = absurd cc
 past_end (x ∷ xs) (suc k) zero y e at = omega arith
 past_end (x ∷ xs) (suc k) (suc j) y e at = let lt : j < k = past_end xs k j y e at in omega (arith, lt)
+past_end _ _ j y e at = absurd cc
 
 -- none of the variants up to that number is of that name
 abbrev pub NoneNamed : List MVariant → (name : List ℕ) → ℕ → Type 0
@@ -62,21 +58,6 @@ none_named_past vs name k before e = position_none (λ v. bytes_eq name v.name) 
 pub none_named_few : (vs : List MVariant) (name : List ℕ) (k : ℕ) → NoneNamed vs name k → length vs ≤ k → position (λ v. bytes_eq name v.name) vs ≡ None
 none_named_few vs name k before few = position_none (λ v. bytes_eq name v.name) vs (λ j v at. let lt : j < length vs = get_below vs j v at in before j v (omega (arith, lt)) at)
 
--- one more is not of that name
-pub none_named_more : (vs : List MVariant) (name other : List ℕ) (k : ℕ) → NoneNamed vs name k → Some other ≡ variant_name_of (slice_get vs k) → bytes_eq name other ≡ false → NoneNamed vs name (k + 1)
-none_named_more vs name other k before e apart j v lt at =
-    ⊎_elim
-    (λ low. before j v low at)
-    (λ high.
-    let top : j ≡ k = omega arith in
-    let here = named_variant vs k other e in
-    let same : here.0 ≡ v = some_same (sym here.1 ∙ (ap (slice_get vs) (sym top) ∙ at)) in
-    ap (λ (w : MVariant). bytes_eq name w.name) (sym same) ∙ (ap (bytes_eq name) here.2 ∙ apart))
-    (cases_lt j k)
-  where
-    some_same : {w u : MVariant} → Some w ≡ Some u → w ≡ u
-    some_same x = cc
-
 -- one of that name is the first
 pub first_named : (vs : List MVariant) (name other : List ℕ) (k : ℕ) → NoneNamed vs name k → Some other ≡ variant_name_of (slice_get vs k) → bytes_eq name other ≡ true →
     position (λ v. bytes_eq name v.name) vs ≡ Some k
@@ -86,16 +67,6 @@ first_named vs name other k before e same =
 
 -- a type of a table has few variants
 pub variants_few : (t : TypeTable) (u : MType) → length (variants_of (table_program t) u) < 4294967296
-variants_few t BoolType = none_few
-variants_few t CharType = none_few
-variants_few t StrType = none_few
-variants_few t NeverType = none_few
-variants_few t (IntType kind) = none_few
-variants_few t (OpaqueType o arguments) = none_few
-variants_few t (TupleType ts) = none_few
-variants_few t (PointType mutable u) = none_few
-variants_few t (SliceType u) = none_few
-variants_few t (ArrayType u n) = none_few
 variants_few t (NamedType (DeclaredItem i) arguments) = by (slice_get (table_program t).items i) (item_count_few t i)
   where
     by : (o : Option MItem) → count_of_item o < 4294967296 → length (item_variants o) < 4294967296
@@ -106,10 +77,8 @@ variants_few t (NamedType (DeclaredItem i) arguments) = by (slice_get (table_pro
 variants_few t (NamedType OptionOwner no_types) = one_few
 variants_few t (NamedType OptionOwner (more_types u no_types)) = omega arith
 variants_few t (NamedType OptionOwner (more_types u (more_types w ws))) = one_few
-variants_few t (NamedType ResultOwner no_types) = none_few
-variants_few t (NamedType ResultOwner (more_types u no_types)) = none_few
 variants_few t (NamedType ResultOwner (more_types u (more_types w no_types))) = omega arith
-variants_few t (NamedType ResultOwner (more_types u (more_types w (more_types x xs)))) = none_few
+variants_few t _ = none_few
 
 numbered_count : (i : ℕ) (ts : List MType) → length (numbered_names i ts) ≡ length ts
 numbered_count i [] = refl
@@ -134,17 +103,8 @@ form_count (BraceForm fields) = count_back (map (λ f. f.type) fields) ∙ (leng
 
 -- so has a variant of a type
 pub fields_counted : (program : MProgram) (t : MType) (k : ℕ) (v : MVariant) → type_variant program t k ≡ Some v → fields_of_type program t k ≡ length (field_names (Some v))
-fields_counted program BoolType k v e = absurd cc
-fields_counted program CharType k v e = absurd cc
-fields_counted program StrType k v e = absurd cc
-fields_counted program NeverType k v e = absurd cc
-fields_counted program (IntType kind) k v e = absurd cc
-fields_counted program (OpaqueType o arguments) k v e = absurd cc
-fields_counted program (TupleType ts) k v e = absurd cc
-fields_counted program (PointType mutable u) k v e = absurd cc
-fields_counted program (SliceType u) k v e = absurd cc
-fields_counted program (ArrayType u n) k v e = absurd cc
 fields_counted program (NamedType o arguments) k v e = ap (λ (w : Option MVariant). count_of_types (variant_types w)) e ∙ form_count v.form
+fields_counted program _ k v e = absurd cc
 
 -- the name of a field by its number
 pub name_at : (v : MVariant) (i : ℕ) → i < length (form_names v.form) → slice_get (form_names v.form) i ≡ Some (name_or_number (form_field_name v.form i) i)
@@ -153,7 +113,7 @@ name_at v i lt = by v.form lt
     named : (fields : List MField) → (o : Option MField) → slice_get fields i ≡ o → i < length fields →
         slice_get (map (λ f. f.name) fields) i ≡ Some (name_or_number (option_map (λ f. f.name) (slice_get fields i)) i)
     named fields None e below =
-        let there = node_there fields i below in absurd (nothing (sym e ∙ there.1))
+        let there = item_at fields i below in absurd (nothing (sym e ∙ there.1))
       where
         nothing : {x : MField} → None ≡ Some x → ⊥
         nothing h = cc

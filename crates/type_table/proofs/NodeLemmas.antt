@@ -1,10 +1,11 @@
 -- The types of nodes in a set that grows at its end.
 use Rattle.std.proofs.Common.{◌≡◌, ℕ, ◌+◌, ◌<◌, Bool, true, false, List, [], ◌∷◌, ◌++◌, map, length, Some, refl, sym, ap, ◌∙◌, append_assoc, suc, zero, arith, length-append, cond, inl, inr, ◌⊎◌}
-use Rattle.std.specs.Prelude.{slice_get, nat_lt}
+use Rattle.std.specs.Prelude.{slice_get, nat_lt, option_map}
 use Rattle.std.specs.List.{list_any}
 use Rattle.indexmap.specs.IndexSet.{insert_key}
 use Rattle.std.proofs.lemmas.List.{append-nil}
 use Rattle.std.proofs.lemmas.Bool.{ltb-true, and_parts}
+use Rattle.std.proofs.lemmas.Option.{slice_get-map}
 use Rattle.match_model.specs.Types.{MType}
 use Rattle.type_table.specs.declared.nodes.Node.{Node}
 use Rattle.type_table.specs.declared.nodes.Head.{Head}
@@ -23,6 +24,14 @@ pub get_below : {A : Type 0} (xs : List A) (i : ℕ) (x : A) → slice_get xs i 
 get_below [] i x h = absurd cc
 get_below (y ∷ ys) zero x h = omega arith
 get_below (y ∷ ys) (suc i) x h = let below : i < length ys = get_below ys i x h in omega arith
+
+pub item_at : {A : Type 0} (xs : List A) (i : ℕ) → i < length xs → (x : A) × (slice_get xs i ≡ Some x)
+item_at [] i lt = absurd (omega arith)
+item_at (x ∷ xs) zero lt = (x, refl)
+item_at (x ∷ xs) (suc i) lt = item_at xs i (omega arith)
+
+pub map_has : {A B : Type 0} (f : A → B) (xs : List A) (k : ℕ) (x : A) → slice_get xs k ≡ Some x → slice_get (map f xs) k ≡ Some (f x)
+map_has f xs k x h = slice_get-map f xs k ∙ ap (option_map f) h
 
 -- types behind others leave those
 pub type_prefix : (ns : List Node) (done : List MType) (j : ℕ) → j < length done → slice_get (types_from done ns) j ≡ slice_get done j

@@ -2,7 +2,7 @@
 use Rattle.std.proofs.Common.{◌≡◌, ℕ, ◌<◌, ◌≤◌, Bool, true, false, List, [], ◌∷◌, map, length, Some, refl, sym, ap, ◌∙◌, suc, zero, arith, rules, subst}
 use Rattle.std.specs.Prelude.{slice_get, nat_lt, nat_eq}
 use Rattle.std.specs.List.{AllByRecursion, IsDistinct}
-use Rattle.std.proofs.lemmas.Bool.{ltb-true, and_parts}
+use Rattle.std.proofs.lemmas.Bool.{ltb-true, and_parts, both_ways, eqb-true}
 use Rattle.std.proofs.lemmas.List.{length-map}
 use Rattle.std.proofs.lemmas.Slice.Eq.{bytes_eq-Decides}
 use Rattle.match_model.specs.declared.IntKind.{IntKind}
@@ -19,9 +19,9 @@ use Rattle.type_table.specs.declared.nodes.Head.{Head}
 use Rattle.type_table.specs.declared.nodes.Head.TheVariants as heads
 use Rattle.type_table.specs.contracts.nodes.NodePartialEq.TheImpl as node_eq
 use Rattle.type_table.specs.Nodes.{head_type, type_at, type_there, node_type, types_in, are_below, fits_head, AreNodes, plain, first_type}
-use Rattle.type_table.proofs.NodeLemmas.{type_of_node}
+use Rattle.type_table.proofs.NodeLemmas.{type_of_node, item_at}
 use Rattle.type_table.proofs.TypeNodes.{list_back}
-use Rattle.type_table.proofs.KindLemmas.{count_is}
+pub use Rattle.type_table.proofs.NodeLemmas.{item_at as node_there}
 
 -- equal nodes are equal by the derived test
 pub equal_plain : (a b : Node) → plain a ≡ plain b → node_eq.ghosts.eq a b ≡ true
@@ -40,19 +40,11 @@ one_place e (x ∷ xs) zero zero a b d at_i at_j ab ba = refl
 one_place {A} e (x ∷ xs) zero (suc j) a b d at_i at_j ab ba =
     let same : x ≡ a = cc in
     let apart : e x b ≡ false = holds_at (λ y. e x y ≡ false) xs j b d.0 at_j in
-    absurd (clash (e a b) ab (ap (λ (y : A). e y b) (sym same) ∙ apart))
-  where
-    clash : (c : Bool) → c ≡ true → c ≡ false → ⊥
-    clash true h f = absurd cc
-    clash false h f = absurd cc
+    absurd (both_ways (e a b) (ap (λ (y : A). e y b) (sym same) ∙ apart) ab)
 one_place {A} e (x ∷ xs) (suc i) zero a b d at_i at_j ab ba =
     let same : x ≡ b = cc in
     let apart : e x a ≡ false = holds_at (λ y. e x y ≡ false) xs i a d.0 at_i in
-    absurd (clash (e b a) ba (ap (λ (y : A). e y a) (sym same) ∙ apart))
-  where
-    clash : (c : Bool) → c ≡ true → c ≡ false → ⊥
-    clash true h f = absurd cc
-    clash false h f = absurd cc
+    absurd (both_ways (e b a) (ap (λ (y : A). e y a) (sym same) ∙ apart) ba)
 one_place e (x ∷ xs) (suc i) (suc j) a b d at_i at_j ab ba = ap suc (one_place e xs i j a b d.1 at_i at_j ab ba)
 
 -- the head and the parts of a type
@@ -98,90 +90,41 @@ head_back (ArrayType t n) = heads.Array n
 head_back (NamedType o args) = heads.Named (owner_back o)
 
 abbrev parts_back : MType → List MType
-parts_back BoolType = []
-parts_back CharType = []
-parts_back StrType = []
-parts_back NeverType = []
-parts_back (IntType kind) = []
 parts_back (OpaqueType o args) = types_list args
 parts_back (TupleType ts) = types_list ts
 parts_back (PointType mutable t) = t ∷ []
 parts_back (SliceType t) = t ∷ []
 parts_back (ArrayType t n) = t ∷ []
 parts_back (NamedType o args) = types_list args
+parts_back _ = []
 
 head_is : (h : Head) (ps : List MType) → head_back (head_type h ps) ≡ h
 head_is (heads.Base bases.Bool) ps = refl
-head_is (heads.Base bases.Char) ps = refl
-head_is (heads.Base bases.Str) ps = refl
-head_is (heads.Base bases.Never) ps = refl
-head_is (heads.Base bases.U8) ps = refl
-head_is (heads.Base bases.U16) ps = refl
-head_is (heads.Base bases.U32) ps = refl
-head_is (heads.Base bases.U64) ps = refl
-head_is (heads.Base bases.U128) ps = refl
-head_is (heads.Base bases.USize) ps = refl
-head_is (heads.Base bases.I8) ps = refl
-head_is (heads.Base bases.I16) ps = refl
-head_is (heads.Base bases.I32) ps = refl
-head_is (heads.Base bases.I64) ps = refl
-head_is (heads.Base bases.I128) ps = refl
-head_is (heads.Base bases.ISize) ps = refl
 head_is (heads.Opaque opaques.Text) ps = refl
-head_is (heads.Opaque opaques.F32) ps = refl
-head_is (heads.Opaque opaques.F64) ps = refl
-head_is (heads.Opaque opaques.Box) ps = refl
-head_is (heads.Opaque opaques.Vec) ps = refl
-head_is (heads.Opaque opaques.Rc) ps = refl
-head_is (heads.Opaque opaques.Arc) ps = refl
-head_is heads.Tuple ps = refl
-head_is (heads.Point mutable) ps = refl
-head_is heads.Slice ps = refl
-head_is (heads.Array n) ps = refl
-head_is (heads.Named (owners.Item i)) ps = refl
 head_is (heads.Named owners.Option) ps = refl
-head_is (heads.Named owners.Result) ps = refl
+head_is _ ps = refl
 
 none_of : (ps : List MType) → nat_eq (length ps) 0 ≡ true → [] ≡ ps
 none_of [] h = refl
-none_of (p ∷ ps) h = let count : length (p ∷ ps) ≡ 0 = count_is (length (p ∷ ps)) 0 h in absurd (omega arith)
+none_of (p ∷ ps) h = let count : length (p ∷ ps) ≡ 0 = eqb-true (length (p ∷ ps)) 0 h in absurd (omega arith)
 
 one_of : (ps : List MType) → nat_eq (length ps) 1 ≡ true → first_type ps ∷ [] ≡ ps
-one_of [] h = let count : length ps_none ≡ 1 = count_is (length ps_none) 1 h in absurd (omega arith)
+one_of [] h = let count : length ps_none ≡ 1 = eqb-true (length ps_none) 1 h in absurd (omega arith)
   where
     ps_none : List MType
     ps_none = []
 one_of (p ∷ []) h = refl
-one_of (p ∷ q ∷ ps) h = let count : length (p ∷ q ∷ ps) ≡ 1 = count_is (length (p ∷ q ∷ ps)) 1 h in absurd (omega arith)
+one_of (p ∷ q ∷ ps) h = let count : length (p ∷ q ∷ ps) ≡ 1 = eqb-true (length (p ∷ q ∷ ps)) 1 h in absurd (omega arith)
 
 parts_is : (h : Head) (ps : List MType) → fits_head h (length ps) ≡ true → parts_back (head_type h ps) ≡ ps
 parts_is (heads.Base bases.Bool) ps fits = none_of ps fits
-parts_is (heads.Base bases.Char) ps fits = none_of ps fits
-parts_is (heads.Base bases.Str) ps fits = none_of ps fits
-parts_is (heads.Base bases.Never) ps fits = none_of ps fits
-parts_is (heads.Base bases.U8) ps fits = none_of ps fits
-parts_is (heads.Base bases.U16) ps fits = none_of ps fits
-parts_is (heads.Base bases.U32) ps fits = none_of ps fits
-parts_is (heads.Base bases.U64) ps fits = none_of ps fits
-parts_is (heads.Base bases.U128) ps fits = none_of ps fits
-parts_is (heads.Base bases.USize) ps fits = none_of ps fits
-parts_is (heads.Base bases.I8) ps fits = none_of ps fits
-parts_is (heads.Base bases.I16) ps fits = none_of ps fits
-parts_is (heads.Base bases.I32) ps fits = none_of ps fits
-parts_is (heads.Base bases.I64) ps fits = none_of ps fits
-parts_is (heads.Base bases.I128) ps fits = none_of ps fits
-parts_is (heads.Base bases.ISize) ps fits = none_of ps fits
 parts_is (heads.Opaque o) ps fits = list_back ps
 parts_is heads.Tuple ps fits = list_back ps
 parts_is (heads.Point mutable) ps fits = one_of ps fits
 parts_is heads.Slice ps fits = one_of ps fits
 parts_is (heads.Array n) ps fits = one_of ps fits
 parts_is (heads.Named o) ps fits = list_back ps
-
-pub node_there : {A : Type 0} (xs : List A) (i : ℕ) → i < length xs → (x : A) × (slice_get xs i ≡ Some x)
-node_there [] i lt = absurd (omega arith)
-node_there (x ∷ xs) zero lt = (x, refl)
-node_there (x ∷ xs) (suc i) lt = node_there xs i (omega arith)
+parts_is _ ps fits = none_of ps fits
 
 below_all : (parts : List ℕ) (n m : ℕ) → are_below parts n ≡ true → n ≤ m → are_below parts m ≡ true
 below_all [] n m h le = refl
@@ -212,8 +155,8 @@ module _ (keys : List Node) (are : AreNodes keys) (distinct : IsDistinct node_eq
 
   step : (t : MType) → SameParts t → (i j : ℕ) → i < length keys → j < length keys → type_at (types_in keys) i ≡ t → type_at (types_in keys) j ≡ t → i ≡ j
   step t same i j lt_i lt_j is_i is_j =
-      let a = node_there keys i lt_i in
-      let b = node_there keys j lt_j in
+      let a = item_at keys i lt_i in
+      let b = item_at keys j lt_j in
       let of_a = facts i a.0 t a.1 is_i in
       let of_b = facts j b.0 t b.1 is_j in
       let below_a = below_all a.0.parts.items i (length keys) (are i a.0 a.1).0 (omega arith) in
@@ -225,26 +168,20 @@ module _ (keys : List Node) (are : AreNodes keys) (distinct : IsDistinct node_eq
   one_same : (t : MType) → ((i j : ℕ) → i < length keys → j < length keys → type_at (types_in keys) i ≡ t → type_at (types_in keys) j ≡ t → i ≡ j) →
       (is js : List ℕ) → are_below is (length keys) ≡ true → are_below js (length keys) ≡ true →
       map (type_at (types_in keys)) is ≡ t ∷ [] → map (type_at (types_in keys)) js ≡ t ∷ [] → is ≡ js
-  one_same t same [] js bi bj ei ej = absurd cc
-  one_same t same (i ∷ k ∷ is) js bi bj ei ej = absurd cc
-  one_same t same (i ∷ []) [] bi bj ei ej = absurd cc
-  one_same t same (i ∷ []) (j ∷ k ∷ js) bi bj ei ej = absurd cc
   one_same t same (i ∷ []) (j ∷ []) bi bj ei ej =
       let here_i : type_at (types_in keys) i ≡ t = cc in
       let here_j : type_at (types_in keys) j ≡ t = cc in
       ap (λ (n : ℕ). n ∷ []) (same i j (ltb-true i (length keys) (and_parts (nat_lt i (length keys)) true bi).0) (ltb-true j (length keys) (and_parts (nat_lt j (length keys)) true bj).0) here_i here_j)
+  one_same t same _ _ bi bj ei ej = absurd cc
 
   none_same : (is js : List ℕ) → are_below is (length keys) ≡ true → are_below js (length keys) ≡ true →
       map (type_at (types_in keys)) is ≡ [] → map (type_at (types_in keys)) js ≡ [] → is ≡ js
   none_same [] [] bi bj ei ej = refl
-  none_same [] (j ∷ js) bi bj ei ej = absurd cc
-  none_same (i ∷ is) js bi bj ei ej = absurd cc
+  none_same _ _ bi bj ei ej = absurd cc
 
   more_same : (t : MType) (ts : List MType) → ((i j : ℕ) → i < length keys → j < length keys → type_at (types_in keys) i ≡ t → type_at (types_in keys) j ≡ t → i ≡ j) →
       ((is js : List ℕ) → are_below is (length keys) ≡ true → are_below js (length keys) ≡ true → map (type_at (types_in keys)) is ≡ ts → map (type_at (types_in keys)) js ≡ ts → is ≡ js) →
       (is js : List ℕ) → are_below is (length keys) ≡ true → are_below js (length keys) ≡ true → map (type_at (types_in keys)) is ≡ t ∷ ts → map (type_at (types_in keys)) js ≡ t ∷ ts → is ≡ js
-  more_same t ts same others [] js bi bj ei ej = absurd cc
-  more_same t ts same others (i ∷ is) [] bi bj ei ej = absurd cc
   more_same t ts same others (i ∷ is) (j ∷ js) bi bj ei ej =
       let halves_i = and_parts (nat_lt i (length keys)) (are_below is (length keys)) bi in
       let halves_j = and_parts (nat_lt j (length keys)) (are_below js (length keys)) bj in
@@ -254,6 +191,7 @@ module _ (keys : List Node) (are : AreNodes keys) (distinct : IsDistinct node_eq
       let rest_j : map (type_at (types_in keys)) js ≡ ts = cc in
       ap (λ (n : ℕ). n ∷ is) (same i j (ltb-true i (length keys) halves_i.0) (ltb-true j (length keys) halves_j.0) here_i here_j)
       ∙ ap (λ (ns : List ℕ). j ∷ ns) (others is js halves_i.1 halves_j.1 rest_i rest_j)
+  more_same t ts same others _ _ bi bj ei ej = absurd cc
 
   mutual
     pub one_number : (t : MType) (i j : ℕ) → i < length keys → j < length keys → type_at (types_in keys) i ≡ t → type_at (types_in keys) j ≡ t → i ≡ j

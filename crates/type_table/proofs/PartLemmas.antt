@@ -2,11 +2,11 @@
 use Rattle.std.proofs.Common.{◌≡◌, ℕ, ◌<◌, ◌≤◌, true, List, [], ◌∷◌, map, length, Option, Some, None, refl, sym, ap, ◌∙◌, suc, zero, subst, arith}
 use Rattle.std.specs.Prelude.{slice_get, nat_lt, option_map, unwrap_or}
 use Rattle.std.specs.List.{list_all}
-use Rattle.std.proofs.lemmas.Bool.{ltb-true, and_parts}
-use Rattle.match_model.specs.Types.{MType, MTypes, NeverType, PointType, SliceType, ArrayType, DeclaredItem, NamedType, types_list, types_of}
+use Rattle.std.proofs.lemmas.Bool.{ltb-true, and_parts, eqb-true}
+use Rattle.std.proofs.lemmas.Option.{slice_get_past}
+use Rattle.match_model.specs.Types.{MType, MTypes, NeverType, DeclaredItem, NamedType, types_of}
 use Rattle.match_model.specs.Declarations.{MItem, MVariant, node_types, variant_types, item_variants}
 use Rattle.match_model.specs.RustTypes.{type_or, part_type, inner_type}
-use Rattle.match_model.specs.Constructors.{MCtor, SingleCtor, PointCtor, VariantCtor, RowCtor, FlagCtor}
 use Rattle.type_names.specs.declared.meanings.Owner.TheVariants as owners
 use Rattle.type_names.proofs.Variants.{get_map}
 use Rattle.type_names.specs.declared.meanings.FormKind.{FormKind}
@@ -20,44 +20,38 @@ use Rattle.type_table.specs.declared.nodes.Head.TheVariants as heads
 use Rattle.type_table.specs.declared.nodes.Node.{Node}
 use Rattle.type_table.specs.declared.table.TyId.{TyId}
 use Rattle.type_table.specs.declared.table.TypeTable.{TypeTable}
-use Rattle.type_table.specs.Nodes.{head_type, first_type, type_at, type_there, types_in, are_below}
+use Rattle.type_table.specs.Nodes.{head_type, first_type, type_at, type_there, are_below}
 use Rattle.type_table.specs.Entries.{entry_told, variant_entry, entry_below, variant_below, field_below}
-use Rattle.type_table.specs.Parts.{id_at, part_at, field_at, entry_variant_at, named_part, head_part, node_part, part_there, part_id, head_inner, node_inner, inner_id}
+use Rattle.type_table.specs.Parts.{id_at, part_at, field_at, entry_variant_at, head_part, node_part, part_there, part_id, head_inner, node_inner, inner_id}
 use Rattle.type_table.specs.Readings as readings
 use Rattle.type_table.specs.Readings.{tuple_part, option_part, result_part}
 use Rattle.type_table.specs.Tables.{IsOf, table_types, table_type, table_program, type_parts, field_type, part_of, field_number, number_with}
 use Rattle.type_table.proofs.FieldLemmas.{all_at, base_field, tuple_field, option_field, result_field, entry_field, base_cases}
-use Rattle.type_table.proofs.KindLemmas.{parts_are, shape_of, parts_fit, count_is, program_at, get_past}
-use Rattle.type_table.proofs.NodeLemmas.{count_types, get_below}
+use Rattle.type_table.proofs.KindLemmas.{parts_are, shape_of, parts_fit, program_at}
+use Rattle.type_table.proofs.NodeLemmas.{count_types}
+
+twice : (t : TypeTable) (o : Option ℕ) → option_map (table_type t) (id_at o) ≡ option_map {U = MType} (type_at (table_types t)) o
+twice t None = refl
+twice t (Some p) = refl
 
 -- the types of parts that may be there
 part_types_at : (t : TypeTable) (ps : List ℕ) (o : Option ℕ) → option_map (table_type t) (part_at ps o) ≡ readings.part_type (map (type_at (table_types t)) ps) o
 part_types_at t ps None = refl
-part_types_at t ps (Some n) = twice (slice_get ps n) ∙ sym (get_map (type_at (table_types t)) ps n)
-  where
-    twice : (o : Option ℕ) → option_map (table_type t) (id_at o) ≡ option_map {U = MType} (type_at (table_types t)) o
-    twice None = refl
-    twice (Some p) = refl
+part_types_at t ps (Some n) = twice t (slice_get ps n) ∙ sym (get_map (type_at (table_types t)) ps n)
 
 -- the type of a field of an entry's variant
 field_types_at : (t : TypeTable) (o : Option VariantEntry) (i : ℕ) →
     option_map (table_type t) (field_at o i) ≡ part_of (variant_types (option_map {U = MVariant} (variant_entry (table_types t)) o)) i
 field_types_at t None i = refl
-field_types_at t (Some v) i = twice (field_number v i) ∙ entry_field (table_types t) v i
-  where
-    twice : (o : Option ℕ) → option_map (table_type t) (id_at o) ≡ option_map {U = MType} (type_at (table_types t)) o
-    twice None = refl
-    twice (Some p) = refl
+field_types_at t (Some v) i = twice t (field_number v i) ∙ entry_field (table_types t) v i
 
 -- the variant of an entry is that of its item
 entry_variants : (types : List MType) (o : Option Entry) (k : ℕ) →
     option_map {U = MVariant} (variant_entry types) (entry_variant_at o k) ≡ slice_get (item_variants (option_map {U = MItem} (λ e. (entry_told types e).item) o)) k
 entry_variants types None k = refl
 entry_variants types (Some (entries.Struct id v)) zero = refl
-entry_variants types (Some (entries.Struct id v)) (suc k) = refl
 entry_variants types (Some (entries.Enum id name later variants)) k = sym (get_map (variant_entry types) variants.items k)
-entry_variants types (Some (entries.Function param deref)) k = refl
-entry_variants types (Some entries.Import) k = refl
+entry_variants types _ _ = refl
 
 entry_types : (t : TypeTable) (n k i : ℕ) (ts : MTypes) →
     option_map (table_type t) (field_at (entry_variant_at (slice_get t.items.items n) k) i) ≡ field_type (table_program t) (NamedType (DeclaredItem n) ts) k i
@@ -83,18 +77,15 @@ field_below_at m v i id below h = by_form v.form h
 
     by_form : (form : FormKind) → id_at (number_with form (option_map (λ f. f.ty) (slice_get v.fields.items i))) ≡ Some id → id.index < m
     by_form form_kinds.Unit k = absurd cc
-    by_form form_kinds.Tuple k = by (slice_get v.fields.items i) refl k
-    by_form form_kinds.Brace k = by (slice_get v.fields.items i) refl k
+    by_form _ k = by (slice_get v.fields.items i) refl k
 
 entry_variant_below : (m : ℕ) (e : Entry) (k : ℕ) (v : VariantEntry) → entry_below m e ≡ true → entry_variant_at (Some e) k ≡ Some v → variant_below m v ≡ true
 entry_variant_below m (entries.Struct id w) zero v below h =
     let same : w ≡ v = cc in
     ap (variant_below m) (sym same) ∙ (and_parts (nat_lt id m) (variant_below m w) below).1
-entry_variant_below m (entries.Struct id w) (suc k) v below h = absurd cc
 entry_variant_below m (entries.Enum id name later variants) k v below h =
     all_at (variant_below m) variants.items k v (and_parts (nat_lt id m) (list_all (variant_below m) variants.items) below).1 h
-entry_variant_below m (entries.Function param deref) k v below h = absurd cc
-entry_variant_below m entries.Import k v below h = absurd cc
+entry_variant_below m _ _ v below h = absurd cc
 
 field_is_of : (t : TypeTable) (n k i : ℕ) (id : TyId) → field_at (entry_variant_at (slice_get t.items.items n) k) i ≡ Some id → IsOf t id
 field_is_of t n k i id = by (slice_get t.items.items n) refl
@@ -115,7 +106,7 @@ module _ (t : TypeTable) (ty : TyId) where
   past_is_never e =
       let le : length t.nodes.keys ≤ ty.index = past t.nodes.keys ty.index e in
       let count : length (table_types t) ≡ length t.nodes.keys = count_types t.nodes.keys [] ∙ omega arith in
-      ap type_there (get_past (table_types t) ty.index (omega (arith, le, count)))
+      ap type_there (slice_get_past (table_types t) ty.index (omega (arith, le, count)))
     where
       past : {A : Type 0} (xs : List A) (i : ℕ) → slice_get xs i ≡ None → length xs ≤ i
       past [] i e = omega arith
@@ -139,24 +130,21 @@ module _ (t : TypeTable) (ty : TyId) where
     field_by : (h : Head) → n.head ≡ h → (k i : ℕ) →
         option_map (table_type t) (head_part t.items.items h n.parts.items k i) ≡ field_type (table_program t) (head_type h Parts) k i
     field_by (heads.Base b) e k i = base_field (table_program t) b k i
-    field_by (heads.Opaque o) e k i = refl
     field_by heads.Tuple e k i = found (tuple_part k i) ∙ tuple_field (table_program t) Parts k i
-    field_by (heads.Point mutable) e k i = refl
-    field_by heads.Slice e k i = refl
-    field_by (heads.Array len) e k i = refl
     field_by (heads.Named (owners.Item m)) e k i = entry_types t m k i (types_of Parts)
     field_by (heads.Named owners.Option) e k i =
-        found (option_part k i) ∙ option_field (table_program t) Parts k i (count_is (length Parts) 1 (parts_fit t ty n at (heads.Named owners.Option) e))
+        found (option_part k i) ∙ option_field (table_program t) Parts k i (eqb-true (length Parts) 1 (parts_fit t ty n at (heads.Named owners.Option) e))
     field_by (heads.Named owners.Result) e k i =
-        found (result_part k i) ∙ result_field (table_program t) Parts k i (count_is (length Parts) 2 (parts_fit t ty n at (heads.Named owners.Result) e))
+        found (result_part k i) ∙ result_field (table_program t) Parts k i (eqb-true (length Parts) 2 (parts_fit t ty n at (heads.Named owners.Result) e))
+    field_by _ e k i = refl
 
     inner_by : (h : Head) → n.head ≡ h → inner_type (head_type h Parts) ≡ table_type t (unwrap_or (head_inner h n.parts.items) ty)
     inner_by (heads.Base b) e = base_cases (λ u. inner_type u ≡ u) refl refl refl refl (λ kind. refl) b ∙ sym (shape_of t ty n at (heads.Base b) e)
     inner_by (heads.Opaque o) e = sym (shape_of t ty n at (heads.Opaque o) e)
     inner_by heads.Tuple e = sym (shape_of t ty n at heads.Tuple e)
-    inner_by (heads.Point mutable) e = first_is (count_is (length Parts) 1 (parts_fit t ty n at (heads.Point mutable) e))
-    inner_by heads.Slice e = first_is (count_is (length Parts) 1 (parts_fit t ty n at heads.Slice e))
-    inner_by (heads.Array len) e = first_is (count_is (length Parts) 1 (parts_fit t ty n at (heads.Array len) e))
+    inner_by (heads.Point mutable) e = first_is (eqb-true (length Parts) 1 (parts_fit t ty n at (heads.Point mutable) e))
+    inner_by heads.Slice e = first_is (eqb-true (length Parts) 1 (parts_fit t ty n at heads.Slice e))
+    inner_by (heads.Array len) e = first_is (eqb-true (length Parts) 1 (parts_fit t ty n at (heads.Array len) e))
     inner_by (heads.Named owner) e = sym (shape_of t ty n at (heads.Named owner) e)
 
     part_below : (o : Option ℕ) (id : TyId) → part_at n.parts.items o ≡ Some id → id.index < ty.index
@@ -178,24 +166,17 @@ module _ (t : TypeTable) (ty : TyId) where
         among ps (Some k) below h = by ps k (slice_get ps k) below refl h
 
     head_below : (h : Head) (k i : ℕ) (id : TyId) → IsOf t ty → head_part t.items.items h n.parts.items k i ≡ Some id → IsOf t id
-    head_below (heads.Base b) k i id of h = absurd cc
-    head_below (heads.Opaque o) k i id of h = absurd cc
     head_below heads.Tuple k i id of h = let lt = part_below (tuple_part k i) id h in omega (arith, lt, of)
-    head_below (heads.Point mutable) k i id of h = absurd cc
-    head_below heads.Slice k i id of h = absurd cc
-    head_below (heads.Array len) k i id of h = absurd cc
     head_below (heads.Named (owners.Item m)) k i id of h = field_is_of t m k i id h
     head_below (heads.Named owners.Option) k i id of h = let lt = part_below (option_part k i) id h in omega (arith, lt, of)
     head_below (heads.Named owners.Result) k i id of h = let lt = part_below (result_part k i) id h in omega (arith, lt, of)
+    head_below _ k i id of h = absurd cc
 
     inner_below : (h : Head) (id : TyId) → IsOf t ty → head_inner h n.parts.items ≡ Some id → IsOf t id
-    inner_below (heads.Base b) id of h = absurd cc
-    inner_below (heads.Opaque o) id of h = absurd cc
-    inner_below heads.Tuple id of h = absurd cc
     inner_below (heads.Point mutable) id of h = let lt = part_below (Some 0) id h in omega (arith, lt, of)
     inner_below heads.Slice id of h = let lt = part_below (Some 0) id h in omega (arith, lt, of)
     inner_below (heads.Array len) id of h = let lt = part_below (Some 0) id h in omega (arith, lt, of)
-    inner_below (heads.Named owner) id of h = absurd cc
+    inner_below _ id of h = absurd cc
 
   -- the types of the fields of a type, by their numbers
   pub part_types : (k i : ℕ) → option_map (table_type t) (part_there t ty k i) ≡ field_type (table_program t) (table_type t ty) k i

@@ -2,14 +2,14 @@
 use Rattle.std.proofs.Common.{◌≡◌, ℕ, ◌+◌, ◌<◌, ◌^◌, Bool, true, cond, List, [], ◌∷◌, map, length, Option, Some, None, refl, sym, ap, subst, ◌∙◌, suc, zero, arith}
 use Rattle.std.specs.Prelude.{slice_get, nat_lt, option_map, is_some}
 use Rattle.std.specs.List.{enumerate_from}
-use Rattle.std.proofs.lemmas.Bool.{ltb-true, and_parts}
+use Rattle.std.proofs.lemmas.Bool.{ltb-true, and_parts, lt-ltb}
 use Rattle.std.proofs.lemmas.List.{length-map}
 use Rattle.std.proofs.lemmas.List.Elements.{recursion_from_All}
 use Rattle.match_model.specs.declared.Width.{Width}
-use Rattle.match_model.specs.Types.{MType, MOwner, DeclaredItem, OptionOwner, ResultOwner, NamedType, no_types}
+use Rattle.match_model.specs.Types.{MType, MOwner, DeclaredItem, NamedType, no_types}
 use Rattle.match_model.specs.Declarations.{MItem}
 use Rattle.decl_syntax.specs.Patterns.{PathTree}
-use Rattle.decl_syntax.specs.Items.{KindTree, Enum, Struct, Import, Function, ItemTree}
+use Rattle.decl_syntax.specs.Items.{KindTree, Enum, Struct, ItemTree}
 use Rattle.type_names.specs.declared.meanings.FormKind.{FormKind}
 use Rattle.type_names.specs.declared.meanings.Owner.{Owner}
 use Rattle.type_names.specs.declared.targets.Target.{Target}
@@ -31,10 +31,9 @@ use Rattle.type_table.specs.Entries.{Told, entry_told, own_type, item_told, item
 use Rattle.type_table.specs.Paths.{FoundIs, struct_id, found_at, found_variant, answer}
 use Rattle.type_table.specs.Known.{IsFew}
 use Rattle.type_table.specs.Tables.{IsTableOf, table_types, count_of_item}
-use Rattle.type_table.proofs.NodeLemmas.{get_below}
+use Rattle.type_table.proofs.NodeLemmas.{get_below, map_has}
 use Rattle.type_table.proofs.FieldLemmas.{all_at}
-use Rattle.type_table.proofs.BodyLemmas.{lower}
-use Rattle.type_table.proofs.ByValue.{mapped, map_has}
+use Rattle.type_table.proofs.ByValue.{mapped}
 use Rattle.type_table.proofs.SoundTypes.{holds_at}
 use Rattle.type_table.proofs.FewParts.{none_few, entry_count_few}
 
@@ -86,12 +85,7 @@ StructAt types i e = (id : ℕ) × (v : VariantEntry) × (e ≡ entries.Struct i
 struct_entry : (types : List MType) (names : Means) (i : ℕ) (marked : Bool) (k : KindTree) (e : Entry) → is_some (kind_form k) ≡ true →
     (entry_told types e).item ≡ kind_of names marked k → (entry_told types e).own ≡ own_type i k → StructAt types i e
 struct_entry types names i marked (Struct name form) (entries.Struct id v) h same own = (id, v, refl, cc)
-struct_entry types names i marked (Struct name form) (entries.Enum id n later vs) h same own = absurd cc
-struct_entry types names i marked (Struct name form) (entries.Function param deref) h same own = absurd cc
-struct_entry types names i marked (Struct name form) entries.Import h same own = absurd cc
-struct_entry types names i marked (Enum name variants) e h same own = absurd cc
-struct_entry types names i marked (Import owner listed) e h same own = absurd cc
-struct_entry types names i marked (Function name parameter deref arms) e h same own = absurd cc
+struct_entry types names i marked _ _ h same own = absurd cc
 
 form_below : (vs : List (List ℕ × FormKind)) (k : ℕ) → is_some (form_at vs (Some k)) ≡ true → k < length vs
 form_below vs k h = by (slice_get vs k) refl h
@@ -106,9 +100,7 @@ few_declared names marked (Enum name variants) h =
     let count : length (map (variant_of names) variants) ≡ length variants = length-map _ _ in
     let lt : length (map (variant_of names) variants) < 4294967296 = h in
     omega (arith, count, lt)
-few_declared names marked (Struct name form) h = none_few
-few_declared names marked (Import owner listed) h = none_few
-few_declared names marked (Function name parameter deref arms) h = none_few
+few_declared names marked _ h = none_few
 
 module _ (items : List ItemTree) (width : Width) (t : TypeTable) (is : IsTableOf items width t) (path : PathTree) where
   few_at : (i : ℕ) (o : Option ItemTree) → slice_get items i ≡ o → length (item_variants o) < 4294967296
@@ -122,8 +114,7 @@ module _ (items : List ItemTree) (width : Width) (t : TypeTable) (is : IsTableOf
   -- an enum has few variants, as the table says
   few_variants : (o : MOwner) → length (owner_variants items o) < 4294967296
   few_variants (DeclaredItem i) = subst (λ (n : ℕ). n < 4294967296) (sym (length-map _ _)) (few_at i (slice_get items i) refl)
-  few_variants OptionOwner = omega arith
-  few_variants ResultOwner = omega arith
+  few_variants _ = omega arith
 
   struct_answer : (i : ℕ) → FoundStruct i ≡ path_finds items path → FoundIs t (FoundStruct i) (answer t (targets.Struct i))
   struct_answer i e = by (slice_get items i) refl (target_has items path (FoundStruct i) (struct_form (slice_get items i)) refl e)
@@ -146,7 +137,7 @@ module _ (items : List ItemTree) (width : Width) (t : TypeTable) (is : IsTableOf
       let has = target_has items path (FoundVariant (owner_view owner) k) (form_at (owner_variants items (owner_view owner)) (Some k)) refl e in
       let below : k < length (owner_variants items (owner_view owner)) = form_below (owner_variants items (owner_view owner)) k has in
       let all : length (owner_variants items (owner_view owner)) < 4294967296 = few_variants (owner_view owner) in
-      (owner, ap (λ (b : Bool). cond b (founds.Variant owner k) founds.Nothing) (lower k (2 ^ 32) (omega arith)), refl)
+      (owner, ap (λ (b : Bool). cond b (founds.Variant owner k) founds.Nothing) (lt-ltb k (2 ^ 32) (omega arith)), refl)
 
   pub answer_is : (target : Target) → target_view target ≡ path_finds items path → FoundIs t (path_finds items path) (answer t target)
   answer_is targets.Nothing e = subst (λ (f : FoundTree). FoundIs t f founds.Nothing) e refl

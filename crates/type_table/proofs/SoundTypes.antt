@@ -4,6 +4,7 @@ use Rattle.std.specs.Prelude.{slice_get, nat_lt, nat_eq}
 use Rattle.std.specs.List.{All, AllByRecursion, list_all}
 use Rattle.std.proofs.lemmas.List.{length-map}
 use Rattle.std.proofs.lemmas.List.Elements.{recursion_from_All}
+use Rattle.std.proofs.lemmas.Bool.{eqb-true}
 use Rattle.match_model.specs.declared.Width.{Width}
 use Rattle.match_model.specs.Types.{MType, MTypes, more_types, types_list, types_of}
 use Rattle.match_model.specs.Declarations.{MProgram, form_types, item_types, variant_types}
@@ -26,30 +27,27 @@ use Rattle.type_table.specs.Empty.{NoneEndless}
 use Rattle.type_table.specs.Known.{declares_type, is_known_head, IsKnown, HasFewFields, IsFew}
 use Rattle.type_table.specs.Possible.{program_in}
 use Rattle.type_table.specs.Tables.{fields_with, fields_of_entry}
-use Rattle.type_table.proofs.KindLemmas.{count_is, count_back, fields_count}
+use Rattle.type_table.proofs.KindLemmas.{count_back, fields_count}
 use Rattle.type_table.proofs.TypeTests.{items_pass, types_pass}
 use Rattle.type_table.proofs.EndlessItems.{fields_shaped}
 use Rattle.type_table.proofs.FiniteItems.{finite}
 
 -- what an entry declares, by its item
 declared_item : (types : List MType) (es : List Entry) (i : ℕ) → declares_type (slice_get es i) ≡ is_declared (slice_get (map (λ e. (entry_told types e).item) es) i)
-declared_item types [] i = refl
 declared_item types (entry_kinds.Struct id v ∷ es) zero = refl
-declared_item types (entry_kinds.Enum id name later variants ∷ es) zero = refl
-declared_item types (entry_kinds.Function param deref ∷ es) zero = refl
-declared_item types (entry_kinds.Import ∷ es) zero = refl
 declared_item types (e ∷ es) (suc i) = declared_item types es i
+declared_item types _ _ = refl
 
 all_typed : (program : MProgram) (t : MType) (ts : MTypes) → is_type program t ≡ true → are_types program ts ≡ true → are_types program (more_types t ts) ≡ true
 all_typed program t ts h k = and_true (is_type program t) (are_types program ts) h k
 
 one_typed : (program : MProgram) (ps : List MType) → nat_eq (length ps) 1 ≡ true → are_types program (types_of ps) ≡ true → (t : MType) × (ps ≡ t ∷ []) × (is_type program t ≡ true)
-one_typed program [] fits h = let e : length none ≡ 1 = count_is (length none) 1 fits in absurd (omega arith)
+one_typed program [] fits h = let e : length none ≡ 1 = eqb-true (length none) 1 fits in absurd (omega arith)
   where
     none : List MType
     none = []
 one_typed program (t ∷ []) fits h = (t, refl, (both (is_type program t) true h).0)
-one_typed program (t ∷ u ∷ ps) fits h = let e : length (t ∷ u ∷ ps) ≡ 1 = count_is (length (t ∷ u ∷ ps)) 1 fits in absurd (omega arith)
+one_typed program (t ∷ u ∷ ps) fits h = let e : length (t ∷ u ∷ ps) ≡ 1 = eqb-true (length (t ∷ u ∷ ps)) 1 fits in absurd (omega arith)
 
 -- as many types as are asked for
 counted : (ps : List MType) (n : ℕ) → nat_eq (length ps) n ≡ true → nat_eq (length (types_list (types_of ps))) n ≡ true
@@ -58,26 +56,11 @@ counted ps n fits = ap (λ (m : ℕ). nat_eq m n) (count_back ps) ∙ fits
 module _ (program : MProgram) (entries : List Entry) (same : (i : ℕ) → declares_type (slice_get entries i) ≡ is_declared (slice_get program.items i)) where
   item_typed : (i : ℕ) (ps : List MType) → nat_eq (length ps) 0 ≡ true → declares_type (slice_get entries i) ≡ true → is_type program (head_type (heads.Named (owners.Item i)) ps) ≡ true
   item_typed i [] fits known = sym (same i) ∙ known
-  item_typed i (t ∷ ps) fits known = let e : length (t ∷ ps) ≡ 0 = count_is (length (t ∷ ps)) 0 fits in absurd (omega arith)
+  item_typed i (t ∷ ps) fits known = let e : length (t ∷ ps) ≡ 0 = eqb-true (length (t ∷ ps)) 0 fits in absurd (omega arith)
 
   head_typed : (h : Head) (ps : List MType) → fits_head h (length ps) ≡ true → is_known_head entries h (length ps) ≡ true → are_types program (types_of ps) ≡ true →
       is_type program (head_type h ps) ≡ true
   head_typed (heads.Base bases.Bool) ps fits known s = refl
-  head_typed (heads.Base bases.Char) ps fits known s = refl
-  head_typed (heads.Base bases.Str) ps fits known s = refl
-  head_typed (heads.Base bases.Never) ps fits known s = refl
-  head_typed (heads.Base bases.U8) ps fits known s = refl
-  head_typed (heads.Base bases.U16) ps fits known s = refl
-  head_typed (heads.Base bases.U32) ps fits known s = refl
-  head_typed (heads.Base bases.U64) ps fits known s = refl
-  head_typed (heads.Base bases.U128) ps fits known s = refl
-  head_typed (heads.Base bases.USize) ps fits known s = refl
-  head_typed (heads.Base bases.I8) ps fits known s = refl
-  head_typed (heads.Base bases.I16) ps fits known s = refl
-  head_typed (heads.Base bases.I32) ps fits known s = refl
-  head_typed (heads.Base bases.I64) ps fits known s = refl
-  head_typed (heads.Base bases.I128) ps fits known s = refl
-  head_typed (heads.Base bases.ISize) ps fits known s = refl
   head_typed (heads.Opaque o) ps fits known s = and_true _ _ s (counted ps (opaque_arguments (opaque_view o)) fits)
   head_typed heads.Tuple ps fits known s = and_true _ _ s (ap (λ (n : ℕ). nat_lt n (2 ^ 32)) (count_back ps) ∙ known)
   head_typed (heads.Point mutable) ps fits known s =
@@ -92,6 +75,7 @@ module _ (program : MProgram) (entries : List Entry) (same : (i : ℕ) → decla
   head_typed (heads.Named (owners.Item i)) ps fits known s = item_typed i ps fits known
   head_typed (heads.Named owners.Option) ps fits known s = and_true _ _ s (counted ps 1 fits)
   head_typed (heads.Named owners.Result) ps fits known s = and_true _ _ s (counted ps 2 fits)
+  head_typed _ ps fits known s = refl
 
 -- what holds of each holds of the one with this number
 pub holds_at : {A : Type 0} (P : A → Type 0) (xs : List A) → AllByRecursion P xs → (i : ℕ) (x : A) → slice_get xs i ≡ Some x → P x
@@ -127,8 +111,7 @@ variants_few types (v ∷ vs) few (suc k) ts e = variants_few types vs few.1 k t
 entry_few : (types : List MType) (e : Entry) → IsFew e → (k : ℕ) (ts : MTypes) → item_types (Some (entry_told types e).item) k ≡ Some ts → length (types_list ts) < 4294967296
 entry_few types (entry_kinds.Struct id v) few k ts h = variants_few types (v ∷ []) (few, tt) k ts h
 entry_few types (entry_kinds.Enum id name later variants) few k ts h = variants_few types variants.items (recursion_from_All HasFewFields variants.items few.1) k ts h
-entry_few types (entry_kinds.Function param deref) few k ts h = variants_few types [] tt k ts h
-entry_few types entry_kinds.Import few k ts h = variants_few types [] tt k ts h
+entry_few types _ few k ts h = variants_few types [] tt k ts h
 
 pub items_few : (types : List MType) (es : List Entry) → AllByRecursion IsFew es →
     (i k : ℕ) (ts : MTypes) → item_types (slice_get (map (λ e. (entry_told types e).item) es) i) k ≡ Some ts → length (types_list ts) < 4294967296

@@ -1,8 +1,9 @@
 -- Written types and the nodes that stand for them.
-use Rattle.std.proofs.Common.{◌≡◌, ℕ, ◌<◌, Bool, true, false, ◌&&◌, List, [], ◌∷◌, ◌++◌, map, length, Option, Some, refl, sym, ap, ◌∙◌, arith}
+use Rattle.std.proofs.Common.{◌≡◌, ℕ, ◌<◌, Bool, true, false, List, [], ◌∷◌, ◌++◌, map, length, Option, Some, refl, sym, ap, ◌∙◌, arith}
 use Rattle.std.specs.Prelude.{slice_get, nat_lt, nat_eq}
 use Rattle.std.proofs.lemmas.List.{map-append}
 use Rattle.std.proofs.lemmas.Bool.Decides.{nat_tests}
+use Rattle.std.proofs.lemmas.Bool.{and_from, lt-ltb}
 use Rattle.match_model.specs.Types.{MType, TupleType, MTypes, no_types, more_types, types_list}
 use Rattle.match_model.specs.Types.{types_of as types_of_list}
 use Rattle.decl_syntax.specs.Types.{TypeTree, types_from as trees_from}
@@ -26,29 +27,21 @@ id_below ks i t h =
     let count : length (types_in ks) ≡ length ks = count_types ks [] ∙ omega arith in
     omega arith
 
-below_test : (i n : ℕ) → i < n → nat_lt i n ≡ true
-below_test i n lt = grind arith
-
-both : (a b : Bool) → a ≡ true → b ≡ true → (a && b) ≡ true
-both true b e f = f
-both false b e f = absurd cc
-
 pub ids_below : (ks : List Node) (ids : List ℕ) (ts : List MType) → map (slice_get (types_in ks)) ids ≡ map Some ts → are_below ids (length ks) ≡ true
 ids_below ks [] ts h = refl
 ids_below ks (i ∷ ids) [] h = absurd cc
 ids_below ks (i ∷ ids) (t ∷ ts) h =
     let here : slice_get (types_in ks) i ≡ Some t = cc in
     let others : map (slice_get (types_in ks)) ids ≡ map Some ts = cc in
-    both (nat_lt i (length ks)) (are_below ids (length ks)) (below_test i (length ks) (id_below ks i t here)) (ids_below ks ids ts others)
+    and_from (nat_lt i (length ks)) (are_below ids (length ks)) (lt-ltb i (length ks) (id_below ks i t here)) (ids_below ks ids ts others)
 
 pub ids_types : (types : List MType) (ids : List ℕ) (ts : List MType) → map (slice_get types) ids ≡ map Some ts → map (type_at types) ids ≡ ts
 ids_types types [] [] h = refl
-ids_types types [] (t ∷ ts) h = absurd cc
-ids_types types (i ∷ ids) [] h = absurd cc
 ids_types types (i ∷ ids) (t ∷ ts) h =
     let here : slice_get types i ≡ Some t = cc in
     let others : map (slice_get types) ids ≡ map Some ts = cc in
     ap (λ (o : Option MType). type_there o ∷ map (type_at types) ids) here ∙ ap (λ (us : List MType). t ∷ us) (ids_types types ids ts others)
+ids_types types _ _ h = absurd cc
 
 pub ids_stay : (old new : List Node) (ids : List ℕ) (ts : List MType) → Extends old new → map (slice_get (types_in old)) ids ≡ map Some ts → map (slice_get (types_in new)) ids ≡ map Some ts
 ids_stay old new [] ts more h = h
@@ -90,29 +83,12 @@ counted sized m args e = meant sized m args ∙ sym (rw (list_back args, e) refl
   where
     base : (b : Base) (args : List MType) → type_with (head_of true (meanings.Base b)) args ≡ base_type true (base_view b)
     base bases.Str args = refl
-    base bases.Bool args = refl
-    base bases.Char args = refl
-    base bases.Never args = refl
-    base bases.U8 args = refl
-    base bases.U16 args = refl
-    base bases.U32 args = refl
-    base bases.U64 args = refl
-    base bases.U128 args = refl
-    base bases.USize args = refl
-    base bases.I8 args = refl
-    base bases.I16 args = refl
-    base bases.I32 args = refl
-    base bases.I64 args = refl
-    base bases.I128 args = refl
-    base bases.ISize args = refl
+    base _ args = refl
 
     meant : (sized : Bool) (m : Meaning) (args : List MType) → type_with (head_of sized m) args ≡ meant_type sized (meaning_view m) (types_of_list args)
     meant sized (meanings.Item i) args = refl
     meant true (meanings.Base b) args = base b args
-    meant false (meanings.Base b) args = refl
-    meant sized (meanings.Opaque o) args = refl
-    meant sized meanings.Option args = refl
-    meant sized meanings.Result args = refl
+    meant _ _ args = refl
 
 pub differ_test : (k n a b : ℕ) → k ≡ n → a ≡ b → (n ≡ a → ⊥) → nat_eq k b ≡ false
 differ_test k n a b e f ne = grind (arith, nat_tests)

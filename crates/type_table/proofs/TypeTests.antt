@@ -1,5 +1,5 @@
 -- A test that each node's type passes where its parts do is passed by each type of a table, and by the fields of the items.
-use Rattle.std.proofs.Common.{◌≡◌, ⊎_elim, ℕ, ◌<◌, ◌≤◌, zero, suc, Bool, true, List, [], ◌∷◌, map, Some, length, refl, ap, sym, ◌∙◌, arith}
+use Rattle.std.proofs.Common.{◌≡◌, ⊎_elim, ℕ, ◌<◌, ◌≤◌, zero, suc, Bool, true, List, [], ◌∷◌, map, Some, length, ap, sym, ◌∙◌, arith}
 use Rattle.std.specs.Prelude.{slice_get, nat_lt}
 use Rattle.std.specs.List.{list_all}
 use Rattle.std.proofs.lemmas.Bool.{ltb-true, and_parts, cases_lt}
@@ -14,12 +14,7 @@ use Rattle.type_table.specs.declared.entries.Entry.{Entry}
 use Rattle.type_table.specs.declared.entries.Entry.TheVariants as entry_kinds
 use Rattle.type_table.specs.Nodes.{AreNodes, types_in, type_at, type_there, node_type, are_below}
 use Rattle.type_table.specs.Entries.{entry_told, variant_entry, field_entry, form_with, field_below, variant_below, entry_below}
-use Rattle.type_table.proofs.NodeLemmas.{type_of_node}
-
-there : {A : Type 0} (xs : List A) (i : ℕ) → i < length xs → (x : A) × (slice_get xs i ≡ Some x)
-there [] i lt = absurd (omega arith)
-there (x ∷ xs) zero lt = (x, refl)
-there (x ∷ xs) (suc i) lt = there xs i (omega arith)
+use Rattle.type_table.proofs.NodeLemmas.{type_of_node, item_at}
 
 -- the test of a type, and that of a list of types
 module _ (one : MType → Bool) (all : MTypes → Bool) (none : all no_types ≡ true)
@@ -39,8 +34,7 @@ module _ (one : MType → Bool) (all : MTypes → Bool) (none : all no_types ≡
 
     form_pass : (k : FormKind) (fs : List FieldEntry) → list_all (field_below n) fs ≡ true → all (form_types (form_with k (map (field_entry types) fs))) ≡ true
     form_pass form_kinds.Unit fs below = none
-    form_pass form_kinds.Tuple fs below = fields_pass fs below
-    form_pass form_kinds.Brace fs below = fields_pass fs below
+    form_pass _ fs below = fields_pass fs below
 
     variants_pass : (vs : List VariantEntry) → list_all (variant_below n) vs ≡ true →
         (k : ℕ) (ts : MTypes) → variant_types (slice_get (map (variant_entry types) vs) k) ≡ Some ts → all ts ≡ true
@@ -56,11 +50,9 @@ module _ (one : MType → Bool) (all : MTypes → Bool) (none : all no_types ≡
         let halves = and_parts (nat_lt id n) (variant_below n v) below in
         let same : form_types (variant_entry types v).form ≡ ts = cc in
         ap all (sym same) ∙ form_pass v.form v.fields.items halves.1
-    entry_pass (entry_kinds.Struct id v) below (suc k) ts h = cc
     entry_pass (entry_kinds.Enum id name later variants) below k ts h =
         variants_pass variants.items (and_parts (nat_lt id n) (list_all (variant_below n) variants.items) below).1 k ts h
-    entry_pass (entry_kinds.Function param deref) below k ts h = cc
-    entry_pass entry_kinds.Import below k ts h = cc
+    entry_pass _ below _ ts h = cc
 
     -- the types of fields pass
     pub items_pass : (es : List Entry) → list_all (entry_below n) es ≡ true →
@@ -81,7 +73,7 @@ module _ (one : MType → Bool) (all : MTypes → Bool) (none : all no_types ≡
         (cases_lt a n)
       where
         node : (k : Node) × (slice_get nodes n ≡ Some k)
-        node = there nodes n (omega arith)
+        node = item_at nodes n (omega arith)
 
         here : ((b : ℕ) → b < n → one (type_at (types_in nodes) b) ≡ true) → one (type_at (types_in nodes) n) ≡ true
         here before =

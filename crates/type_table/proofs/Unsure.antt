@@ -1,13 +1,14 @@
 -- Which declared types have a value where a place is not sure to hold a valid one.
-use Rattle.std.proofs.Common.{◌≡◌, ℕ, zero, suc, ℤ, Bool, true, false, ◌||◌, List, [], ◌∷◌, Option, Some, None, nat_eq, length, refl, ap, sym, ◌∙◌, slice_get}
+use Rattle.std.proofs.Common.{◌≡◌, ℕ, zero, suc, ℤ, Bool, true, false, ◌||◌, List, [], ◌∷◌, Option, Some, nat_eq, length, refl, ap, sym, ◌∙◌, slice_get}
 use Rattle.std.specs.List.{list_any}
 use mathlib.Core.Bool.{beq}
 use Rattle.match_model.specs.Types.{DeclaredItem, OptionOwner, ResultOwner, MType, BoolType, CharType, StrType, NeverType, IntType, OpaqueType, TupleType, PointType, SliceType, ArrayType, NamedType, MTypes, no_types, more_types}
-use Rattle.match_model.specs.Declarations.{MVariant, MItem, StructItem, EnumItem, OtherItem, MProgram, form_types, node_types, item_types, variant_types, item_is_marked, item_is_bare}
+use Rattle.match_model.specs.Declarations.{MVariant, MItem, StructItem, EnumItem, MProgram, form_types, node_types, item_types, variant_types, item_is_marked, item_is_bare}
 use Rattle.match_model.specs.Values.{MValue, Flag, Num, Text, Node, Point, Row, Thing, Later, Unseen, MValues, no_values, more_values, values_list}
-use Rattle.match_model.specs.Typing.{is_value, are_values, all_are_values, item_type, some_if, type_behind}
+use Rattle.match_model.specs.Typing.{is_value, are_values, all_are_values, item_type, type_behind}
 use Rattle.match_model.proofs.Basics.{both, and_true, or_left, or_right, found, nat_equal, nothing, third_of_result}
 use Rattle.type_table.specs.Possible.{may_be, may_all_be, is_unseen, item_may_be, IsStableAt}
+use Rattle.match_model.proofs.Empty.{type_if_is}
 
 -- of the variants, one has all its fields
 variants_by : (marks : List Bool) (vs : List MVariant) (k : ℕ) (ts : MTypes) →
@@ -22,11 +23,9 @@ variants_by marks (v ∷ vs) (suc k) ts e h = or_right _ _ (variants_by marks vs
 -- what the variant's fields say of the item
 item_by : (marks : List Bool) (o : Option MItem) (k : ℕ) (ts : MTypes) → item_types o k ≡ Some ts → may_all_be false marks ts ≡ true →
     item_may_be false marks o ≡ true
-item_by marks None k ts e h = cc
-item_by marks (Some OtherItem) k ts e h = cc
 item_by marks (Some (StructItem v)) zero ts e h = let same : form_types v.form ≡ ts = cc in ap (may_all_be false marks) same ∙ h
-item_by marks (Some (StructItem v)) (suc k) ts e h = cc
 item_by marks (Some (EnumItem name marked vs)) k ts e h = or_right marked _ (or_right (is_unseen false vs) _ (variants_by marks vs k ts e h))
+item_by marks _ _ ts e h = cc
 
 -- the types of a node's parts, when they all have values
 node_by : (program : MProgram) (marks : List Bool) → IsStableAt false program.items marks → (t : MType) (k : ℕ) (ts : MTypes) →
@@ -34,15 +33,9 @@ node_by : (program : MProgram) (marks : List Bool) → IsStableAt false program.
 node_by program marks s (TupleType us) zero ts e h = let same : us ≡ ts = cc in ap (may_all_be false marks) same ∙ h
 node_by program marks s (NamedType (DeclaredItem i) args) k ts e h = s i (item_by marks (slice_get program.items i) k ts e h)
 node_by program marks s (NamedType OptionOwner args) k ts e h = refl
-node_by program marks s (NamedType ResultOwner no_types) zero ts e h = cc
-node_by program marks s (NamedType ResultOwner (more_types t no_types)) zero ts e h = cc
-node_by program marks s (NamedType ResultOwner (more_types t (more_types u (more_types w ws)))) zero ts e h = cc
 node_by program marks s (NamedType ResultOwner (more_types t (more_types u no_types))) zero ts e h =
     let same : more_types t no_types ≡ ts = cc in
     or_left _ _ (both (may_be false marks t) true (ap (may_all_be false marks) same ∙ h)).0
-node_by program marks s (NamedType ResultOwner no_types) (suc zero) ts e h = cc
-node_by program marks s (NamedType ResultOwner (more_types t no_types)) (suc zero) ts e h = cc
-node_by program marks s (NamedType ResultOwner (more_types t (more_types u (more_types w ws)))) (suc zero) ts e h = cc
 node_by program marks s (NamedType ResultOwner (more_types t (more_types u no_types))) (suc zero) ts e h =
     let same : more_types u no_types ≡ ts = cc in
     or_right (may_be false marks t) _ (or_left _ _ (both (may_be false marks u) true (ap (may_all_be false marks) same ∙ h)).0)
@@ -62,13 +55,6 @@ text_has : (marks : List Bool) (program : MProgram) (u : List ℕ) (t : MType) �
 text_has marks program u StrType h = refl
 text_has marks program u _ h = cc
 
-type_if_is : (b : Bool) (u item : MType) → some_if b u ≡ Some item → (b ≡ true) × (u ≡ item)
-type_if_is true u item e = (refl, cc)
-type_if_is false u item e = absurd (not_some e)
-  where
-    not_some : None ≡ Some item → ⊥
-    not_some k = cc
-
 -- what is behind a reference is at an unsure place too
 point_by : (marks : List Bool) (t inner : MType) (m : Bool) → type_behind t m ≡ Some inner → may_be false marks inner ≡ true → may_be false marks t ≡ true
 point_by marks (PointType n u) inner m e h =
@@ -81,18 +67,13 @@ thing_has marks program (OpaqueType name args) h = refl
 thing_has marks program _ h = cc
 
 marked_has : (marks : List Bool) (o : Option MItem) → item_is_marked o ≡ true → item_may_be false marks o ≡ true
-marked_has marks None h = cc
-marked_has marks (Some OtherItem) h = cc
-marked_has marks (Some (StructItem v)) h = cc
 marked_has marks (Some (EnumItem name marked vs)) h = or_left marked _ h
+marked_has marks _ h = cc
 
 bare_has : (marks : List Bool) (o : Option MItem) → item_is_bare o ≡ true → item_may_be false marks o ≡ true
-bare_has marks None h = cc
-bare_has marks (Some OtherItem) h = cc
-bare_has marks (Some (StructItem v)) h = cc
 bare_has marks (Some (EnumItem name true vs)) h = refl
 bare_has marks (Some (EnumItem name false [])) h = refl
-bare_has marks (Some (EnumItem name false (v ∷ vs))) h = cc
+bare_has marks _ h = cc
 
 unseen_has : (marks : List Bool) (program : MProgram) → IsStableAt false program.items marks → (t : MType) → is_value program false t Unseen ≡ true → may_be false marks t ≡ true
 unseen_has marks program s NeverType h = refl
@@ -132,11 +113,10 @@ module _ (program : MProgram) (marks : List Bool) (stable : IsStableAt false pro
 
     pub values_have : (vs : MValues) (ts : MTypes) → are_values program false ts vs ≡ true → may_all_be false marks ts ≡ true
     values_have no_values no_types h = refl
-    values_have no_values (more_types t ts) h = cc
-    values_have (more_values v vs) no_types h = cc
     values_have (more_values v vs) (more_types t ts) h =
         let b = both (is_value program false t v) (are_values program false ts vs) h in
         and_true _ _ (value_has v t b.0) (values_have vs ts b.1)
+    values_have _ _ h = cc
 
     items_have : (vs : MValues) (t : MType) → all_are_values program false t vs ≡ true → (nat_eq (length (values_list vs)) 0 || may_be false marks t) ≡ true
     items_have no_values t h = refl

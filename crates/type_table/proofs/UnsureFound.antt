@@ -1,18 +1,18 @@
 -- What is marked at unsure places has a value there.
-use Rattle.std.proofs.Common.{◌≡◌, ◌⊎◌, inl, inr, ℕ, zero, suc, pos, Bool, true, false, ◌&&◌, ◌||◌, List, [], ◌∷◌, Option, Some, None, nat_eq, length, replicate, refl, ap, ◌∙◌, arith, slice_get, slice_set}
+use Rattle.std.proofs.Common.{◌≡◌, ◌⊎◌, inl, inr, ℕ, zero, suc, pos, Bool, true, false, ◌&&◌, ◌||◌, List, [], ◌∷◌, Option, Some, None, nat_eq, length, refl, ap, ◌∙◌, arith, slice_get}
 use Rattle.std.specs.List.{list_any}
 use Rattle.std.proofs.lemmas.Bool.Decides.{nat_tests}
 use Rattle.match_model.specs.declared.Width.{Width}
 use Rattle.match_model.specs.declared.Width.TheVariants.{Endless, Bits16, Bits32, Bits64}
 use Rattle.match_model.specs.declared.IntKind.{IntKind}
-use Rattle.match_model.specs.declared.IntKind.TheVariants.{U8, U16, U32, U64, U128, USize, I8, I16, I32, I64, I128, ISize}
+use Rattle.match_model.specs.declared.IntKind.TheVariants.{USize}
 use Rattle.match_model.specs.Types.{DeclaredItem, OptionOwner, ResultOwner, MType, BoolType, CharType, StrType, NeverType, IntType, OpaqueType, TupleType, PointType, SliceType, ArrayType, NamedType, MTypes, no_types, more_types}
-use Rattle.match_model.specs.Declarations.{MVariant, MItem, StructItem, EnumItem, OtherItem, MProgram, form_types, node_types, item_types, variant_types, item_is_marked, item_is_bare}
+use Rattle.match_model.specs.Declarations.{MVariant, MItem, StructItem, EnumItem, MProgram, form_types, node_types, item_types, variant_types, item_is_marked, item_is_bare}
 use Rattle.match_model.specs.Values.{MValue, Flag, Num, Text, Node, Point, Row, Thing, Later, Unseen, MValues, no_values, more_values, values_list}
 use Rattle.match_model.specs.Numbers.{has_number}
 use Rattle.match_model.specs.Typing.{is_value, are_values, all_are_values, some_if}
 use Rattle.match_model.specs.Emptiness.{mark_of}
-use Rattle.match_model.proofs.Basics.{both, and_true, nat_itself}
+use Rattle.match_model.proofs.Basics.{both, and_true, nat_itself, untrue}
 use Rattle.match_model.proofs.Inhabited.{Found, AllFound}
 use Rattle.type_table.specs.Possible.{may_be, may_all_be, is_unseen, item_may_be}
 use Rattle.type_table.proofs.Growing.{GrownAt, none_yet, one_more, set_mark, no_mark}
@@ -23,9 +23,7 @@ abbrev mutual
   is_shaped (TupleType ts) = are_shaped ts
   is_shaped (PointType mutable t) = is_shaped t
   is_shaped (ArrayType t n) = is_shaped t
-  is_shaped (NamedType (DeclaredItem i) no_types) = true
   is_shaped (NamedType (DeclaredItem i) (more_types t ts)) = false
-  is_shaped (NamedType OptionOwner args) = true
   is_shaped (NamedType ResultOwner (more_types t (more_types e no_types))) = is_shaped t && is_shaped e
   is_shaped (NamedType ResultOwner args) = false
   is_shaped _ = true
@@ -34,28 +32,12 @@ abbrev mutual
   are_shaped no_types = true
   are_shaped (more_types t ts) = is_shaped t && are_shaped ts
 
-untrue : false ≡ true → ⊥
-untrue e = cc
-
 zero_is : (width : Width) (kind : IntKind) → has_number width (IntType kind) (pos 0) ≡ true
-zero_is width U8 = refl
-zero_is width U16 = refl
-zero_is width U32 = refl
-zero_is width U64 = refl
-zero_is width U128 = refl
-zero_is width I8 = refl
-zero_is width I16 = refl
-zero_is width I32 = refl
-zero_is width I64 = refl
-zero_is width I128 = refl
 zero_is Endless USize = refl
 zero_is Bits16 USize = refl
 zero_is Bits32 USize = refl
 zero_is Bits64 USize = refl
-zero_is Endless ISize = refl
-zero_is Bits16 ISize = refl
-zero_is Bits32 ISize = refl
-zero_is Bits64 ISize = refl
+zero_is _ _ = refl
 
 not_zero : (n : ℕ) (b : Bool) → (nat_eq (suc n) 0 || b) ≡ true → b ≡ true
 not_zero n b h = grind (arith, nat_tests)
@@ -122,14 +104,11 @@ module _ (program : MProgram) (marks : List Bool) (known : KnownUnsure program m
     unsure (ArrayType t zero) d h = (Row no_values, refl)
     unsure (ArrayType t (suc n)) d h = let r = unsure t d (not_zero n (may_be false marks t) h) in array_found program t (suc n) r.0 r.1
     unsure (NamedType (DeclaredItem i) no_types) d h = known i h
-    unsure (NamedType (DeclaredItem i) (more_types t ts)) d h = absurd (untrue d)
     unsure (NamedType OptionOwner args) d h = (Node 0 no_values, refl)
-    unsure (NamedType ResultOwner no_types) d h = absurd (untrue d)
-    unsure (NamedType ResultOwner (more_types t no_types)) d h = absurd (untrue d)
     unsure (NamedType ResultOwner (more_types t (more_types e no_types))) d h =
         let b = both (is_shaped t) (is_shaped e) d in
         one_of (may_be false marks t) (may_be false marks e) h (λ k. ok_found program t e (unsure t b.0 k)) (λ k. err_found program t e (unsure e b.1 k))
-    unsure (NamedType ResultOwner (more_types t (more_types e (more_types u us)))) d h = absurd (untrue d)
+    unsure _ d h = absurd (untrue d)
 
     pub all_unsure : (ts : MTypes) → are_shaped ts ≡ true → may_all_be false marks ts ≡ true → AllFound program false ts
     all_unsure no_types d h = (no_values, refl)
@@ -179,11 +158,10 @@ module _ (program : MProgram) (shaped : FieldsShaped program) where
 
   item_found : (marks : List Bool) → KnownUnsure program marks → (i : ℕ) (o : Option MItem) → slice_get program.items i ≡ o →
       item_may_be false marks o ≡ true → Found program false (NamedType (DeclaredItem i) no_types)
-  item_found marks known i None e h = absurd (untrue h)
-  item_found marks known i (Some OtherItem) e h = absurd (untrue h)
   item_found marks known i (Some (StructItem v)) e h = fields_found marks known i 0 v (ap (λ o. item_types o 0) e) h
   item_found marks known i (Some (EnumItem name true vs)) e h = (Later, ap item_is_marked e)
   item_found marks known i (Some (EnumItem name false vs)) e h = enum_found marks known i name vs e h
+  item_found marks known i _ e h = absurd (untrue h)
 
   pub grown_unsure : (marks : List Bool) → GrownAt false program.items marks → KnownUnsure program marks
   grown_unsure _ none_yet j h = absurd (no_mark (length program.items) j h)

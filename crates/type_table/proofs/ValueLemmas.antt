@@ -2,7 +2,7 @@
 use Rattle.std.proofs.Common.{◌≡◌, ◌⊎◌, inl, inr, ⊎_elim, ℕ, ◌+◌, ◌<◌, ◌≤◌, Bool, true, false, ◌||◌, List, [], ◌∷◌, ◌++◌, map, length, replicate, Some, None, refl, sym, ap, subst, ◌∙◌, suc, zero, arith, take, set, get_or}
 use Rattle.std.specs.Prelude.{slice_get, nat_lt}
 use Rattle.std.specs.List.{All, AllByRecursion, Contains, list_all}
-use Rattle.std.proofs.lemmas.Bool.{ltb-true, and_parts, or_left, or_right, cases_lt, cases_eq}
+use Rattle.std.proofs.lemmas.Bool.{ltb-true, and_parts, or_left, or_right, cases_lt, cases_eq, both_ways, lt-ltb}
 use Rattle.std.proofs.lemmas.List.{length-map, length-take-le, length-set, length-replicate, set_past, get_or-set_other, take-replicate}
 use Rattle.std.proofs.lemmas.List.Elements.{All-from_recursion, recursion_from_All, All-contains, All-contains_itself}
 use Rattle.match_model.specs.Types.{MType}
@@ -20,9 +20,10 @@ use Rattle.type_table.specs.Nodes.{AreNodes, types_in, type_at, type_there, node
 use Rattle.type_table.specs.Entries.{entry_told, entry_below}
 use Rattle.type_table.specs.Bodies.{entry_bodies, bodies_of, said, said_from, clause_pair}
 use Rattle.type_table.specs.Possible.{may_be, item_may_be, items_in, IsStableAt, TellsValues}
-use Rattle.type_table.proofs.Growing.{GrownAt, none_yet, one_more, grown_least}
-use Rattle.type_table.proofs.NodeLemmas.{type_of_node, get_below}
-use Rattle.type_table.proofs.BodyLemmas.{some_body, atom_says, item_says, node_says, node_is, item_is, says_still, some_mono, entry_within, node_within, lower}
+use Rattle.type_table.proofs.Growing.{GrownAt, none_yet, one_more, grown_least, two_ways}
+use Rattle.type_table.proofs.NodeLemmas.{type_of_node, get_below, item_at, map_has}
+use Rattle.type_table.proofs.BodyLemmas.{some_body, atom_says, item_says, node_says, node_is, item_is, says_still, some_mono, entry_within, node_within}
+use Rattle.type_table.proofs.FieldLemmas.{all_at}
 
 -- the body is one of those
 abbrev Among : List ℕ → List (List ℕ) → Type 0
@@ -110,17 +111,14 @@ all_held atoms b h = All-from_recursion (IsHeld atoms) b (go b h)
     go (a ∷ rest) k = let halves = and_parts (held atoms a) (list_all (held atoms) rest) k in (halves.0, go rest halves.1)
 
 take_set : (n i : ℕ) (xs : List Bool) → take n (set xs i true) ≡ set (take n xs) i true
-take_set zero i xs = refl
-take_set (suc n) i [] = refl
 take_set (suc n) zero (x ∷ xs) = refl
 take_set (suc n) (suc i) (x ∷ xs) = ap (λ (ys : List Bool). x ∷ ys) (take_set n i xs)
+take_set _ _ _ = refl
 
 mark_kept : (marks : List Bool) (i j : ℕ) → mark_of (slice_get marks j) ≡ true → mark_of (slice_get (set marks i true) j) ≡ true
-mark_kept [] i j h = h
 mark_kept (m ∷ ms) zero zero h = refl
-mark_kept (m ∷ ms) zero (suc j) h = h
-mark_kept (m ∷ ms) (suc i) zero h = h
 mark_kept (m ∷ ms) (suc i) (suc j) h = mark_kept ms i j h
+mark_kept _ _ _ h = h
 
 mark_made : (marks : List Bool) (i : ℕ) → i < length marks → mark_of (slice_get (set marks i true) i) ≡ true
 mark_made [] i lt = absurd (omega arith)
@@ -129,43 +127,17 @@ mark_made (m ∷ ms) (suc i) lt = mark_made ms i (omega arith)
 
 front_mark : (n : ℕ) (atoms : List Bool) (a : ℕ) → a < n → mark_of (slice_get (take n atoms) a) ≡ held atoms a
 front_mark zero atoms a lt = absurd (omega arith)
-front_mark (suc n) [] a lt = refl
-front_mark (suc n) (x ∷ xs) zero lt = refl
 front_mark (suc n) (x ∷ xs) (suc a) lt = front_mark n xs a (omega arith)
+front_mark _ _ _ lt = refl
 
 none_held : (n a : ℕ) → held (replicate n false) a ≡ false
-none_held zero a = refl
-none_held (suc n) zero = refl
 none_held (suc n) (suc a) = none_held n a
-
-two_ways : (x y : Bool) → (x ≡ true → y ≡ true) → (y ≡ true → x ≡ true) → x ≡ y
-two_ways true y f g = sym (f refl)
-two_ways false true f g = g refl
-two_ways false false f g = refl
-
-clash : (b : Bool) → b ≡ true → b ≡ false → ⊥
-clash true e f = absurd cc
-clash false e f = absurd cc
-
-get_mapped : {A B : Type 0} (f : A → B) (xs : List A) (i : ℕ) (x : A) → slice_get xs i ≡ Some x → slice_get (map f xs) i ≡ Some (f x)
-get_mapped f [] i x at = absurd cc
-get_mapped f (y ∷ ys) zero x at = let same : y ≡ x = cc in ap (λ z. Some (f z)) same
-get_mapped f (y ∷ ys) (suc i) x at = get_mapped f ys i x at
-
-all_at : {A : Type 0} (p : A → Bool) (xs : List A) (i : ℕ) (x : A) → list_all p xs ≡ true → slice_get xs i ≡ Some x → p x ≡ true
-all_at p [] i x all at = absurd cc
-all_at p (y ∷ ys) zero x all at = let same : y ≡ x = cc in ap p (sym same) ∙ (and_parts (p y) (list_all p ys) all).0
-all_at p (y ∷ ys) (suc i) x all at = all_at p ys i x (and_parts (p y) (list_all p ys) all).1 at
+none_held _ _ = refl
 
 there_or_not : {A B : Type 0} (f : A → B) (xs : List A) (i : ℕ) → ((x : A) × (slice_get xs i ≡ Some x)) ⊎ (slice_get (map f xs) i ≡ None)
 there_or_not f [] i = inr refl
 there_or_not f (x ∷ xs) zero = inl (x, refl)
 there_or_not f (x ∷ xs) (suc i) = there_or_not f xs i
-
-at_below : {A : Type 0} (xs : List A) (i : ℕ) → i < length xs → (x : A) × (slice_get xs i ≡ Some x)
-at_below [] i lt = absurd (omega arith)
-at_below (x ∷ xs) zero lt = (x, refl)
-at_below (x ∷ xs) (suc i) lt = at_below xs i (omega arith)
 
 module _ (sure : Bool) (nodes : List Node) (entries : List Entry) (are : AreNodes nodes) (below : list_all (entry_below (length nodes)) entries ≡ true) where
   abbrev count : ℕ
@@ -201,7 +173,7 @@ module _ (sure : Bool) (nodes : List Node) (entries : List Entry) (are : AreNode
       one (a ∷ c) h =
           let halves = and_parts (nat_lt a n) (list_all (λ a. nat_lt a n) c) h in
           let lt : a < n = ltb-true a n halves.0 in
-          rw (lower a m (omega arith), one c halves.1) refl
+          rw (lt-ltb a m (omega arith), one c halves.1) refl
 
   entry_inside : (i : ℕ) (e : Entry) → slice_get entries i ≡ Some e → list_all (list_all (λ a. nat_lt a total)) (entry_bodies sure count e) ≡ true
   entry_inside i e at = entry_within sure count (length nodes) e (all_at (entry_below (length nodes)) entries i e below at)
@@ -247,7 +219,7 @@ module _ (sure : Bool) (nodes : List Node) (entries : List Entry) (are : AreNode
       let all : length items ≡ length entries = rw length-map refl in
       let front : replicate (length items) false ≡ take (length entries) (replicate total false) =
       ap (λ (n : ℕ). replicate n false) all ∙ sym (take-replicate (length entries) total false (omega arith)) in
-      (length-replicate total false, (subst (GrownAt sure items) front none_yet, λ a h. absurd (clash (held (replicate total false) a) h (none_held total a))))
+      (length-replicate total false, (subst (GrownAt sure items) front none_yet, λ a h. absurd (both_ways (held (replicate total false) a) (none_held total a) h)))
 
   front_len : (atoms : List Bool) → length atoms ≡ total → length (take (length entries) atoms) ≡ length entries
   front_len atoms len = length-take-le (length entries) atoms (omega arith)
@@ -284,7 +256,7 @@ module _ (sure : Bool) (nodes : List Node) (entries : List Entry) (are : AreNode
       let lt : i < length entries = get_below entries i e at in
       let some = says_some atoms good (entry_bodies sure (length entries) e) b among (entry_inside i e at) body in
       let may : item_may_be sure marks (slice_get items i) ≡ true =
-      ap (item_may_be sure marks) (get_mapped (λ x. (entry_told types x).item) entries i e at) ∙ (item_is sure (length entries) marks types e ∙ some) in
+      ap (item_may_be sure marks) (map_has (λ x. (entry_told types x).item) entries i e at) ∙ (item_is sure (length entries) marks types e ∙ some) in
       let low : i < length marks = subst (λ (n : ℕ). i < n) (sym (front_len atoms good.0)) lt in
       good_with atoms i good (one_more marks i good.1.0 may) (item_says sure (length entries) (set marks i true) types i lt ∙ mark_made marks i low)
 
@@ -351,7 +323,7 @@ module _ (sure : Bool) (nodes : List Node) (entries : List Entry) (are : AreNode
         (cases_lt a (length entries + n))
       where
         node : (k : Node) × (slice_get nodes n ≡ Some k)
-        node = at_below nodes n (omega arith)
+        node = item_at nodes n (omega arith)
 
         here : ((b : ℕ) → b < length entries + n → Says b ≡ true → held atoms b ≡ true) → Says (length entries + n) ≡ true → held atoms (length entries + n) ≡ true
         here before s =
@@ -364,14 +336,14 @@ module _ (sure : Bool) (nodes : List Node) (entries : List Entry) (are : AreNode
             (bodies_of sure (length entries) node.0) (node_inside n node.0 node.1) some)
 
     stable : IsStableAt sure items (take (length entries) atoms)
-    stable i h = ⊎_elim there (λ none. absurd (clash (item_may_be sure marks (slice_get items i)) h (ap (item_may_be sure marks) none))) (there_or_not (λ x. (entry_told types x).item) entries i)
+    stable i h = ⊎_elim there (λ none. absurd (both_ways (item_may_be sure marks (slice_get items i)) (ap (item_may_be sure marks) none) h)) (there_or_not (λ x. (entry_told types x).item) entries i)
       where
         there : (x : Entry) × (slice_get entries i ≡ Some x) → mark_of (slice_get (take (length entries) atoms) i) ≡ true
         there (x, at) =
             let lt : i < length entries = get_below entries i x at in
             let none : 0 + i ≡ i = omega arith in
             let some : some_body Says (entry_bodies sure (length entries) x) ≡ true =
-            sym (item_is sure (length entries) marks types x) ∙ (ap (item_may_be sure marks) (sym (get_mapped (λ y. (entry_told types y).item) entries i x at)) ∙ h) in
+            sym (item_is sure (length entries) marks types x) ∙ (ap (item_may_be sure marks) (sym (map_has (λ y. (entry_told types y).item) entries i x at)) ∙ h) in
             front_mark (length entries) atoms i lt
             ∙ (ap (held atoms) (sym none)
             ∙ from_follows (held atoms) (entry_bodies sure (length entries)) 0 entries parts_follow.0 i x at

@@ -53,20 +53,17 @@ item_bodies count i = if nat_lt i count then ((i ∷ []) ∷ []) else []
 -- what a node with this head and these parts asks
 abbrev pub node_bodies : (sure : Bool) → (count : ℕ) → Head → List ℕ → List (List ℕ)
 node_bodies sure count (heads.Base b) parts = base_bodies sure b
-node_bodies sure count (heads.Opaque o) parts = outright
 node_bodies sure count heads.Tuple parts = node_atoms count parts ∷ []
 node_bodies sure count (heads.Point mutable) parts = point_bodies sure (node_atoms count parts)
-node_bodies sure count heads.Slice parts = outright
 node_bodies sure count (heads.Array n) parts = array_bodies n (node_atoms count parts)
 node_bodies sure count (heads.Named (owners.Item i)) parts = item_bodies count i
-node_bodies sure count (heads.Named owners.Option) parts = outright
 node_bodies sure count (heads.Named owners.Result) parts = each_alone (node_atoms count parts)
+node_bodies sure count _ parts = outright
 
 -- the fields of a form
 abbrev pub form_atoms : FormKind → List ℕ → List ℕ
 form_atoms form_kinds.Unit atoms = []
-form_atoms form_kinds.Tuple atoms = atoms
-form_atoms form_kinds.Brace atoms = atoms
+form_atoms _ atoms = atoms
 
 -- what a variant asks: each of its fields
 abbrev pub variant_body : (count : ℕ) → declared_variant.VariantEntry → List ℕ
@@ -84,8 +81,7 @@ enum_bodies false false (b ∷ bs) = b ∷ bs
 abbrev pub entry_bodies : (sure : Bool) → (count : ℕ) → Entry → List (List ℕ)
 entry_bodies sure count (entries.Struct id variant) = variant_body count variant ∷ []
 entry_bodies sure count (entries.Enum id name later variants) = enum_bodies sure later (map (variant_body count) variants.items)
-entry_bodies sure count (entries.Function param deref) = []
-entry_bodies sure count entries.Import = []
+entry_bodies sure count _ = []
 
 -- the clauses with this head and these bodies
 abbrev pub said : ℕ → List (List ℕ) → List (ℕ × List ℕ)

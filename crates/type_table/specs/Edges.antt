@@ -17,15 +17,12 @@ item_edges count i = if nat_lt i count then (i ∷ []) else []
 
 -- where a node with this head and these parts goes
 abbrev pub node_edges : (count : ℕ) → Head → List ℕ → List ℕ
-node_edges count (heads.Base b) parts = []
-node_edges count (heads.Opaque o) parts = []
 node_edges count heads.Tuple parts = node_atoms count parts
-node_edges count (heads.Point mutable) parts = []
-node_edges count heads.Slice parts = []
 node_edges count (heads.Array n) parts = node_atoms count parts
 node_edges count (heads.Named (owners.Item i)) parts = item_edges count i
 node_edges count (heads.Named owners.Option) parts = node_atoms count parts
 node_edges count (heads.Named owners.Result) parts = node_atoms count parts
+node_edges count _ parts = []
 
 -- where a node goes
 abbrev pub edges_of : (count : ℕ) → Node → List ℕ
@@ -40,5 +37,4 @@ variants_edges count (v ∷ vs) = variant_body count v ++ variants_edges count v
 abbrev pub entry_edges : (count : ℕ) → Entry → List ℕ
 entry_edges count (entries.Struct id variant) = variant_body count variant
 entry_edges count (entries.Enum id name later variants) = variants_edges count variants.items
-entry_edges count (entries.Function param deref) = []
-entry_edges count entries.Import = []
+entry_edges count _ = []

@@ -59,10 +59,8 @@ own_type i (Function name parameter deref arms) = None
 
 -- the type of a function's parameter, and whether it writes `match *x`
 abbrev pub parameter_of : Means → KindTree → Option (MType × Bool)
-parameter_of names (Enum name variants) = None
-parameter_of names (Struct name form) = None
-parameter_of names (Import owner listed) = None
 parameter_of names (Function name parameter deref arms) = Some (type_of names true parameter, is_some deref)
+parameter_of names _ = None
 
 -- what the item with this number says
 abbrev pub item_told : Means → ℕ → ItemTree → Told

@@ -1,6 +1,6 @@
 -- No meaning: that the heads of nodes name only items that declare a type, and that lengths are below 2^32, whatever is put in. A
 -- test tells of each item whether it declares one.
-use Rattle.std.specs.Prelude.{◌≡◌, ◌^◌, ℕ, Bool, true, false, List, nat_lt, is_some, slice_get, Option, Some, None}
+use Rattle.std.specs.Prelude.{◌≡◌, ◌^◌, ℕ, Bool, true, List, nat_lt, is_some, slice_get, Option, Some}
 use Rattle.std.specs.List.{list_all}
 use Rattle.decl_syntax.specs.Items.{KindTree, ItemTree}
 use Rattle.type_names.specs.declared.meanings.Meaning.{Meaning}
@@ -16,15 +16,9 @@ use Rattle.type_table.specs.Entries.{own_type}
 
 -- the head names an item only where the test says so, and its length is below 2^32
 abbrev pub head_declared : (is : ℕ → Bool) → Head → Bool
-head_declared is (heads.Base b) = true
-head_declared is (heads.Opaque o) = true
-head_declared is heads.Tuple = true
-head_declared is (heads.Point mutable) = true
-head_declared is heads.Slice = true
 head_declared is (heads.Array len) = nat_lt len (2 ^ 32)
 head_declared is (heads.Named (owners.Item i)) = is i
-head_declared is (heads.Named owners.Option) = true
-head_declared is (heads.Named owners.Result) = true
+head_declared is _ = true
 
 -- so do the heads of the nodes
 abbrev pub AreDeclared : (is : ℕ → Bool) → List Node → Type 0
@@ -32,12 +26,8 @@ AreDeclared is nodes = list_all (λ n. head_declared is n.head) nodes ≡ true
 
 -- the meaning is an item only where the test says so
 abbrev pub meaning_declared : (is : ℕ → Bool) → Option Meaning → Bool
-meaning_declared is None = true
 meaning_declared is (Some (meanings.Item i)) = is i
-meaning_declared is (Some (meanings.Base b)) = true
-meaning_declared is (Some (meanings.Opaque o)) = true
-meaning_declared is (Some meanings.Option) = true
-meaning_declared is (Some meanings.Result) = true
+meaning_declared is _ = true
 
 -- names mean an item only where the test says so
 abbrev pub NamesDeclared : (is : ℕ → Bool) → declared_names.Names → Type 0

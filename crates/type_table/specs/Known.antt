@@ -1,6 +1,6 @@
 -- What a table keeps beside how many parts its nodes have: the types that its nodes name are declared, and parts, variants, fields
 -- and lengths are fewer than 2^32.
-use Rattle.std.specs.Prelude.{◌≡◌, ◌<◌, ◌^◌, ⊤, ℕ, Bool, true, false, List, length, nat_lt, slice_get, Option, Some, None}
+use Rattle.std.specs.Prelude.{◌≡◌, ◌<◌, ◌^◌, ⊤, ℕ, Bool, true, false, List, length, nat_lt, slice_get, Option, Some}
 use Rattle.std.specs.List.{All}
 use Rattle.type_names.specs.declared.meanings.Owner.TheVariants as owners
 use Rattle.type_table.specs.declared.nodes.Head.{Head}
@@ -14,31 +14,19 @@ use Rattle.type_table.specs.declared.entries.Entry.TheVariants as entries
 abbrev pub declares_type : Option Entry → Bool
 declares_type (Some (entries.Struct id variant)) = true
 declares_type (Some (entries.Enum id name later variants)) = true
-declares_type (Some (entries.Function param deref)) = false
-declares_type (Some entries.Import) = false
-declares_type None = false
+declares_type _ = false
 
 -- the head, with so many parts, is of a type of the program
 abbrev pub is_known_head : List Entry → Head → (parts : ℕ) → Bool
-is_known_head items (heads.Base b) n = true
-is_known_head items (heads.Opaque o) n = true
 is_known_head items heads.Tuple n = nat_lt n (2 ^ 32)
-is_known_head items (heads.Point mutable) n = true
-is_known_head items heads.Slice n = true
 is_known_head items (heads.Array len) n = nat_lt len (2 ^ 32)
 is_known_head items (heads.Named (owners.Item i)) n = declares_type (slice_get items i)
-is_known_head items (heads.Named owners.Option) n = true
-is_known_head items (heads.Named owners.Result) n = true
+is_known_head items _ n = true
 
 -- a tuple with so many parts has fewer than 2^32
 abbrev pub has_few : Head → (parts : ℕ) → Bool
-has_few (heads.Base b) n = true
-has_few (heads.Opaque o) n = true
 has_few heads.Tuple n = nat_lt n (2 ^ 32)
-has_few (heads.Point mutable) n = true
-has_few heads.Slice n = true
-has_few (heads.Array len) n = true
-has_few (heads.Named o) n = true
+has_few _ n = true
 
 -- the node, if it is a tuple, has fewer than 2^32 parts
 abbrev pub HasFewParts : declared_node.Node → Type 0
@@ -56,5 +44,4 @@ HasFewFields v = length v.fields.items < 2 ^ 32
 abbrev pub IsFew : Entry → Type 0
 IsFew (entries.Struct id variant) = HasFewFields variant
 IsFew (entries.Enum id name later variants) = (length variants.items < 2 ^ 32) × All HasFewFields variants.items
-IsFew (entries.Function param deref) = ⊤
-IsFew entries.Import = ⊤
+IsFew _ = ⊤

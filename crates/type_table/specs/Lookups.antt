@@ -1,6 +1,6 @@
 -- What is found by a name in a type: a variant, or a field of a variant (Rust Reference, Struct expressions: the fields of a tuple
 -- form are named `0`, `1` and so on).
-use Rattle.std.specs.Prelude.{ℕ, suc, Bool, List, [], ◌∷◌, map, position, Option, Some, None}
+use Rattle.std.specs.Prelude.{ℕ, suc, List, [], ◌∷◌, map, position, Option, Some, None}
 use Rattle.std.specs.Fmt.{decimal}
 use Rattle.std.specs.Str.{bytes_eq}
 use Rattle.match_model.specs.Types.{MType}

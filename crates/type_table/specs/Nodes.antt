@@ -60,10 +60,8 @@ abbrev pub fits_head : Head → ℕ → Bool
 fits_head (heads.Base b) n = nat_eq n 0
 fits_head (heads.Opaque o) n = nat_eq n (opaque_arguments (opaque_view o))
 fits_head heads.Tuple n = true
-fits_head (heads.Point mutable) n = nat_eq n 1
-fits_head heads.Slice n = nat_eq n 1
-fits_head (heads.Array len) n = nat_eq n 1
 fits_head (heads.Named o) n = nat_eq n (owner_arguments (owner_view o))
+fits_head _ n = nat_eq n 1
 
 -- each node has its parts among those before it, and as many as its head says
 abbrev pub AreNodes : List declared_node.Node → Type 0

@@ -32,11 +32,8 @@ field_at (Some v) i = id_at (field_number v i)
 -- the variant of an item that may be there; a struct has the variant 0
 abbrev pub entry_variant_at : Option Entry → (k : ℕ) → Option VariantEntry
 entry_variant_at (Some (entries.Struct id variant)) zero = Some variant
-entry_variant_at (Some (entries.Struct id variant)) (suc k) = None
 entry_variant_at (Some (entries.Enum id name later variants)) k = slice_get variants.items k
-entry_variant_at (Some (entries.Function param deref)) k = None
-entry_variant_at (Some entries.Import) k = None
-entry_variant_at None k = None
+entry_variant_at _ _ = None
 
 -- the field of a named type, whose arguments are the parts
 abbrev pub named_part : List Entry → Owner → (parts : List ℕ) → (variant i : ℕ) → Option TyId
@@ -46,13 +43,9 @@ named_part items owners.Result parts k i = part_at parts (result_part k i)
 
 -- the field of a type with this head and these parts
 abbrev pub head_part : List Entry → Head → (parts : List ℕ) → (variant i : ℕ) → Option TyId
-head_part items (heads.Base b) parts k i = None
-head_part items (heads.Opaque o) parts k i = None
 head_part items heads.Tuple parts k i = part_at parts (tuple_part k i)
-head_part items (heads.Point mutable) parts k i = None
-head_part items heads.Slice parts k i = None
-head_part items (heads.Array n) parts k i = None
 head_part items (heads.Named owner) parts k i = named_part items owner parts k i
+head_part items _ parts k i = None
 
 -- the field of a node's type
 abbrev pub node_part : List Entry → Option Node → (variant i : ℕ) → Option TyId
@@ -69,13 +62,10 @@ part_id t ty k i = unwrap_or (part_there t ty k i) ty
 
 -- what is behind a type with this head and these parts
 abbrev pub head_inner : Head → (parts : List ℕ) → Option TyId
-head_inner (heads.Base b) parts = None
-head_inner (heads.Opaque o) parts = None
-head_inner heads.Tuple parts = None
 head_inner (heads.Point mutable) parts = part_at parts (Some 0)
 head_inner heads.Slice parts = part_at parts (Some 0)
 head_inner (heads.Array n) parts = part_at parts (Some 0)
-head_inner (heads.Named owner) parts = None
+head_inner _ parts = None
 
 -- what is behind a node's type
 abbrev pub node_inner : Option Node → Option TyId

@@ -1,6 +1,6 @@
 -- What a path in a pattern finds, as types of a table.
 use Rattle.std.specs.Prelude.{◌≡◌, ◌^◌, ⊤, ℕ, List, nat_eq, nat_lt, slice_get, option_map, Option, Some, None, if◌then◌else◌}
-use Rattle.match_model.specs.Types.{MOwner, DeclaredItem, OptionOwner, ResultOwner, NamedType, no_types}
+use Rattle.match_model.specs.Types.{MOwner, DeclaredItem, NamedType, no_types}
 use Rattle.type_names.specs.declared.meanings.FormKind.{FormKind}
 use Rattle.type_names.specs.declared.meanings.FormKind.TheVariants as kinds
 use Rattle.type_names.specs.declared.meanings.Owner.{Owner}
@@ -28,10 +28,7 @@ FoundIs t (FoundVariant o k) found = (owner : Owner) × (found ≡ founds.Varian
 -- No meaning: the number of the type of a struct's entry.
 abbrev pub struct_id : Option Entry → Option ℕ
 struct_id (Some (entries.Struct id variant)) = Some id
-struct_id (Some (entries.Enum id name later variants)) = None
-struct_id (Some (entries.Function param deref)) = None
-struct_id (Some entries.Import) = None
-struct_id None = None
+struct_id _ = None
 
 -- No meaning: the struct with this number of its type, if there is one.
 abbrev pub found_at : Option ℕ → Found
@@ -51,33 +48,23 @@ answer t (targets.Variant owner k) = found_variant owner k
 
 -- a struct that was found is given as a type of the table
 abbrev pub FoundOf : declared_table.TypeTable → Found → Type 0
-FoundOf t founds.Nothing = ⊤
-FoundOf t founds.Twice = ⊤
 FoundOf t (founds.Struct id) = IsOf t id
-FoundOf t (founds.Variant owner k) = ⊤
+FoundOf t _ = ⊤
 
 -- No meaning: the form of a struct's entry.
 abbrev pub struct_entry_form : Option Entry → Option FormKind
 struct_entry_form (Some (entries.Struct id variant)) = Some variant.form
-struct_entry_form (Some (entries.Enum id name later variants)) = None
-struct_entry_form (Some (entries.Function param deref)) = None
-struct_entry_form (Some entries.Import) = None
-struct_entry_form None = None
+struct_entry_form _ = None
 
 -- No meaning: the form of a variant of an enum's entry.
 abbrev pub enum_entry_form : Option Entry → ℕ → Option FormKind
-enum_entry_form (Some (entries.Struct id variant)) k = None
 enum_entry_form (Some (entries.Enum id name later variants)) k = option_map (λ v. v.form) (slice_get variants.items k)
-enum_entry_form (Some (entries.Function param deref)) k = None
-enum_entry_form (Some entries.Import) k = None
-enum_entry_form None k = None
+enum_entry_form _ k = None
 
 -- No meaning: the form of a struct by who declares it.
 abbrev pub struct_form_by : List Entry → Option MOwner → Option FormKind
 struct_form_by items (Some (DeclaredItem i)) = struct_entry_form (slice_get items i)
-struct_form_by items (Some OptionOwner) = None
-struct_form_by items (Some ResultOwner) = None
-struct_form_by items None = None
+struct_form_by items _ = None
 
 -- No meaning: the form of a variant by its enum.
 abbrev pub variant_form_by : List Entry → Owner → ℕ → Option FormKind
@@ -87,7 +74,6 @@ variant_form_by items owners.Result k = if nat_lt k 2 then Some kinds.Tuple else
 
 -- No meaning: the form of what was found.
 abbrev pub form_by : declared_table.TypeTable → Found → Option FormKind
-form_by t founds.Nothing = None
-form_by t founds.Twice = None
 form_by t (founds.Struct id) = struct_form_by t.items.items (type_owner (table_type t id))
 form_by t (founds.Variant owner k) = variant_form_by t.items.items owner k
+form_by t _ = None

@@ -2,11 +2,11 @@
 -- the marks. What it means that a type is empty is told by specs/Empty.antt. `sure` is true where the place is sure to hold a
 -- valid value. Where it is not, `!` and an enum without variants have their bare unseen value, and a reference asks for a value of
 -- what it refers to.
-use Rattle.std.specs.Prelude.{◌≡◌, ℕ, ◌+◌, ◌<◌, Bool, true, false, not, ◌||◌, ◌&&◌, List, [], ◌∷◌, map, length, take, nat_eq, Option, Some, None, slice_get, slice_index_or}
+use Rattle.std.specs.Prelude.{◌≡◌, ℕ, ◌+◌, ◌<◌, Bool, true, false, not, ◌||◌, ◌&&◌, List, [], ◌∷◌, map, length, take, nat_eq, Option, Some, slice_get, slice_index_or}
 use Rattle.std.specs.List.{list_any}
 use Rattle.match_model.specs.declared.Width.{Width}
-use Rattle.match_model.specs.Types.{DeclaredItem, OptionOwner, ResultOwner, MType, NeverType, TupleType, PointType, ArrayType, NamedType, MTypes, no_types, more_types}
-use Rattle.match_model.specs.Declarations.{MVariant, MItem, StructItem, EnumItem, OtherItem, MProgram, form_types}
+use Rattle.match_model.specs.Types.{DeclaredItem, ResultOwner, MType, NeverType, TupleType, PointType, ArrayType, NamedType, MTypes, no_types, more_types}
+use Rattle.match_model.specs.Declarations.{MVariant, MItem, StructItem, EnumItem, MProgram, form_types}
 use Rattle.match_model.specs.Emptiness.{mark_of}
 use Rattle.type_table.specs.declared.entries.Entry.{Entry}
 use Rattle.type_table.specs.declared.nodes.Node.{Node}
@@ -21,7 +21,6 @@ abbrev mutual
   may_be sure marks (PointType mutable t) = sure || may_be sure marks t
   may_be sure marks (ArrayType t n) = nat_eq n 0 || may_be sure marks t
   may_be sure marks (NamedType (DeclaredItem i) arguments) = mark_of (slice_get marks i)
-  may_be sure marks (NamedType OptionOwner arguments) = true
   may_be sure marks (NamedType ResultOwner arguments) = may_some_be sure marks arguments
   may_be sure marks _ = true
 
@@ -42,11 +41,10 @@ is_unseen sure (v ∷ vs) = false
 
 -- by the marks an item has a value
 abbrev pub item_may_be : (sure : Bool) → (marks : List Bool) → Option MItem → Bool
-item_may_be sure marks None = false
-item_may_be sure marks (Some OtherItem) = false
 item_may_be sure marks (Some (StructItem v)) = may_all_be sure marks (form_types v.form)
 item_may_be sure marks (Some (EnumItem name marked variants)) =
     marked || (is_unseen sure variants || list_any (λ v. may_all_be sure marks (form_types v.form)) variants)
+item_may_be sure marks _ = false
 
 -- no item is left to mark
 abbrev pub IsStableAt : (sure : Bool) → List MItem → (marks : List Bool) → Type 0

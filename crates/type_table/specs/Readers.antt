@@ -1,7 +1,7 @@
 -- What the readers of a table tell.
 use Rattle.std.specs.Prelude.{ℕ, Bool, true, false, List, slice_get, option_map, Option, Some, None, if◌then◌else◌}
 use Rattle.match_model.specs.Types.{MOwner, DeclaredItem, OptionOwner, ResultOwner, MType, PointType, NamedType}
-use Rattle.match_model.specs.Declarations.{MItem, StructItem, EnumItem, OtherItem, MProgram}
+use Rattle.match_model.specs.Declarations.{MItem, StructItem, EnumItem, MProgram}
 use Rattle.type_table.specs.Entries.{Told}
 
 -- who declares a named type
@@ -12,9 +12,7 @@ type_owner _ = None
 -- the item is an enum
 abbrev pub is_enum_item : Option MItem → Bool
 is_enum_item (Some (EnumItem name marked variants)) = true
-is_enum_item (Some (StructItem v)) = false
-is_enum_item (Some OtherItem) = false
-is_enum_item None = false
+is_enum_item _ = false
 
 -- the owner, if it declares an enum
 abbrev pub enum_owner : MProgram → Option MOwner → Option MOwner
@@ -27,8 +25,7 @@ enum_owner program None = None
 abbrev pub item_name : Option MItem → Option (List ℕ)
 item_name (Some (EnumItem name marked variants)) = Some name
 item_name (Some (StructItem v)) = Some v.name
-item_name (Some OtherItem) = None
-item_name None = None
+item_name _ = None
 
 -- the item with this number, if it declares an enum or struct
 abbrev pub declaring : Option (List ℕ) → ℕ → Option ℕ
@@ -38,16 +35,12 @@ declaring None i = None
 -- the item that declares an enum or struct type
 abbrev pub owner_item : MProgram → Option MOwner → Option ℕ
 owner_item program (Some (DeclaredItem i)) = declaring (item_name (slice_get program.items i)) i
-owner_item program (Some OptionOwner) = None
-owner_item program (Some ResultOwner) = None
-owner_item program None = None
+owner_item program _ = None
 
 -- its name
 abbrev pub owner_name : MProgram → Option MOwner → Option (List ℕ)
 owner_name program (Some (DeclaredItem i)) = item_name (slice_get program.items i)
-owner_name program (Some OptionOwner) = None
-owner_name program (Some ResultOwner) = None
-owner_name program None = None
+owner_name program _ = None
 
 -- the type behind a reference
 abbrev pub behind : MType → Option MType

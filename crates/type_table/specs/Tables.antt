@@ -4,7 +4,7 @@ use Rattle.match_model.specs.declared.Width.{Width}
 use Rattle.match_model.specs.Types.{MOwner, DeclaredItem, MType, BoolType, CharType, StrType, NeverType, IntType, TupleType, PointType, SliceType, ArrayType, NamedType, MTypes, no_types, types_list, types_of}
 use Rattle.match_model.specs.Typing.{is_opaque}
 use Rattle.match_model.specs.RustTypes.{count_of_types}
-use Rattle.match_model.specs.Declarations.{MVariant, MItem, StructItem, EnumItem, OtherItem, MProgram, form_types, variants_of, is_marked, item_variants, item_is_marked, node_types, MForm, UnitForm, TupleForm, BraceForm}
+use Rattle.match_model.specs.Declarations.{MVariant, MItem, StructItem, EnumItem, MProgram, form_types, variants_of, is_marked, item_variants, item_is_marked, node_types, MForm, BraceForm}
 use Rattle.decl_syntax.specs.Items.{ItemTree}
 use Rattle.type_names.specs.Meanings.{means}
 use Rattle.type_names.specs.FindingViews.{IsFinder}
@@ -67,9 +67,7 @@ pub record IsTableOf (items : List ItemTree) (width : Width) (t : declared_table
 -- the item is a struct
 abbrev pub is_struct : Option MItem → Bool
 is_struct (Some (StructItem v)) = true
-is_struct (Some (EnumItem name marked variants)) = false
-is_struct (Some OtherItem) = false
-is_struct None = false
+is_struct _ = false
 
 -- the type is a struct
 abbrev pub is_struct_type : MProgram → MType → Bool
@@ -80,8 +78,7 @@ is_struct_type program _ = false
 abbrev pub count_of_item : Option MItem → ℕ
 count_of_item (Some (StructItem v)) = length (types_list (form_types v.form))
 count_of_item (Some (EnumItem name marked variants)) = length variants
-count_of_item (Some OtherItem) = 0
-count_of_item None = 0
+count_of_item _ = 0
 
 -- how many parts a tuple or struct has, or how many variants another named type
 abbrev pub count_of_type : MProgram → MType → ℕ
@@ -119,8 +116,7 @@ type_parts table ty = parts_at (table_types table) (slice_get table.nodes.keys t
 -- No meaning: how many fields a variant of this form has, for which so many are kept.
 abbrev pub fields_with : FormKind → ℕ → ℕ
 fields_with form_kinds.Unit n = 0
-fields_with form_kinds.Tuple n = n
-fields_with form_kinds.Brace n = n
+fields_with _ n = n
 
 -- No meaning: how many fields the variant of an entry has.
 abbrev pub fields_of_entry : declared_variant.VariantEntry → ℕ
@@ -130,8 +126,7 @@ fields_of_entry v = fields_with v.form (length v.fields.items)
 abbrev pub entry_count : Entry → ℕ
 entry_count (entries.Struct id variant) = fields_of_entry variant
 entry_count (entries.Enum id name later variants) = length variants.items
-entry_count (entries.Function param deref) = 0
-entry_count entries.Import = 0
+entry_count _ = 0
 
 -- No meaning: the kind is that of the type that the item declares.
 abbrev pub ItemKindIs : MItem → TyKind → Type 0
@@ -150,9 +145,8 @@ field_type program t k i = part_of (node_types program t k) i
 
 -- the name of a field of a variant of brace form
 abbrev pub form_field_name : MForm → (i : ℕ) → Option (List ℕ)
-form_field_name UnitForm i = None
-form_field_name (TupleForm types) i = None
 form_field_name (BraceForm fields) i = option_map (λ f. f.name) (slice_get fields i)
+form_field_name _ i = None
 
 -- the same of a variant that may be there
 abbrev pub field_name_of : Option MVariant → (i : ℕ) → Option (List ℕ)
@@ -166,8 +160,7 @@ declared_variant_at t i k = slice_get (item_variants (slice_get (table_program t
 -- No meaning: the number of the type of a field, where a variant of this form has fields.
 abbrev pub number_with : FormKind → Option ℕ → Option ℕ
 number_with form_kinds.Unit o = None
-number_with form_kinds.Tuple o = o
-number_with form_kinds.Brace o = o
+number_with _ o = o
 
 -- No meaning: the number of the type of a field of a variant.
 abbrev pub field_number : declared_variant.VariantEntry → (i : ℕ) → Option ℕ

@@ -1,5 +1,5 @@
 -- What a table keeps: its numbers are its own, one for each type, its types are of its program, and it tells which of them have values at sure places.
-use Rattle.std.specs.Prelude.{◌≡◌, ◌<◌, ◌^◌, ◌+◌, ℕ, Bool, true, false, List, length, take, slice_get, slice_index_or}
+use Rattle.std.specs.Prelude.{◌≡◌, ◌<◌, ◌+◌, ℕ, Bool, true, false, List, length, take, slice_get, slice_index_or}
 use Rattle.std.specs.List.{All, list_all}
 use Rattle.std.specs.Coded.{Unit-prop}
 use Rattle.std.proofs.Props.{props}

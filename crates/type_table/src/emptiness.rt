@@ -1,5 +1,5 @@
 //! Which types of a table, and which variants of them, have no value where a place is sure to hold a valid one.
-ghost use Rattle.std.specs.Prelude.{◌≡◌, ◌<◌, ℕ, false, true, not, is_some};
+ghost use Rattle.std.specs.Prelude.{◌≡◌, false, true, is_some};
 ghost use Rattle.match_model.specs.Declarations.{node_types};
 ghost use Rattle.type_table.specs.Empty.{TellsEmpty, TellsVariantEmpty};
 ghost use Rattle.type_table.specs.Marks.{found_empty, found_variant_empty, table_marks, lacks_value};

@@ -1,7 +1,7 @@
 //! What the items of a file declare, with their types as the numbers of nodes.
 ghost use Rattle.std.specs.Prelude.{◌≡◌, true, map, length, IfOk, OnOk};
 ghost use Rattle.std.specs.Rc.{rc_str_bytes};
-ghost use Rattle.std.specs.List.{list_all, enumerate_from};
+ghost use Rattle.std.specs.List.{list_all};
 ghost use Rattle.decl_syntax.specs.Items.{field_view, form_view, variant_view, kind_view, item_view};
 ghost use Rattle.type_names.specs.Written.{field_of, form_of, variant_of};
 ghost use Rattle.type_names.specs.Views.{means_in};

@@ -4,6 +4,7 @@ ghost use Rattle.decl_syntax.specs.Items.{item_view};
 ghost use Rattle.type_names.specs.Written.{program_of};
 ghost use Rattle.type_names.specs.Rules.{FirstOf, breaks_at};
 ghost use Rattle.type_names.specs.Views.{AreNames};
+ghost use Rattle.type_names.specs.declared.item_rules.ItemRule.TheVariants.{Written};
 ghost use Rattle.type_table.specs.Faults.{Breaks, ContainsItself, IsEndless, FirstThat, LeastFault};
 ghost use Rattle.type_table.specs.Readings.{earlier, fault_pair};
 ghost use Rattle.type_table.specs.declared.faults.DeclFault.TheVariants.{NoMemory as FaultNoMemory};
@@ -49,42 +50,12 @@ pub(crate) fn least_fault(
     let broken = some_fault(alloc, names, items)?;
     let by_variant_twice = first_where(alloc, names, items, broken, ItemRule::VariantTwice)?;
     let by_field_twice = first_where(alloc, names, items, broken, ItemRule::FieldTwice)?;
-    let by_unknown_type = first_where(
-        alloc,
-        names,
-        items,
-        broken,
-        ItemRule::Written(TypeRule::UnknownType),
-    )?;
-    let by_sizeless_place = first_where(
-        alloc,
-        names,
-        items,
-        broken,
-        ItemRule::Written(TypeRule::SizelessPlace),
-    )?;
-    let by_array_length = first_where(
-        alloc,
-        names,
-        items,
-        broken,
-        ItemRule::Written(TypeRule::ArrayLength),
-    )?;
-    let by_argument_count = first_where(
-        alloc,
-        names,
-        items,
-        broken,
-        ItemRule::Written(TypeRule::ArgumentCount),
-    )?;
+    let by_unknown_type = first_written(alloc, names, items, broken, TypeRule::UnknownType)?;
+    let by_sizeless_place = first_written(alloc, names, items, broken, TypeRule::SizelessPlace)?;
+    let by_array_length = first_written(alloc, names, items, broken, TypeRule::ArrayLength)?;
+    let by_argument_count = first_written(alloc, names, items, broken, TypeRule::ArgumentCount)?;
     let by_bad_use = first_where(alloc, names, items, broken, ItemRule::BadUse)?;
-    let by_unsupported_attribute = first_where(
-        alloc,
-        names,
-        items,
-        broken,
-        ItemRule::UnsupportedAttribute,
-    )?;
+    let by_unsupported = first_where(alloc, names, items, broken, ItemRule::UnsupportedAttribute)?;
     let upto_name_twice = earlier(None, 10, by_name_twice);
     let upto_variant_twice = earlier(upto_name_twice, 11, by_variant_twice);
     let upto_field_twice = earlier(upto_variant_twice, 12, by_field_twice);
@@ -94,9 +65,24 @@ pub(crate) fn least_fault(
     let upto_array_length = earlier(upto_contains_itself, 16, by_array_length);
     let upto_argument_count = earlier(upto_array_length, 17, by_argument_count);
     let upto_bad_use = earlier(upto_argument_count, 18, by_bad_use);
-    let upto_unsupported_attribute = earlier(upto_bad_use, 19, by_unsupported_attribute);
+    let upto_unsupported_attribute = earlier(upto_bad_use, 19, by_unsupported);
     let upto_endless_type = earlier(upto_unsupported_attribute, 36, endless);
     Ok(upto_endless_type)
+}
+
+// The first item with a written type that breaks the rule, which is looked for only where some item breaks one of the rules.
+fn first_written(
+    alloc: Global,
+    names: &Names,
+    items: &[Item],
+    broken: bool,
+    rule: TypeRule,
+) -> Result<Option<usize>, NoMemory>
+    requires names { AreNames (map item_view items.now) names.now }
+    requires none { let all = map item_view items.now in broken ≡ false → FirstOf (breaks_at (Written rule) all) (length all) None }
+    ensures { let all = map item_view items.now in IfOk result (FirstOf (breaks_at (Written rule) all) (length all)) }
+{
+    first_where(alloc, names, items, broken, ItemRule::Written(rule))
 }
 
 // The first item that breaks the rule, which is looked for only where some item breaks one of the rules.

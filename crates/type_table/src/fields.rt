@@ -1,6 +1,6 @@
 //! The variants and fields of types.
-ghost use Rattle.std.specs.Prelude.{◌≡◌, ◌<◌, nat_eq, nat_lt, if◌then◌else◌, ◌∷◌, [], List, Some, true, ℕ};
-ghost use Rattle.std.specs.Prelude.{length, slice_get, option_map, IfSome, IsSome};
+ghost use Rattle.std.specs.Prelude.{◌≡◌, ◌<◌, nat_eq, nat_lt, if◌then◌else◌, ◌∷◌, [], List, Some};
+ghost use Rattle.std.specs.Prelude.{length, slice_get, option_map, IsSome};
 ghost use Rattle.match_model.specs.Types.{MType, OptionOwner, ResultOwner, NamedType, more_types, no_types};
 ghost use Rattle.match_model.specs.Declarations.{MProgram, variant_types, item_variants};
 ghost use Rattle.match_model.specs.RustTypes.{count_of_types};

@@ -1,5 +1,5 @@
 //! What a path in a pattern finds, as types of the table.
-ghost use Rattle.std.specs.Prelude.{◌≡◌, ℕ, List, slice_get, option_map, Some, is_some};
+ghost use Rattle.std.specs.Prelude.{◌≡◌, List, slice_get, option_map, Some, is_some};
 ghost use Rattle.decl_syntax.specs.Items.{ItemTree};
 ghost use Rattle.decl_syntax.specs.Patterns.{PathTree, path_view};
 ghost use Rattle.match_model.specs.declared.Width.{Width as AnyWidth};

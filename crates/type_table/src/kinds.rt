@@ -6,7 +6,7 @@ ghost use Rattle.type_table.specs.declared.table.TypeTable.{TypeTable};
 ghost use Rattle.type_table.specs.declared.table.TyId.{TyId};
 ghost use Rattle.type_table.specs.Parts.{node_inner, inner_id, HoldsInner};
 ghost use Rattle.type_table.specs.Nodes.{owner_arguments};
-ghost use Rattle.type_table.specs.Tables.{IsOf, KindIs, table_program, table_type, table_types};
+ghost use Rattle.type_table.specs.Tables.{IsOf, KindIs, table_program, table_type};
 ghost use Rattle.type_table.specs.Tables.{count_of_type, ItemKindIs, fields_of_entry, entry_count};
 ghost use Rattle.type_table.specs.Entries.{entry_told};
 

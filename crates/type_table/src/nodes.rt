@@ -1,11 +1,8 @@
 //! Types, each once: a node has its parts as the numbers of earlier nodes.
-ghost use Rattle.std.specs.Prelude.{◌≡◌, ◌==◌, ◌++◌, true, length, slice_get, IfOk, OnOk, Some};
+ghost use Rattle.std.specs.Prelude.{◌≡◌, true, length, slice_get, IfOk, OnOk, Some};
 ghost use Rattle.type_table.specs.Keeping.{KeepsWith};
 ghost use Rattle.type_table.specs.Nodes.{AreNodes, are_below, fits_head, Extends, types_in, node_type};
-ghost use Rattle.std.proofs.Common.{rules};
 ghost use Rattle.std.specs.Hash as fed;
-ghost use Rattle.std.specs.Cmp.Lexicographic.{pointwise};
-ghost use Rattle.std.specs.Cmp.Rules.{comparing, hashing};
 
 use indexmap::IndexSet;
 use no_memory::NoMemory;

@@ -38,11 +38,4 @@ impl TypeTable {
     {
         self.width
     }
-
-    /// The names of the file.
-    pub fn names(&self) -> &Names
-        ensures { result.now ≡ self.now.names }
-    {
-        &self.names
-    }
 }

@@ -1,6 +1,6 @@
 //! Which types have values, by Horn clauses over items and nodes: the item `i` is the atom `i`, and the node `n` is the
 //! atom that many behind the items.
-ghost use Rattle.std.specs.Prelude.{◌≡◌, ◌<◌, ◌≤◌, ◌+◌, ◌^◌, ◌++◌, ◌∷◌, [], true, map, length, IfOk, OnOk};
+ghost use Rattle.std.specs.Prelude.{◌≡◌, ◌<◌, ◌+◌, ◌^◌, ◌++◌, ◌∷◌, [], true, map, length, IfOk, OnOk};
 ghost use Rattle.std.specs.List.{All, list_all};
 ghost use Rattle.type_table.specs.Nodes.{AreNodes};
 ghost use Rattle.type_table.specs.Entries.{entry_below, variant_below};

@@ -2,6 +2,7 @@ use Rattle.std.proofs.Common.{◌≡◌, map, length, sym, ap, ◌∙◌, rules}
 use Rattle.std.specs.Rc.{rc_str_bytes}
 use Rattle.std.specs.Prelude.{nat_lt}
 use Rattle.std.specs.List.{list_all}
+use Rattle.std.proofs.lemmas.Bool.{and_from}
 use Rattle.match_model.specs.Types.{DeclaredItem, NamedType, no_types}
 use Rattle.decl_syntax.specs.Patterns.{attr_view}
 use Rattle.decl_syntax.specs.Items.{kind_view, variant_view, form_view}
@@ -10,14 +11,14 @@ use Rattle.type_names.specs.Written.{variant_of, is_marked_by, form_of}
 use Rattle.type_names.specs.Views.{means_in}
 use Rattle.type_table.specs.Nodes.{types_in, type_there}
 use Rattle.type_table.specs.Entries.{variant_below, variant_entry, variant_named}
-use Rattle.type_table.proofs.EntryLemmas.{id_test, both, all_weaker, map_same, variant_same, variant_still, kind_told, enum_equal, struct_equal}
+use Rattle.type_table.proofs.EntryLemmas.{id_test, all_weaker, map_same, variant_same, variant_still, kind_told, enum_equal, struct_equal}
 use Rattle.type_table.proofs.entries.item_entry.Goals as goal
 
 pub returns-in_ok-id-in-Enum-clause-below : goal.returns-in_ok-id-in-Enum-clause-below
 returns-in_ok-id-in-Enum-clause-below c =
     let old = c.variant_entries.new.nodes.keys in
     let new = c.leaf.new.nodes.keys in
-    both (nat_lt c.in_ok-id-in-Enum.id (length new)) (list_all (variant_below (length new)) c.in_ok-variants-in-Enum.variants.items)
+    and_from (nat_lt c.in_ok-id-in-Enum.id (length new)) (list_all (variant_below (length new)) c.in_ok-variants-in-Enum.variants.items)
     (id_test new c.in_ok-id-in-Enum.id _ c.in_ok-id-in-Enum.ensures.type_is)
     (all_weaker (variant_below (length old)) (variant_below (length new)) (variant_still old new c.in_ok-id-in-Enum.ensures.extends) c.in_ok-variants-in-Enum.variants.items c.in_ok-variants-in-Enum.ensures.below)
 
@@ -39,7 +40,7 @@ pub returns-in_ok-id-in-Struct-clause-below : goal.returns-in_ok-id-in-Struct-cl
 returns-in_ok-id-in-Struct-clause-below c =
     let old = c.variant_entry.new.nodes.keys in
     let new = c.leaf-in-Struct.new.nodes.keys in
-    both (nat_lt c.in_ok-id-in-Struct.id (length new)) (variant_below (length new) c.in_ok-variant-in-Struct.variant)
+    and_from (nat_lt c.in_ok-id-in-Struct.id (length new)) (variant_below (length new) c.in_ok-variant-in-Struct.variant)
     (id_test new c.in_ok-id-in-Struct.id _ c.in_ok-id-in-Struct.ensures.type_is)
     (variant_still old new c.in_ok-id-in-Struct.ensures.extends c.in_ok-variant-in-Struct.variant c.in_ok-variant-in-Struct.ensures.below)
 

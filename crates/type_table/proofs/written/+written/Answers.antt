@@ -3,7 +3,7 @@ use Rattle.std.specs.Rc.{rc_str_bytes}
 use Rattle.std.specs.Prelude.{option_map, slice_get, IfOk}
 use Rattle.match_model.specs.Types.{MType, MTypes, TupleType, types_list}
 use Rattle.match_model.specs.Types.{types_of as types_of_list}
-use Rattle.decl_syntax.specs.Types.{TypeTree, type_view, types_from}
+use Rattle.decl_syntax.specs.Types.{type_view, types_from}
 use Rattle.decl_syntax.specs.Types as written
 use Rattle.decl_syntax.specs.declared.ty.Ty.{Ty}
 use Rattle.decl_syntax.specs.declared.ty.Ty.TheFolds.{the_lemmas}

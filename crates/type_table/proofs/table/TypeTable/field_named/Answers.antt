@@ -1,4 +1,4 @@
-use Rattle.std.proofs.Common.{◌≡◌, ◌<◌, ◌≤◌, true, Option, Some, length, sym, ap, subst, ◌∙◌, arith, rules}
+use Rattle.std.proofs.Common.{◌≡◌, ◌<◌, true, Option, Some, length, sym, ap, subst, ◌∙◌, arith, rules}
 use Rattle.std.specs.Str.{bytes_eq}
 use Rattle.match_model.specs.Declarations.{MVariant, variants_of}
 use Rattle.type_table.specs.Lookups.{form_names, field_named, name_or_number}

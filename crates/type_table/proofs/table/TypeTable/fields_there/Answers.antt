@@ -1,12 +1,13 @@
 use Rattle.std.proofs.Common.{◌≡◌, ℕ, cond, length, sym, ap, ◌∙◌, refl}
 use Rattle.std.specs.Prelude.{nat_eq}
 use Rattle.std.proofs.lemmas.List.{length-map}
+use Rattle.std.proofs.lemmas.Bool.{eqb-true}
 use Rattle.match_model.specs.Types.{MType}
 use Rattle.type_names.specs.Views.{owner_view}
 use Rattle.type_table.specs.declared.nodes.Head.TheVariants as heads
 use Rattle.type_table.specs.Nodes.{owner_arguments}
 use Rattle.type_table.specs.Tables.{table_program, type_parts, fields_of_type}
-use Rattle.type_table.proofs.KindLemmas.{parts_are, shape_of, parts_fit, count_is}
+use Rattle.type_table.proofs.KindLemmas.{parts_are, shape_of, parts_fit}
 use Rattle.type_table.proofs.FieldLemmas.{base_fields, tuple_count}
 use Rattle.type_table.proofs.table.TypeTable.fields_there.Goals as goal
 
@@ -14,7 +15,7 @@ pub named_fields-requires-clause-named : goal.named_fields-requires-clause-named
 named_fields-requires-clause-named c =
     let table = c.args.self.now in (
       shape_of table c.args.ty c.node-node.result.now c.node-node.ensures (heads.Named c.in-Named.owner) c.in-Named.is,
-      count_is _ (owner_arguments (owner_view c.in-Named.owner)) (parts_fit table c.args.ty c.node-node.result.now c.node-node.ensures (heads.Named c.in-Named.owner) c.in-Named.is),
+      eqb-true _ (owner_arguments (owner_view c.in-Named.owner)) (parts_fit table c.args.ty c.node-node.result.now c.node-node.ensures (heads.Named c.in-Named.owner) c.in-Named.is),
     )
 
 pub returns-in-Base : goal.returns-in-Base

@@ -1,12 +1,13 @@
 use Rattle.std.proofs.Common.{◌≡◌, List, Some, None, sym, ap, ◌∙◌}
 use Rattle.std.specs.Prelude.{slice_get, option_map}
+use Rattle.std.proofs.lemmas.Option.{slice_get_past}
 use Rattle.match_model.specs.Declarations.{MItem}
 use Rattle.type_names.proofs.Variants.{looked_up}
 use Rattle.type_table.specs.declared.entries.Entry.{Entry}
 use Rattle.type_table.specs.Entries.{entry_told}
 use Rattle.type_table.specs.Tables.{table_types}
 use Rattle.type_table.specs.Readers.{item_name}
-use Rattle.type_table.proofs.KindLemmas.{program_at, get_past}
+use Rattle.type_table.proofs.KindLemmas.{program_at}
 use Rattle.type_table.proofs.table.TypeTable.item_name.Goals as goal
 
 pub returns-in-Some : goal.returns-in-Some
@@ -21,6 +22,6 @@ pub returns-in-None : goal.returns-in-None
 returns-in-None c =
     let table = c.args.self.now in
     let at : slice_get table.items.items c.args.i ≡ None =
-    ap (λ (xs : List Entry). slice_get xs c.args.i) (sym c.deref.ensures.value) ∙ get_past c.deref.result.now c.args.i c.in-None.ensures.lookup.3 in
+    ap (λ (xs : List Entry). slice_get xs c.args.i) (sym c.deref.ensures.value) ∙ slice_get_past c.deref.result.now c.args.i c.in-None.ensures.lookup.3 in
     let item = program_at table c.args.i ∙ ap (option_map {U = MItem} (λ e. (entry_told (table_types table) e).item)) at in
     ap item_name (sym item)

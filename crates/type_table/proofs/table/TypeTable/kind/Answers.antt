@@ -1,12 +1,13 @@
 use Rattle.std.proofs.Common.{◌≡◌, ◌<◌, ◌^◌, ℕ, length, refl, sym, ap, ◌∙◌, subst, arith, rules}
 use Rattle.std.proofs.lemmas.List.{length-map}
+use Rattle.std.proofs.lemmas.Bool.{eqb-true}
 use Rattle.match_model.specs.Types.{MType, PointType, SliceType, ArrayType, types_of}
 use Rattle.match_model.specs.Typing.{is_opaque}
 use Rattle.type_names.specs.Views.{owner_view}
 use Rattle.type_table.specs.declared.nodes.Head.TheVariants as heads
 use Rattle.type_table.specs.Nodes.{owner_arguments}
 use Rattle.type_table.specs.Tables.{KindIs, table_type, table_program, type_parts, count_of_type}
-use Rattle.type_table.proofs.KindLemmas.{parts_are, shape_of, parts_fit, count_is, count_back}
+use Rattle.type_table.proofs.KindLemmas.{parts_are, shape_of, parts_fit, count_back}
 use Rattle.type_table.proofs.FewParts.{count_few}
 use Rattle.type_table.proofs.PartLemmas.{inner_held}
 use Rattle.type_table.proofs.table.TypeTable.kind.Goals as goal
@@ -28,7 +29,7 @@ named_kind-requires-clause-named c =
       types_of (type_parts table c.args.ty),
       shape_of table c.args.ty c.node-node.result.now c.node-node.ensures (heads.Named c.in-Named.owner) c.in-Named.is,
       count_back (type_parts table c.args.ty)
-          ∙ count_is _ (owner_arguments (owner_view c.in-Named.owner)) (parts_fit table c.args.ty c.node-node.result.now c.node-node.ensures (heads.Named c.in-Named.owner) c.in-Named.is),
+          ∙ eqb-true _ (owner_arguments (owner_view c.in-Named.owner)) (parts_fit table c.args.ty c.node-node.result.now c.node-node.ensures (heads.Named c.in-Named.owner) c.in-Named.is),
     )
 
 pub named_kind-requires-clause-few : goal.named_kind-requires-clause-few

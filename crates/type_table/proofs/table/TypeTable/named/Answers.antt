@@ -1,9 +1,10 @@
 use Rattle.std.proofs.Common.{sym, ap, ◌∙◌}
+use Rattle.std.proofs.lemmas.Bool.{eqb-true}
 use Rattle.type_table.specs.declared.nodes.Head.TheVariants as heads
 use Rattle.type_table.specs.Nodes.{owner_arguments}
 use Rattle.type_names.specs.Views.{owner_view}
 use Rattle.type_table.specs.Readers.{type_owner}
-use Rattle.type_table.proofs.KindLemmas.{shape_of, parts_fit, count_is}
+use Rattle.type_table.proofs.KindLemmas.{shape_of, parts_fit}
 use Rattle.type_table.proofs.FieldLemmas.{base_owner}
 use Rattle.type_table.proofs.table.TypeTable.named.Goals as goal
 
@@ -39,5 +40,5 @@ pub returns-in-Named-clause-by : goal.returns-in-Named-clause-by
 returns-in-Named-clause-by c =
     let table = c.args.self.now in (
       shape_of table c.args.ty c.node.result.now c.node.ensures (heads.Named c.in-Named.owner) c.in-Named.is,
-      count_is _ (owner_arguments (owner_view c.in-Named.owner)) (parts_fit table c.args.ty c.node.result.now c.node.ensures (heads.Named c.in-Named.owner) c.in-Named.is),
+      eqb-true _ (owner_arguments (owner_view c.in-Named.owner)) (parts_fit table c.args.ty c.node.result.now c.node.ensures (heads.Named c.in-Named.owner) c.in-Named.is),
     )

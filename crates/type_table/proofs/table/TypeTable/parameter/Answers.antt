@@ -1,11 +1,11 @@
 use Rattle.std.proofs.Common.{◌≡◌, List, Some, None, length, sym, ap, ◌∙◌}
 use Rattle.std.specs.Prelude.{slice_get, option_map}
+use Rattle.std.proofs.lemmas.Option.{slice_get_past}
 use Rattle.type_names.proofs.Variants.{get_map, looked_up}
 use Rattle.type_table.specs.declared.entries.Entry.{Entry}
 use Rattle.type_table.specs.Entries.{Told, entry_told, entry_below}
 use Rattle.type_table.specs.Tables.{table_types}
 use Rattle.type_table.specs.Readers.{parameter_told}
-use Rattle.type_table.proofs.KindLemmas.{get_past}
 use Rattle.type_table.proofs.FieldLemmas.{all_at}
 use Rattle.type_table.proofs.table.TypeTable.parameter.Goals as goal
 
@@ -28,6 +28,6 @@ pub returns-in-None-clause-told : goal.returns-in-None-clause-told
 returns-in-None-clause-told c =
     let table = c.args.self.now in
     let at : slice_get table.items.items c.args.i ≡ None =
-    ap (λ (xs : List Entry). slice_get xs c.args.i) (sym c.deref.ensures.value) ∙ get_past c.deref.result.now c.args.i c.in-None.ensures.lookup.3 in
+    ap (λ (xs : List Entry). slice_get xs c.args.i) (sym c.deref.ensures.value) ∙ slice_get_past c.deref.result.now c.args.i c.in-None.ensures.lookup.3 in
     let told = get_map (entry_told (table_types table)) table.items.items c.args.i ∙ ap (option_map {U = Told} (entry_told (table_types table))) at in
     ap parameter_told (sym told)
