@@ -237,14 +237,14 @@ fn add_found<'r>(
     requires sound { IsSound source whole }
     requires of { IsOf source.table.now ty }
     ensures { (command : Command) → (number : ℕ) → (f : FunctionTree) → (fs : List NumberedFunction)
-        → ReportsOn command (setting_in source whole) fs so_far
-        → IsFoundOn command source whole number f ty (record {
+        → ReportsOn command (setting_in source.entry whole) fs so_far
+        → IsFoundOn command source.entry whole number f ty (record {
           exhaustive = found.now.exhaustive;
           witnesses = found.now.witnesses;
           unreachable = unreachable;
         }) overlaps.items found.now.tree
         → rc_str_bytes found.now.name ≡ f.name → length f.arms ≡ found.now.arms
-        → IfOk result (ReportsOn command (setting_in source whole) (fs ++ numbered number f ∷ [])) }
+        → IfOk result (ReportsOn command (setting_in source.entry whole) (fs ++ numbered number f ∷ [])) }
 {
     let witnesses = name_witnesses(alloc, source.table, ty, &found.witnesses)?;
     let tree = named_tree(alloc, source.table, ty, &found.tree)?;
