@@ -31,9 +31,9 @@ first_or_others p ps name =
 -- the pattern itself, or else those below it
 module _ {T : Type 0} (p : DePat T) (name : List ℕ) where
   abbrev Binds : List MBound
-  Binds = map plain_bound (out-DePat T p).binds.now
+  Binds = map plain_bound (out-DePat T p).form.now.binds.now
 
-  pub by_itself : has_name name Binds ≡ true → bound_type (tree p) name ≡ Some (out-DePat T p).ty
+  pub by_itself : has_name name Binds ≡ true → bound_type (tree p) name ≡ Some (out-DePat T p).form.now.ty
   by_itself e = rw (tree_out p, e) refl
 
   pub below_it : has_name name Binds ≡ false →
@@ -84,12 +84,12 @@ noted_first None o p = refl
 -- the pattern's own names, and then those below it
 pub own_or_below : {T : Type 0} (p : DePat T) (name : List ℕ) →
     bound_type (tree p) name
-    ≡ option_or (some_if (has_name name (map plain_bound (out-DePat T p).binds.now)) (out-DePat T p).ty)
+    ≡ option_or (some_if (has_name name (map plain_bound (out-DePat T p).form.now.binds.now)) (out-DePat T p).form.now.ty)
     (from_on (placed_subs p) name 0)
 own_or_below {T} p name = go (has_name name (Binds p name)) refl
   where
     go : (b : Bool) → has_name name (Binds p name) ≡ b →
-        bound_type (tree p) name ≡ option_or (some_if b (out-DePat T p).ty) (from_on (placed_subs p) name 0)
+        bound_type (tree p) name ≡ option_or (some_if b (out-DePat T p).form.now.ty) (from_on (placed_subs p) name 0)
     go true e = by_itself p name e
     go false e = below_it p name e
 
@@ -164,5 +164,5 @@ none_behind (Some x) = refl
 none_behind None = refl
 
 -- the type of a pattern stands in the pattern
-pub type_is : {T : Type 0} (p : DePat T) (t : T) → t ≡ type_of (tree p) → t ≡ (out-DePat T p).ty
+pub type_is : {T : Type 0} (p : DePat T) (t : T) → t ≡ type_of (tree p) → t ≡ (out-DePat T p).form.now.ty
 type_is p t e = e ∙ ap type_of (tree_out p)

@@ -23,10 +23,10 @@ pub use types::BoundTypes;
 pub fn type_of_bound<'a, T: Copy>(pat: &DePat<'a, T>, name: &str) -> Option<T>
     ensures { result ≡ bound_type (tree pat.now) name.now }
 {
-    if has_name(pat.binds, name) {
+    if has_name(pat.form.binds, name) {
         return Some(type_of(pat));
     }
-    for sub in pat.subs {
+    for sub in pat.form.subs {
         let found = type_of_bound(sub, name);
         if found.is_some() {
             return found;
@@ -39,7 +39,7 @@ pub fn type_of_bound<'a, T: Copy>(pat: &DePat<'a, T>, name: &str) -> Option<T>
 pub(crate) fn type_of<'a, T: Copy>(pat: &DePat<'a, T>) -> T
     ensures { result ≡ type_of (tree pat.now) }
 {
-    copied(&pat.ty)
+    copied(&pat.form.ty)
 }
 
 // The same type.

@@ -52,8 +52,8 @@ fn note_pattern<'a, T: Copy>(
     ensures { (q : List ℕ) → OnOk result
         (get_by_text types.new q ≡ option_or (get_by_text types.old q) (bound_type (tree pat.now) q)) }
 {
-    note_names(alloc, types, pat.binds, type_of(pat))?;
-    for sub in pat.subs {
+    note_names(alloc, types, pat.form.binds, type_of(pat))?;
+    for sub in pat.form.subs {
         note_pattern(alloc, types, sub)?;
     }
     Ok(())

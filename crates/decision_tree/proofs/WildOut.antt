@@ -201,5 +201,5 @@ module _ {T : Type 0} (columns : List (MColumn T)) (rows : List (MRow T)) (marks
 
 -- the names of a pattern that is a head
 pub pattern-binds : {T : Type 0} (place : List MStep) (p : DePat T) →
-    map (bind_at place) (map plain_bound (out-DePat T p).binds.now) ≡ head_binds place (Some (tree p))
+    map (bind_at place) (map plain_bound (out-DePat T p).form.now.binds.now) ≡ head_binds place (Some (tree p))
 pattern-binds place p = ap (λ q. head_binds place (Some q)) (sym (tree_out p))

@@ -73,7 +73,7 @@ pub(crate) fn add_own<'a, T: Copy>(
     ensures { OnOk result (map plain_bind all.new.items ≡ map plain_bind all.old.items
         ++ head_binds (plain_place steps.now) (Some (tree pat.now))) }
 {
-    add_bounds(alloc, all, steps, pat.binds)
+    add_bounds(alloc, all, steps, pat.form.binds)
 }
 
 // Adds the names, which are bound at the place.

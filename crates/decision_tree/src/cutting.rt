@@ -62,7 +62,7 @@ fn is_flat<'a, T: Copy>(head: Option<&'a DePat<'a, T>>) -> bool
 {
     match head {
         None => true,
-        Some(p) => are_wild_pats(p.subs),
+        Some(p) => are_wild_pats(p.form.subs),
     }
 }
 

@@ -74,7 +74,7 @@ fn has_idle_parts<'a, T: Copy>(head: Option<&'a DePat<'a, T>>) -> bool
 {
     match head {
         None => true,
-        Some(p) => are_blank(p.subs),
+        Some(p) => are_blank(p.form.subs),
     }
 }
 

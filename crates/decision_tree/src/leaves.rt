@@ -25,7 +25,7 @@ pub(crate) fn is_wild<'a, T: Copy>(head: &Option<&'a DePat<'a, T>>) -> bool
 pub(crate) fn is_wild_pat<'a, T: Copy>(pat: &DePat<'a, T>) -> bool
     ensures { result ≡ is_wild (Some (tree pat.now)) }
 {
-    match pat.ctor {
+    match pat.form.ctor {
         Ctor::Wild => true,
         _ => false,
     }

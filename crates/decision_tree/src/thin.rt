@@ -17,8 +17,8 @@ use std::alloc::Global;
 pub(crate) fn is_blank<'a, T: Copy>(pat: &DePat<'a, T>) -> bool
     ensures { result ≡ is_blank (tree pat.now) }
 {
-    match pat.ctor {
-        Ctor::Wild => pat.subs.is_empty() && pat.binds.is_empty(),
+    match pat.form.ctor {
+        Ctor::Wild => pat.form.subs.is_empty() && pat.form.binds.is_empty(),
         _ => false,
     }
 }

@@ -110,7 +110,7 @@ fn add_marked<'a, T: Copy>(
         HeadRun::Wilds(_count) => Ok(()),
         HeadRun::Written(p) => {
             if marks[at] {
-                add_names(all, p.binds, columns[at].place)
+                add_names(all, p.form.binds, columns[at].place)
             } else {
                 Ok(())
             }

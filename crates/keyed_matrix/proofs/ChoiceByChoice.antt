@@ -76,7 +76,7 @@ module _ {T : Type 0} (chosen : List ℕ) (before binds : List MBound) where
 -- the choices of an or-pattern, whatever they are
 pub choices-or : {T : Type 0} (chosen : List ℕ) (before : List MBound) (p : DePat T) → is_or_ctor (placed_ctor p) ≡ true →
     choices_after chosen before (tree p)
-    ≡ choices_of_each chosen (before ++ map plain_bound (out-DePat T p).binds.now)
+    ≡ choices_of_each chosen (before ++ map plain_bound (out-DePat T p).form.now.binds.now)
     (nat_lt 1 (length (placed_subs p))) (map tree (placed_subs p))
 choices-or {T} chosen before p h = rw (tree_out p, is_or (placed_ctor p) h) (go (placed_subs p))
   where
@@ -88,16 +88,16 @@ choices-or {T} chosen before p h = rw (tree_out p, is_or (placed_ctor p) h) (go 
     several x y ps = grind arith
 
     go : (ps : List (DePat T)) →
-        map (choice_after chosen before) (map (with_binds (map plain_bound (out-DePat T p).binds.now))
+        map (choice_after chosen before) (map (with_binds (map plain_bound (out-DePat T p).form.now.binds.now))
         (all_choices_of (choice_among (de_pats_of (map tree ps))) (de_pats_of (map tree ps))))
-        ≡ choices_of_each chosen (before ++ map plain_bound (out-DePat T p).binds.now) (nat_lt 1 (length ps)) (map tree ps)
+        ≡ choices_of_each chosen (before ++ map plain_bound (out-DePat T p).form.now.binds.now) (nat_lt 1 (length ps)) (map tree ps)
     go [] = refl
-    go (x ∷ []) = one chosen before (map plain_bound (out-DePat T p).binds.now) (tree x)
+    go (x ∷ []) = one chosen before (map plain_bound (out-DePat T p).form.now.binds.now) (tree x)
     go (x ∷ y ∷ ps) =
-        many chosen before (map plain_bound (out-DePat T p).binds.now) (de_pats_of (map tree (x ∷ y ∷ ps)))
-        ∙ ap (choices_of_each chosen (before ++ map plain_bound (out-DePat T p).binds.now) true)
+        many chosen before (map plain_bound (out-DePat T p).form.now.binds.now) (de_pats_of (map tree (x ∷ y ∷ ps)))
+        ∙ ap (choices_of_each chosen (before ++ map plain_bound (out-DePat T p).form.now.binds.now) true)
         (listed (map tree (x ∷ y ∷ ps)))
-        ∙ sym (ap (λ b. choices_of_each chosen (before ++ map plain_bound (out-DePat T p).binds.now) b
+        ∙ sym (ap (λ b. choices_of_each chosen (before ++ map plain_bound (out-DePat T p).form.now.binds.now) b
         (map tree (x ∷ y ∷ ps))) (several x y ps))
 
 -- nothing chosen before

@@ -70,7 +70,7 @@ pub specialised-has : {T : Type 0} (piece : MCtor) (count : ℕ) (p : DePat T) �
     specialise_head piece count (Some (tree p)) ≡ (record {
       heads = heads_of (placed_ctor p) (map (λ q. Some (tree q)) (placed_subs p)) count;
       chosen = [];
-      binds = map plain_bound (out-DePat T p).binds.now;
+      binds = map plain_bound (out-DePat T p).form.now.binds.now;
     }) ∷ []
 specialised-has {T} piece count p h =
     ap (λ q. specialise_head piece count (Some q)) (tree_out p)
@@ -81,7 +81,7 @@ specialised-has {T} piece count p h =
     y hs = record {
       heads = heads_of (placed_ctor p) hs count;
       chosen = [];
-      binds = map plain_bound (out-DePat T p).binds.now;
+      binds = map plain_bound (out-DePat T p).form.now.binds.now;
     }
 
 pub specialised-lacks : {T : Type 0} (piece : MCtor) (count : ℕ) (p : DePat T) →
@@ -94,20 +94,20 @@ specialised-lacks {T} piece count p h =
     y = record {
       heads = heads_of (placed_ctor p) (map Some (de_pats_list (de_pats_of (map tree (placed_subs p))))) count;
       chosen = [];
-      binds = map plain_bound (out-DePat T p).binds.now;
+      binds = map plain_bound (out-DePat T p).form.now.binds.now;
     }
 
 -- what dropping says of a pattern
 pub default-wild : {T : Type 0} (p : DePat T) → is_wild_ctor (placed_ctor p) ≡ true →
-    default_head (Some (tree p)) ≡ (record { heads = []; chosen = []; binds = map plain_bound (out-DePat T p).binds.now }) ∷ []
+    default_head (Some (tree p)) ≡ (record { heads = []; chosen = []; binds = map plain_bound (out-DePat T p).form.now.binds.now }) ∷ []
 default-wild {T} p h =
     ap (λ q. default_head (Some q)) (tree_out p)
-    ∙ ap (λ b. cond b ((record { heads = []; chosen = []; binds = map plain_bound (out-DePat T p).binds.now }) ∷ []) []) h
+    ∙ ap (λ b. cond b ((record { heads = []; chosen = []; binds = map plain_bound (out-DePat T p).form.now.binds.now }) ∷ []) []) h
 
 pub default-other : {T : Type 0} (p : DePat T) → is_wild_ctor (placed_ctor p) ≡ false → default_head (Some (tree p)) ≡ []
 default-other {T} p h =
     ap (λ q. default_head (Some q)) (tree_out p)
-    ∙ ap (λ b. cond b ((record { heads = []; chosen = []; binds = map plain_bound (out-DePat T p).binds.now }) ∷ []) []) h
+    ∙ ap (λ b. cond b ((record { heads = []; chosen = []; binds = map plain_bound (out-DePat T p).form.now.binds.now }) ∷ []) []) h
 
 -- a row of a list that has more heads
 pub longer-row : {T : Type 0} (i : ℕ) (rows : List (KeyedRow T)) (k : ℕ) (row : KeyedRow T) →

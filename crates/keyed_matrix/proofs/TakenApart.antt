@@ -59,7 +59,7 @@ module _ {T : Type 0} where
       ctors_chosen (choices_of (tree p)) ≡ ctors_of_each (map tree (placed_subs p))
   or-ctors p h =
       ap ctors_chosen (sym (after-nothing (tree p)) ∙ choices-or [] [] p h)
-      ∙ each-ctors [] (map plain_bound (out-DePat T p).binds.now) (nat_lt 1 (length (placed_subs p)))
+      ∙ each-ctors [] (map plain_bound (out-DePat T p).form.now.binds.now) (nat_lt 1 (length (placed_subs p)))
       (map tree (placed_subs p))
 
   -- another pattern has its own

@@ -77,10 +77,10 @@ fn add_choices<'a, T: Copy>(
     ensures { OnOk result (plain_choices all.new.items ≡ plain_choices all.old.items
         ++ choices_after chosen.items (map plain_bound binds.now) (tree p.entry.now)) }
 {
-    if is_or(&p.ctor) {
-        let several = p.subs.len() > 1;
-        let around = both_binds(alloc, binds, p.binds)?;
-        for q in p.subs {
+    if is_or(&p.form.ctor) {
+        let several = p.form.subs.len() > 1;
+        let around = both_binds(alloc, binds, p.form.binds)?;
+        for q in p.form.subs {
             let more = choosing(alloc, chosen.as_slice(), q.uid, several)?;
             add_choices(alloc, all, q, more, &around)?;
         }

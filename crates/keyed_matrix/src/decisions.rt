@@ -48,8 +48,8 @@ fn note(all: &mut Decisions, uid: u64, decided: Decided) -> Result<(), NoMemory>
 fn is_choice<'a, T: Copy>(p: &'a DePat<'a, T>) -> bool
     ensures { result ≡ is_choice (placed_ctor p.entry.now) (de_pats_of (map tree (placed_subs p.entry.now))) }
 {
-    match p.ctor {
-        Ctor::Or => p.subs.len() > 1,
+    match p.form.ctor {
+        Ctor::Or => p.form.subs.len() > 1,
         _ => false,
     }
 }
@@ -105,9 +105,9 @@ fn add_decisions<'a, T: Copy>(
 {
     let choice = is_choice(p);
     let mut next = number_behind(number, choice)?;
-    for (k, q) in p.subs.iter().enumerate() {
+    for (k, q) in p.form.subs.iter().enumerate() {
         note_alternative(all, choice, q.uid, number, k as u64)?;
-        if !q.subs.is_empty() {
+        if !q.form.subs.is_empty() {
             next = add_decisions(all, q, next)?;
         }
     }

@@ -51,7 +51,7 @@ fn is_wild_at<'a, T: Copy>(row: &KeyedRow<'a, T>, i: usize) -> bool
 {
     match head_at(row, i) {
         None => true,
-        Some(p) => is_wild(&p.ctor),
+        Some(p) => is_wild(&p.form.ctor),
     }
 }
 
@@ -79,8 +79,8 @@ pub(crate) fn add_unless_wild<'a, T: Copy>(
     ensures { OnOk result (map plain_ctor ctors.new.items ≡ map plain_ctor ctors.old.items
         ++ option_to_list (ctor_unless_wild (placed_ctor p.entry.now))) }
 {
-    if !is_wild(&p.ctor) {
-        ctors.push(p.ctor)?;
+    if !is_wild(&p.form.ctor) {
+        ctors.push(p.form.ctor)?;
     }
     Ok(())
 }

@@ -294,9 +294,9 @@ pub fn add_piece_row<'a, T: Copy>(
     match head_at(row, i) {
         None => add_rewilded(alloc, all, row, i, count),
         Some(p) => {
-            if has_piece(&p.ctor, piece) {
+            if has_piece(&p.form.ctor, piece) {
                 let heads = part_heads(alloc, p, count)?;
-                add_replaced(alloc, all, row, i, place, &heads, &[], p.binds)
+                add_replaced(alloc, all, row, i, place, &heads, &[], p.form.binds)
             } else {
                 Ok(())
             }
@@ -319,8 +319,8 @@ fn add_dropped<'a, T: Copy>(
     match head_at(row, i) {
         None => add_rewilded(alloc, all, row, i, 0),
         Some(p) => {
-            if is_wild(&p.ctor) {
-                add_replaced(alloc, all, row, i, place, &[], &[], p.binds)
+            if is_wild(&p.form.ctor) {
+                add_replaced(alloc, all, row, i, place, &[], &[], p.form.binds)
             } else {
                 Ok(())
             }
@@ -402,12 +402,18 @@ fn part_heads<'a, T: Copy>(
     ensures { IfOk result (λ v. plain_heads v.items
         ≡ heads_of (placed_ctor p.entry.now) (map (λ q. Some (tree q)) (placed_subs p.entry.now)) count) }
 {
-    match p.ctor {
+    match p.form.ctor {
         Ctor::Wild => wilds(alloc, count),
-        Ctor::Row(Shape::Longer { front, back }) => end_heads(alloc, p.subs, front, back, count),
+        Ctor::Row(Shape::Longer { front, back }) => end_heads(
+            alloc,
+            p.form.subs,
+            front,
+            back,
+            count,
+        ),
         _ => {
-            let mut heads = Vec::with_capacity(alloc, p.subs.len())?;
-            add_subs(&mut heads, p.subs)?;
+            let mut heads = Vec::with_capacity(alloc, p.form.subs.len())?;
+            add_subs(&mut heads, p.form.subs)?;
             Ok(heads)
         }
     }

@@ -36,7 +36,7 @@ pub(crate) fn is_or_at<'a, T: Copy>(row: &KeyedRow<'a, T>, i: usize) -> bool
 {
     match head_at(row, i) {
         None => false,
-        Some(p) => is_or(&p.ctor),
+        Some(p) => is_or(&p.form.ctor),
     }
 }
 
@@ -48,8 +48,8 @@ pub(crate) fn add_pat_ctors<'a, T: Copy>(
     ensures { OnOk result (map plain_ctor ctors.new.items ≡ map plain_ctor ctors.old.items
         ++ ctors_chosen (choices_of (tree p.entry.now))) }
 {
-    if is_or(&p.ctor) {
-        for q in p.subs {
+    if is_or(&p.form.ctor) {
+        for q in p.form.subs {
             add_pat_ctors(ctors, q)?;
         }
         Ok(())

@@ -13,7 +13,7 @@ all_made f h (q ∷ qs) = (h q, all_made f h qs)
 
 layer : {T A : Type 0} (f : A → DePat T) → ((a : A) → IsMadePat (tree (f a))) → (y : DePat-F T A) → IsMadePat (tree (roll-DePat T (map-DePat T A (DePat T) f y)))
 layer {T} {A} f h y =
-    subst IsMadePat (sym (fold-roll-DePat T (MDePat T) tree_step (map-DePat T A (DePat T) f y))) (made_ctor y.ctor, all_made f h y.subs.now)
+    subst IsMadePat (sym (fold-roll-DePat T (MDePat T) tree_step (map-DePat T A (DePat T) f y))) (made_ctor y.form.now.ctor, all_made f h y.form.now.subs.now)
 
 pub tree_made : {T : Type 0} (p : DePat T) → IsMadePat (tree p)
 tree_made {T} p = ind-DePat T (λ q. IsMadePat (tree q)) (λ x y e. subst (λ z. IsMadePat (tree (roll-DePat T z))) e (layer (λ s. s.0) (λ s. s.1) y)) p

@@ -7,7 +7,7 @@ use Rattle.pattern_arena.specs.Trees.{tree, tree_step, placed_ctor, placed_subs,
 
 -- the tree of a pattern, one level opened
 pub tree_out : {T : Type 0} (p : DePat T) →
-    tree p ≡ de_pat (plain_ctor (out-DePat T p).ctor) (out-DePat T p).ty (out-DePat T p).uid (out-DePat T p).at (de_pats_of (map tree (placed_subs p))) (map plain_bound (out-DePat T p).binds.now)
+    tree p ≡ de_pat (plain_ctor (out-DePat T p).form.now.ctor) (out-DePat T p).form.now.ty (out-DePat T p).uid (out-DePat T p).at (de_pats_of (map tree (placed_subs p))) (map plain_bound (out-DePat T p).form.now.binds.now)
 tree_out {T} p = fold_out-DePat T (MDePat T) tree_step p
 
 -- the constructor of a tree is the pattern's

@@ -21,7 +21,7 @@ plain_bound b = record { name = b.name.now; mode = b.mode; part = plain_part b.p
 
 -- the tree of a pattern from the trees of those below it
 abbrev pub tree_step : {T : Type 0} → DePat-F T (MDePat T) → MDePat T
-tree_step f = de_pat (plain_ctor f.ctor) f.ty f.uid f.at (de_pats_of f.subs.now) (map plain_bound f.binds.now)
+tree_step f = de_pat (plain_ctor f.form.now.ctor) f.form.now.ty f.uid f.at (de_pats_of f.form.now.subs.now) (map plain_bound f.form.now.binds.now)
 
 -- the plain tree of a pattern
 abbrev pub tree : {T : Type 0} → DePat T → MDePat T
@@ -29,11 +29,11 @@ tree {T} = fold-DePat T (MDePat T) tree_step
 
 -- the constructor of a pattern, as it stands in the arena
 abbrev pub placed_ctor : {T : Type 0} → DePat T → MCtor
-placed_ctor {T} p = plain_ctor (out-DePat T p).ctor
+placed_ctor {T} p = plain_ctor (out-DePat T p).form.now.ctor
 
 -- the patterns below, as they stand in the arena
 abbrev pub placed_subs : {T : Type 0} → DePat T → List (DePat T)
-placed_subs {T} p = (out-DePat T p).subs.now
+placed_subs {T} p = (out-DePat T p).form.now.subs.now
 
 -- the arm, as the definitions have it
 abbrev pub plain_arm : {T : Type 0} → CheckedArm T → MDeArm T

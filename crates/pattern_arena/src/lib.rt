@@ -22,5 +22,5 @@ mod pattern;
 mod placer;
 
 pub use matches::{CheckedArm, CheckedMatch};
-pub use pattern::{Bound, DePat, Part};
+pub use pattern::{Bound, DePat, Form, Part};
 pub use placer::Placer;

@@ -6,6 +6,7 @@ ghost use Rattle.pattern_arena.specs.Trees.{tree, placed_ctor, placed_subs};
 
 use match_model::Mode;
 use pat_context::Ctor;
+use std::alloc::AllocError;
 
 /// What a name holds of the value that its pattern matches.
 #[derive(Clone, Copy, Debug, PartialEq, Eq)]
@@ -24,20 +25,36 @@ pub struct Bound<'a> {
     pub part: Part,
 }
 
-/// A pattern of the engine.
+/// What a pattern is, but for its number and its offset, over patterns `P`. Patterns that are alike may share one form.
 #[derive(Clone, Copy)]
-pub struct DePat<'a, T: Copy> {
+pub struct Form<'a, T: Copy, P: Copy> {
     pub ctor: Ctor<'a>,
     /// The type of the values that it matches.
     pub ty: T,
+    /// One pattern for each part of the constructor; the alternatives of an or-pattern; of a row with a rest the items
+    /// at the front and then those at the back.
+    pub subs: &'a [P],
+    pub binds: &'a [Bound<'a>],
+}
+
+/// A pattern of the engine.
+#[derive(Copy)]
+pub struct DePat<'a, T: Copy> {
+    pub form: &'a Form<'a, T, DePat<'a, T>>,
     /// The number that the pattern is known by; no other pattern of a match has it.
     pub uid: u64,
     /// The byte offset in the file.
     pub at: u64,
-    /// One pattern for each part of the constructor; the alternatives of an or-pattern; of a row with a rest the items
-    /// at the front and then those at the back.
-    pub subs: &'a [DePat<'a, T>],
-    pub binds: &'a [Bound<'a>],
+}
+
+impl<'a, T: Copy> Clone for DePat<'a, T> {
+    ghost is_clone = { λ pattern copy. copy ≡ pattern };
+
+    ghost is_infallible = { λ _. Unit {0} };
+
+    fn clone(&self) -> Result<Self, AllocError> {
+        Ok(*self)
+    }
 }
 
 impl<'a, T: Copy> DePat<'a, T> {
@@ -47,7 +64,7 @@ impl<'a, T: Copy> DePat<'a, T> {
         ensures is { slice_get (placed_subs self.now) i ≡ Some result.now }
         ensures tree { slice_get (subs_of (tree self.now)) i ≡ Some (tree result.now) }
     {
-        &self.subs[i]
+        &self.form.subs[i]
     }
 
     /// The alternatives of an or-pattern, in order. They are lent, and take no memory.
@@ -56,7 +73,7 @@ impl<'a, T: Copy> DePat<'a, T> {
         ensures are { result.now ≡ placed_subs self.now }
         ensures trees { map tree result.now ≡ subs_of (tree self.now) }
     {
-        let alternatives = self.subs;
+        let alternatives = self.form.subs;
         alternatives
     }
 }

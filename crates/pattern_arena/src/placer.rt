@@ -1,7 +1,7 @@
 // Placing patterns in an arena.
 ghost use Rattle.std.specs.Prelude.{◌≡◌, [], IfOk};
 
-use crate::{Bound, CheckedArm, DePat};
+use crate::{Bound, CheckedArm, DePat, Form};
 use bumpalo::Bump;
 use bumpalo::collections::into_bump_slice;
 use no_memory::NoMemory;
@@ -25,6 +25,17 @@ impl<'a> Placer<'a> {
         ensures { IfOk result (λ placed. placed.now ≡ subs.now) }
     {
         let placed = self.arena.try_alloc_slice_copy(subs)?;
+        Ok(placed)
+    }
+
+    /// Places this form. The only error is want of memory.
+    pub fn place_form<T: Copy>(
+        &self,
+        form: Form<'a, T, DePat<'a, T>>,
+    ) -> Result<&'a Form<'a, T, DePat<'a, T>>, NoMemory>
+        ensures { IfOk result (λ placed. placed.now ≡ form.entry) }
+    {
+        let placed = self.arena.try_alloc(form)?;
         Ok(placed)
     }
 

@@ -1,8 +1,10 @@
 -- Patterns of an engine with one more name, and as alternatives.
-use Rattle.std.specs.Prelude.{ℕ, not, ◌&&◌, List, [], ◌∷◌, nat_eq, if◌then◌else◌}
+use Rattle.std.specs.Prelude.{◌≡◌, ℕ, not, ◌&&◌, List, [], ◌∷◌, nat_eq, if◌then◌else◌}
 use Rattle.match_model.specs.Types.{MType}
-use Rattle.match_model.specs.Constructors.{OrCtor}
+use Rattle.match_model.specs.Constructors.{MCtor, OrCtor}
 use Rattle.match_model.specs.ArenaPatterns.{MBound, MDePat, de_pat, no_de_pats, more_de_pats}
+use Rattle.pat_context.specs.Views.{plain_ctor}
+use Rattle.pattern_arena.specs.declared.pattern.Form.{Form}
 use Rattle.pattern_rules.specs.Builders.{Built, point}
 use Rattle.pattern_rules.specs.Elaborated.{is_wide_ctor}
 
@@ -22,3 +24,10 @@ standing_tree u here (de_pat c t uid at subs binds) =
 abbrev pub wrapped : List MType → Built → Built
 wrapped [] p = p
 wrapped (t ∷ ts) p = point t (wrapped ts p)
+
+-- a form of patterns with nothing below and no names
+pub record IsLeafForm {T P : Type 0} (c : MCtor) (t : T) (f : Form T P) : Type 0 where
+  pub ctor : plain_ctor f.ctor ≡ c
+  pub ty : f.ty ≡ t
+  pub subs : f.subs.now ≡ []
+  pub binds : f.binds.now ≡ []

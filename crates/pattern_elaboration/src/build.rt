@@ -14,10 +14,11 @@ ghost use Rattle.type_table.specs.Tables.{IsOf};
 ghost use Rattle.pattern_elaboration.specs.Numbered.{IsMade, AreMade};
 ghost use Rattle.pattern_elaboration.specs.Placed.{bound_on, standing_tree};
 
+use crate::placing::FormPlacer;
 use decl_syntax::Pat;
 use no_memory::NoMemory;
 use pat_context::Ctor;
-use pattern_arena::{Bound, DePat, Placer};
+use pattern_arena::{Bound, DePat, Form};
 use std::alloc::Global;
 use type_table::TyId;
 
@@ -33,30 +34,31 @@ pub fn fresh(next: &mut u64) -> Result<u64, NoMemory>
     Ok(uid)
 }
 
-/// The pattern of these parts.
+/// The pattern of these parts. The only error is want of memory.
 pub fn make<'a>(
+    placer: &FormPlacer<'a>,
     ctor: Ctor<'a>,
     ty: TyId,
     uid: u64,
     at: u64,
     subs: &'a [DePat<'a, TyId>],
     binds: &'a [Bound<'a>],
-) -> DePat<'a, TyId>
-    ensures { tree result
-        ≡ de_pat (plain_ctor ctor.entry) ty uid at (de_pats_of (map tree subs.now)) (map plain_bound binds.now) }
+) -> Result<DePat<'a, TyId>, NoMemory>
+    ensures { IfOk result (λ p. tree p
+        ≡ de_pat (plain_ctor ctor.entry) ty uid at (de_pats_of (map tree subs.now)) (map plain_bound binds.now)) }
 {
-    DePat {
+    let form = placer.arena.place_form(Form {
         ctor,
         ty,
-        uid,
-        at,
         subs,
         binds,
-    }
+    })?;
+    Ok(DePat { form, uid, at })
 }
 
-/// A pattern with nothing below.
+/// A pattern with nothing below. The only error is want of memory.
 pub fn leaf<'a>(
+    placer: &FormPlacer<'a>,
     next: &mut u64,
     ctor: Ctor<'a>,
     ty: TyId,
@@ -68,13 +70,13 @@ pub fn leaf<'a>(
         → IfOk result (λ p. IsMade (IsOf any) next.old next.new (tree p)) }
 {
     let uid = fresh(next)?;
-    let made = make(ctor, ty, uid, at, &[], &[]);
-    Ok(made)
+    let form = placer.place_leaf(ctor, ty)?;
+    Ok(DePat { form, uid, at })
 }
 
 /// A pattern over others, one for each part.
 pub fn over<'a>(
-    placer: &Placer<'a>,
+    placer: &FormPlacer<'a>,
     next: &mut u64,
     ctor: Ctor<'a>,
     ty: TyId,
@@ -88,12 +90,13 @@ pub fn over<'a>(
         → AreMade (IsOf any) from next.old (map tree subs.now)
         → IfOk result (λ p. IsMade (IsOf any) from next.new (tree p)) }
 {
-    let subs = placer.place_subs(subs)?;
-    over_placed(next, ctor, ty, at, subs)
+    let subs = placer.arena.place_subs(subs)?;
+    over_placed(placer, next, ctor, ty, at, subs)
 }
 
 /// The same, where the others stand in the arena already.
 pub fn over_placed<'a>(
+    placer: &FormPlacer<'a>,
     next: &mut u64,
     ctor: Ctor<'a>,
     ty: TyId,
@@ -108,14 +111,13 @@ pub fn over_placed<'a>(
         → IfOk result (λ p. IsMade (IsOf any) from next.new (tree p)) }
 {
     let uid = fresh(next)?;
-    let made = make(ctor, ty, uid, at, subs, &[]);
-    Ok(made)
+    make(placer, ctor, ty, uid, at, subs, &[])
 }
 
 /// The pattern with one more name, before those that it has.
 pub fn with_name<'a>(
     alloc: Global,
-    placer: &Placer<'a>,
+    placer: &FormPlacer<'a>,
     bound: Bound<'a>,
     pattern: DePat<'a, TyId>,
 ) -> Result<DePat<'a, TyId>, NoMemory>
@@ -125,17 +127,17 @@ pub fn with_name<'a>(
 {
     let mut all = Vec::new(alloc);
     all.push(bound)?;
-    all.extend_from_slice(pattern.binds)?;
-    let binds = placer.place_binds(&all)?;
-    let made = make(
-        pattern.ctor,
-        pattern.ty,
+    all.extend_from_slice(pattern.form.binds)?;
+    let binds = placer.arena.place_binds(&all)?;
+    make(
+        placer,
+        pattern.form.ctor,
+        pattern.form.ty,
         pattern.uid,
         pattern.at,
-        pattern.subs,
+        pattern.form.subs,
         binds,
-    );
-    Ok(made)
+    )
 }
 
 /// Whether the constructor is a range of more than one number.
@@ -151,7 +153,7 @@ pub fn is_wide(ctor: &Ctor<'_>) -> bool
 // The pattern that a written one becomes, as an alternative or as an arm's: it stands where the written one begins,
 // parentheses around it included.
 pub(crate) fn standing_as<'a>(
-    placer: &Placer<'a>,
+    placer: &FormPlacer<'a>,
     next: &mut u64,
     written: &Pat,
     pattern: DePat<'a, TyId>,
@@ -166,7 +168,7 @@ pub(crate) fn standing_as<'a>(
 
 // The pattern at the offset; a range that stands elsewhere keeps its own below.
 fn standing<'a>(
-    placer: &Placer<'a>,
+    placer: &FormPlacer<'a>,
     next: &mut u64,
     at: u64,
     pattern: DePat<'a, TyId>,
@@ -176,16 +178,9 @@ fn standing<'a>(
     ensures made { (any : AnyTable) (from : ℕ) → IsMade (IsOf any) from next.old (tree pattern.entry)
         → IfOk result (λ p. IsMade (IsOf any) from next.new (tree p)) }
 {
-    if is_wide(&pattern.ctor) && at != pattern.at {
-        return over(placer, next, Ctor::Or, pattern.ty, at, &[pattern]);
+    if is_wide(&pattern.form.ctor) && at != pattern.at {
+        return over(placer, next, Ctor::Or, pattern.form.ty, at, &[pattern]);
     }
-    let made = make(
-        pattern.ctor,
-        pattern.ty,
-        pattern.uid,
-        at,
-        pattern.subs,
-        pattern.binds,
-    );
-    Ok(made)
+    let DePat { form, uid, .. } = pattern;
+    Ok(DePat { form, uid, at })
 }

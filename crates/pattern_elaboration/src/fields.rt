@@ -13,9 +13,10 @@ ghost use Rattle.pattern_elaboration.specs.Written.{built_there};
 ghost use Rattle.pattern_elaboration.specs.Given.{trees, given, field_trees, given_fields, filled, kind_ctor};
 
 use crate::build::{leaf, over};
+use crate::placing::FormPlacer;
 use no_memory::NoMemory;
 use pat_context::Ctor;
-use pattern_arena::{DePat, Placer};
+use pattern_arena::DePat;
 use std::alloc::Global;
 use type_table::{TyId, TyKind, TypeTable};
 
@@ -25,7 +26,7 @@ use type_table::{TyId, TyKind, TypeTable};
 pub fn form_over<'a>(
     alloc: Global,
     table: &TypeTable,
-    placer: &Placer<'a>,
+    placer: &FormPlacer<'a>,
     next: &mut u64,
     ty: TyId,
     variant: u32,
@@ -38,7 +39,7 @@ pub fn form_over<'a>(
     ensures made { (from : ℕ) → AreMade (IsOf table.now) from next.old (field_trees fields.now)
         → IfOk result (MadeHere table.now from next.new) }
 {
-    let mut parts = wildcards(alloc, table, next, ty, variant)?;
+    let mut parts = wildcards(alloc, table, placer, next, ty, variant)?;
     fill(&mut parts, fields);
     let ctor = form_ctor(table, ty, variant);
     over(placer, next, ctor, ty, 0, &parts)
@@ -48,6 +49,7 @@ pub fn form_over<'a>(
 fn wildcards<'a>(
     alloc: Global,
     table: &TypeTable,
+    placer: &FormPlacer<'a>,
     next: &mut u64,
     ty: TyId,
     variant: u32,
@@ -59,7 +61,7 @@ fn wildcards<'a>(
 {
     let mut parts = Vec::new(alloc);
     for i in 0..table.fields(ty, variant) {
-        let part = leaf(next, Ctor::Wild, table.field(ty, variant, i), 0)?;
+        let part = leaf(placer, next, Ctor::Wild, table.field(ty, variant, i), 0)?;
         parts.push(part)?;
     }
     Ok(parts)

@@ -17,12 +17,13 @@ ghost use Rattle.pattern_elaboration.specs.Walking.{plain, MadeHere};
 ghost use Rattle.pattern_elaboration.specs.Written.{built_there};
 
 use crate::fields::form_over;
+use crate::placing::FormPlacer;
 use crate::references::{Peeled, wrap};
 use crate::rows::{Rest, row_over, tuple_over};
 use decl_syntax::{Pat, PatKind};
 use match_model::Mode;
 use no_memory::NoMemory;
-use pattern_arena::{DePat, Placer};
+use pattern_arena::DePat;
 use pattern_rules::lists::is_rest;
 use pattern_rules::modes::written_mode;
 use std::alloc::Global;
@@ -33,7 +34,7 @@ use type_table::{TyId, TypeTable};
 pub fn form_behind<'a>(
     alloc: Global,
     table: &TypeTable,
-    placer: &Placer<'a>,
+    placer: &FormPlacer<'a>,
     next: &mut u64,
     peeled: Peeled,
     variant: u32,
@@ -63,7 +64,7 @@ pub struct Listed<'a> {
 pub fn tuple_behind<'a>(
     alloc: Global,
     table: &TypeTable,
-    placer: &Placer<'a>,
+    placer: &FormPlacer<'a>,
     next: &mut u64,
     peeled: Peeled,
     items: &[Pat],
@@ -101,7 +102,7 @@ pub fn tuple_behind<'a>(
 pub fn row_behind<'a>(
     alloc: Global,
     table: &TypeTable,
-    placer: &Placer<'a>,
+    placer: &FormPlacer<'a>,
     next: &mut u64,
     peeled: Peeled,
     items: &[Pat],
@@ -125,7 +126,7 @@ pub fn row_behind<'a>(
 }
 
 // The first rest of a list, where this binding mode holds.
-fn list_rest<'a>(placer: &Placer<'a>, items: &[Pat], mode: Mode) -> Result<Rest<'a>, NoMemory>
+fn list_rest<'a>(placer: &FormPlacer<'a>, items: &[Pat], mode: Mode) -> Result<Rest<'a>, NoMemory>
     ensures { IfOk result (λ r. RestIs r (rest_of (patterns_from (map pattern_view items.now))) mode) }
 {
     for item in items {
@@ -137,7 +138,7 @@ fn list_rest<'a>(placer: &Placer<'a>, items: &[Pat], mode: Mode) -> Result<Rest<
 }
 
 // The rest that an item is.
-fn item_rest<'a>(placer: &Placer<'a>, item: &Pat, mode: Mode) -> Result<Rest<'a>, NoMemory>
+fn item_rest<'a>(placer: &FormPlacer<'a>, item: &Pat, mode: Mode) -> Result<Rest<'a>, NoMemory>
     requires { is_rest (pattern_view item.now) ≡ true }
     ensures { IfOk result (λ r. RestIs r (rest_in (shape_of (pattern_view item.now))) mode) }
 {
@@ -149,7 +150,7 @@ fn item_rest<'a>(placer: &Placer<'a>, item: &Pat, mode: Mode) -> Result<Rest<'a>
             mutable,
             ..
         } => {
-            let name = placer.place_text(name)?;
+            let name = placer.arena.place_text(name)?;
             let mode = written_mode(*by_ref, *mutable, mode);
             Ok(Rest::Named { name, mode })
         }

@@ -20,13 +20,14 @@ ghost use Rattle.pattern_elaboration.specs.Walking.{plain, ShapeShown, MadeHere}
 use crate::build::{leaf, with_name};
 use crate::forms::form_behind;
 use crate::names::{found_number, is_path_name, name_found, path_found};
+use crate::placing::FormPlacer;
 use crate::references::peel;
 use crate::types::Place;
 use decl_syntax::Path;
 use match_model::Mode;
 use no_memory::NoMemory;
 use pat_context::Ctor;
-use pattern_arena::{Bound, DePat, Part, Placer};
+use pattern_arena::{Bound, DePat, Part};
 use pattern_rules::modes::written_mode;
 use std::alloc::Global;
 use type_table::{TyId, TypeTable};
@@ -34,6 +35,7 @@ use type_table::{TyId, TypeTable};
 /// A wildcard. The only error is want of memory.
 pub fn wildcard<'a>(
     table: &TypeTable,
+    placer: &FormPlacer<'a>,
     next: &mut u64,
     ty: TyId,
 ) -> Result<DePat<'a, TyId>, NoMemory>
@@ -41,14 +43,14 @@ pub fn wildcard<'a>(
     ensures shown { IfOk result (λ p. plain table.now p ≡ built_leaf WildCtor (table_type table.now ty)) }
     ensures made { IfOk result (MadeHere table.now next.old next.new) }
 {
-    let made = leaf(next, Ctor::Wild, ty, 0)?;
+    let made = leaf(placer, next, Ctor::Wild, ty, 0)?;
     Ok(made)
 }
 
 /// The pattern with a name for all of its value, before the names that it has. The only error is want of memory.
 pub fn named<'a>(
     alloc: Global,
-    placer: &Placer<'a>,
+    placer: &FormPlacer<'a>,
     name: &str,
     mode: Mode,
     pattern: DePat<'a, TyId>,
@@ -59,7 +61,7 @@ pub fn named<'a>(
     ensures made { (any : AnyTable) (from to : ℕ) → IsMade (IsOf any) from to (tree pattern.entry)
         → IfOk result (λ p. IsMade (IsOf any) from to (tree p)) }
 {
-    let name = placer.place_text(name)?;
+    let name = placer.arena.place_text(name)?;
     let bound = Bound {
         name,
         mode,
@@ -74,7 +76,7 @@ pub fn named<'a>(
 pub fn binding<'a>(
     alloc: Global,
     table: &TypeTable,
-    placer: &Placer<'a>,
+    placer: &FormPlacer<'a>,
     next: &mut u64,
     name: &str,
     by_ref: bool,
@@ -87,7 +89,7 @@ pub fn binding<'a>(
     ensures made { IfOk result (MadeHere table.now next.old next.new) }
 {
     let mode = written_mode(by_ref, mutable, here.mode);
-    let pattern = wildcard(table, next, here.ty)?;
+    let pattern = wildcard(table, placer, next, here.ty)?;
     let made = named(alloc, placer, name, mode, pattern)?;
     Ok(made)
 }
@@ -96,7 +98,7 @@ pub fn binding<'a>(
 pub fn unit_form<'a>(
     alloc: Global,
     table: &TypeTable,
-    placer: &Placer<'a>,
+    placer: &FormPlacer<'a>,
     next: &mut u64,
     variant: u32,
     here: Place,
@@ -115,7 +117,7 @@ pub fn unit_form<'a>(
 pub fn bare_name<'a>(
     alloc: Global,
     table: &TypeTable,
-    placer: &Placer<'a>,
+    placer: &FormPlacer<'a>,
     next: &mut u64,
     name: &str,
     here: Place,
@@ -137,7 +139,7 @@ pub fn bare_name<'a>(
 pub fn path_form<'a>(
     alloc: Global,
     table: &TypeTable,
-    placer: &Placer<'a>,
+    placer: &FormPlacer<'a>,
     next: &mut u64,
     path: &Path,
     here: Place,

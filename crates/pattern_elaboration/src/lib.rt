@@ -8,6 +8,7 @@ pub mod leaves;
 pub mod literals;
 pub mod names;
 pub mod parts;
+pub mod placing;
 pub mod references;
 pub mod rows;
 pub mod top;

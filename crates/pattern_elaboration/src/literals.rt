@@ -24,6 +24,7 @@ ghost use Rattle.pattern_elaboration.specs.Placed.{wrapped};
 ghost use Rattle.pattern_elaboration.specs.Walking.{plain, ShapeShown, MadeHere};
 
 use crate::build::{is_wide, leaf, over};
+use crate::placing::FormPlacer;
 use crate::references::{Peeled, peel, wrap};
 use crate::types::{Place, inner, number_kind};
 use decl_syntax::{Lit, RangePat};
@@ -31,7 +32,7 @@ use match_model::Width;
 use no_memory::NoMemory;
 use number_kinds::{NumberKind, has_no_number, is_literal_of, written_range};
 use pat_context::Ctor;
-use pattern_arena::{DePat, Placer};
+use pattern_arena::DePat;
 use pattern_rules::literals::{end_number, number_of};
 use range_split::{End, Num, Range};
 use std::alloc::Global;
@@ -42,7 +43,7 @@ use type_table::{TyId, TypeTable};
 pub fn literal<'a>(
     alloc: Global,
     table: &TypeTable,
-    placer: &Placer<'a>,
+    placer: &FormPlacer<'a>,
     next: &mut u64,
     lit: &Lit,
     here: Place,
@@ -72,7 +73,7 @@ pub fn literal<'a>(
 // A text behind one reference.
 fn text_at<'a>(
     table: &TypeTable,
-    placer: &Placer<'a>,
+    placer: &FormPlacer<'a>,
     next: &mut u64,
     text: &str,
     ty: TyId,
@@ -82,8 +83,8 @@ fn text_at<'a>(
         (built_leaf (TextCtor (chars text.now)) (inner_type (table_type table.now ty)))) }
     ensures made { IfOk result (MadeHere table.now next.old next.new) }
 {
-    let text = placer.place_text(text)?;
-    let below = leaf(next, Ctor::Text(text), inner(table, ty), 0)?;
+    let text = placer.arena.place_text(text)?;
+    let below = leaf(placer, next, Ctor::Text(text), inner(table, ty), 0)?;
     over(placer, next, Ctor::Point, ty, 0, &[below])
 }
 
@@ -91,7 +92,7 @@ fn text_at<'a>(
 fn number_at<'a>(
     alloc: Global,
     table: &TypeTable,
-    placer: &Placer<'a>,
+    placer: &FormPlacer<'a>,
     next: &mut u64,
     number: Option<Num>,
     here: Place,
@@ -113,7 +114,7 @@ fn number_at<'a>(
                 0,
             )
         }
-        None => leaf(next, Ctor::Wild, here.ty, 0),
+        None => leaf(placer, next, Ctor::Wild, here.ty, 0),
     }
 }
 
@@ -128,7 +129,7 @@ fn single(number: Num) -> Range
 // A pattern with nothing below, behind the references that were peeled.
 fn leaf_behind<'a>(
     table: &TypeTable,
-    placer: &Placer<'a>,
+    placer: &FormPlacer<'a>,
     next: &mut u64,
     peeled: Peeled,
     ctor: Ctor<'a>,
@@ -140,7 +141,7 @@ fn leaf_behind<'a>(
         (de_pat (plain_ctor ctor.entry) (table_type table.now peeled.place.ty) 0 at no_de_pats [])) }
     ensures made { IfOk result (MadeHere table.now next.old next.new) }
 {
-    let below = leaf(next, ctor, peeled.place.ty, at)?;
+    let below = leaf(placer, next, ctor, peeled.place.ty, at)?;
     wrap(placer, next, peeled.levels, below)
 }
 
@@ -149,7 +150,7 @@ fn leaf_behind<'a>(
 pub fn range_pattern<'a>(
     alloc: Global,
     table: &TypeTable,
-    placer: &Placer<'a>,
+    placer: &FormPlacer<'a>,
     next: &mut u64,
     from: u64,
     range: &RangePat,

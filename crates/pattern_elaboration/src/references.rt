@@ -14,10 +14,11 @@ ghost use Rattle.pattern_elaboration.specs.Numbered.{IsMade};
 ghost use Rattle.pattern_elaboration.specs.Placed.{wrapped};
 
 use crate::build::over;
+use crate::placing::FormPlacer;
 use crate::types::{Place, point_of};
 use no_memory::NoMemory;
 use pat_context::Ctor;
-use pattern_arena::{DePat, Placer};
+use pattern_arena::DePat;
 use pattern_rules::modes::mode_behind;
 use std::alloc::Global;
 use type_table::{TyId, TypeTable};
@@ -54,7 +55,7 @@ pub fn peel(alloc: Global, table: &TypeTable, here: Place) -> Result<Peeled, NoM
 
 /// The pattern behind references of these types, from the outside in. The only error is want of memory.
 pub fn wrap<'a>(
-    placer: &Placer<'a>,
+    placer: &FormPlacer<'a>,
     next: &mut u64,
     levels: Vec<TyId>,
     pattern: DePat<'a, TyId>,

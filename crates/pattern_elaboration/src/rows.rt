@@ -18,10 +18,11 @@ ghost use Rattle.pattern_elaboration.specs.Given.{trees, given};
 ghost use Rattle.pattern_elaboration.specs.Rests.{RestIs, fixed, where_rest};
 
 use crate::build::{fresh, leaf, make, over};
+use crate::placing::FormPlacer;
 use match_model::Mode;
 use no_memory::NoMemory;
 use pat_context::Ctor;
-use pattern_arena::{Bound, DePat, Part, Placer};
+use pattern_arena::{Bound, DePat, Part};
 use slice_split::Shape;
 use std::alloc::Global;
 use type_table::{TyId, TypeTable};
@@ -40,7 +41,7 @@ pub enum Rest<'a> {
 /// A row of a slice or array, from the items before its rest and those behind. The only error is want of memory.
 pub fn row_over<'a>(
     alloc: Global,
-    placer: &Placer<'a>,
+    placer: &FormPlacer<'a>,
     next: &mut u64,
     ty: TyId,
     front: &[DePat<'a, TyId>],
@@ -62,11 +63,10 @@ pub fn row_over<'a>(
         front.len() as u64,
         back.len() as u64,
     );
-    let subs = placer.place_subs(&subs)?;
+    let subs = placer.arena.place_subs(&subs)?;
     let binds = rest_binds(placer, rest, front.len() as u64, back.len() as u64)?;
     let uid = fresh(next)?;
-    let row = make(Ctor::Row(shape), ty, uid, 0, subs, binds);
-    Ok(row)
+    make(placer, Ctor::Row(shape), ty, uid, 0, subs, binds)
 }
 
 // The items of both lists.
@@ -95,7 +95,7 @@ fn row_shape(rest: Rest, all: u64, front: u64, back: u64) -> Shape
 
 // The name of the rest, if it has one.
 fn rest_binds<'a>(
-    placer: &Placer<'a>,
+    placer: &FormPlacer<'a>,
     rest: Rest<'a>,
     front: u64,
     back: u64,
@@ -107,7 +107,7 @@ fn rest_binds<'a>(
         Rest::Absent | Rest::Unnamed => Ok(&[]),
         Rest::Named { name, mode } => {
             let part = Part::Middle { front, back };
-            placer.place_binds(&[Bound { name, mode, part }])
+            placer.arena.place_binds(&[Bound { name, mode, part }])
         }
     }
 }
@@ -117,7 +117,7 @@ fn rest_binds<'a>(
 pub fn tuple_over<'a>(
     alloc: Global,
     table: &TypeTable,
-    placer: &Placer<'a>,
+    placer: &FormPlacer<'a>,
     next: &mut u64,
     ty: TyId,
     front: &[DePat<'a, TyId>],
@@ -133,7 +133,16 @@ pub fn tuple_over<'a>(
     ensures made { (from : ℕ) → AreMade (IsOf table.now) from next.old (trees front.now ++ trees back.now) →
         IfOk result (MadeHere table.now from next.new) }
 {
-    let between = between(alloc, table, next, ty, front.len(), rest, back.len())?;
+    let between = between(
+        alloc,
+        table,
+        placer,
+        next,
+        ty,
+        front.len(),
+        rest,
+        back.len(),
+    )?;
     let mut parts = Vec::from_slice(alloc, front)?;
     parts.extend_from_slice(&between)?;
     parts.extend_from_slice(back)?;
@@ -144,6 +153,7 @@ pub fn tuple_over<'a>(
 fn between<'a>(
     alloc: Global,
     table: &TypeTable,
+    placer: &FormPlacer<'a>,
     next: &mut u64,
     ty: TyId,
     front: usize,
@@ -160,7 +170,9 @@ fn between<'a>(
 {
     match rest {
         Rest::Absent => Ok(Vec::new(alloc)),
-        Rest::Unnamed | Rest::Named { .. } => wildcards(alloc, table, next, ty, front, back),
+        Rest::Unnamed | Rest::Named { .. } => wildcards(
+            alloc, table, placer, next, ty, front, back,
+        ),
     }
 }
 
@@ -168,6 +180,7 @@ fn between<'a>(
 fn wildcards<'a>(
     alloc: Global,
     table: &TypeTable,
+    placer: &FormPlacer<'a>,
     next: &mut u64,
     ty: TyId,
     front: usize,
@@ -182,7 +195,7 @@ fn wildcards<'a>(
     let mut all = Vec::new(alloc);
     let end = (table.fields(ty, 0) as usize).saturating_sub(back);
     for i in front..end {
-        let part = leaf(next, Ctor::Wild, table.field(ty, 0, i as u32), 0)?;
+        let part = leaf(placer, next, Ctor::Wild, table.field(ty, 0, i as u32), 0)?;
         all.push(part)?;
     }
     Ok(all)

@@ -17,6 +17,7 @@ ghost use Rattle.pattern_elaboration.specs.Numbered.{AreMade};
 ghost use Rattle.pattern_elaboration.specs.Arms.{IsArmShown, IsArmMade, arm_trees, IsMatchMade, validity_by};
 
 use crate::build::standing_as;
+use crate::placing::FormPlacer;
 use crate::types::Place;
 use crate::walk::elaborate_pattern;
 use decl_syntax::{Arm, FnItem};
@@ -48,7 +49,8 @@ pub fn elaborate<'a>(
     let Some((ty, _)) = table.scrutinee(item) else {
         return Ok(None);
     };
-    let arms = checked_arms(alloc, table, placer, &function.arms, ty)?;
+    let placer = FormPlacer::new(*placer);
+    let arms = checked_arms(alloc, table, &placer, &function.arms, ty)?;
     let validity = validity_by(function.deref.is_some());
     Ok(Some(CheckedMatch { ty, validity, arms }))
 }
@@ -68,7 +70,7 @@ fn validity_by(is_behind: bool) -> Validity
 fn checked_arms<'a>(
     alloc: Global,
     table: &TypeTable,
-    placer: &Placer<'a>,
+    placer: &FormPlacer<'a>,
     arms: &[Arm],
     ty: TyId,
 ) -> Result<&'a [CheckedArm<'a, TyId>], NoMemory>
@@ -78,20 +80,20 @@ fn checked_arms<'a>(
         (map arm_view arms.now) (map plain_arm v.now)) }
     ensures made { IfOk result (λ v. (to : ℕ) × AreMade (IsOf table.now) 0 to (arm_trees v.now)) }
 {
-    let mut checked = placer.list_with_room(arms.len())?;
+    let mut checked = placer.arena.list_with_room(arms.len())?;
     let mut next = 0;
     for arm in arms {
         let made = checked_arm(alloc, table, placer, &mut next, arm, ty)?;
         checked.push(made)?;
     }
-    Ok(placer.place_list(checked))
+    Ok(placer.arena.place_list(checked))
 }
 
 // An arm, whose pattern stands at this type.
 fn checked_arm<'a>(
     alloc: Global,
     table: &TypeTable,
-    placer: &Placer<'a>,
+    placer: &FormPlacer<'a>,
     next: &mut u64,
     arm: &Arm,
     ty: TyId,

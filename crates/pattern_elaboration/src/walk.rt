@@ -16,13 +16,14 @@ use crate::leaves::{bare_name, binding, named, path_form, wildcard};
 use crate::literals::{literal, range_pattern};
 use crate::names::{found_number, path_found};
 use crate::parts::{field_number, item_count, item_type, part, part_behind};
+use crate::placing::FormPlacer;
 use crate::references::peel;
 use crate::types::{Place, inner};
 use decl_syntax::{FieldPat, Pat, PatKind, Path};
 use match_model::Mode;
 use no_memory::NoMemory;
 use pat_context::Ctor;
-use pattern_arena::{DePat, Placer};
+use pattern_arena::DePat;
 use pattern_rules::lists::is_rest;
 use pattern_rules::modes::written_mode;
 use std::alloc::Global;
@@ -33,7 +34,7 @@ use type_table::{TyId, TypeTable};
 pub fn elaborate_pattern<'a>(
     alloc: Global,
     table: &TypeTable,
-    placer: &Placer<'a>,
+    placer: &FormPlacer<'a>,
     next: &mut u64,
     pat: &Pat,
     here: Place,
@@ -52,7 +53,7 @@ pub fn elaborate_pattern<'a>(
 fn elaborate_kind<'a>(
     alloc: Global,
     table: &TypeTable,
-    placer: &Placer<'a>,
+    placer: &FormPlacer<'a>,
     next: &mut u64,
     from: u64,
     kind: &PatKind,
@@ -65,8 +66,8 @@ fn elaborate_kind<'a>(
     ensures made { IfOk result (MadeHere table.now next.old next.new) }
 {
     match kind {
-        PatKind::Wild => wildcard(table, next, here.ty),
-        PatKind::Rest => wildcard(table, next, here.ty),
+        PatKind::Wild => wildcard(table, placer, next, here.ty),
+        PatKind::Rest => wildcard(table, placer, next, here.ty),
         PatKind::Lit(lit) => literal(alloc, table, placer, next, lit, here),
         PatKind::Range(range) => range_pattern(alloc, table, placer, next, from, range, here),
         PatKind::Name(name) => bare_name(alloc, table, placer, next, name, here),
@@ -110,7 +111,7 @@ fn elaborate_kind<'a>(
 fn elaborate_bound<'a>(
     alloc: Global,
     table: &TypeTable,
-    placer: &Placer<'a>,
+    placer: &FormPlacer<'a>,
     next: &mut u64,
     name: &str,
     mode: Mode,
@@ -133,7 +134,7 @@ fn elaborate_bound<'a>(
 fn elaborate_point<'a>(
     alloc: Global,
     table: &TypeTable,
-    placer: &Placer<'a>,
+    placer: &FormPlacer<'a>,
     next: &mut u64,
     sub: &Pat,
     here: Place,
@@ -158,7 +159,7 @@ fn elaborate_point<'a>(
 fn elaborate_tuple_form<'a>(
     alloc: Global,
     table: &TypeTable,
-    placer: &Placer<'a>,
+    placer: &FormPlacer<'a>,
     next: &mut u64,
     path: &Path,
     items: &Vec<Pat>,
@@ -183,7 +184,7 @@ fn elaborate_tuple_form<'a>(
 fn elaborate_parts<'a>(
     alloc: Global,
     table: &TypeTable,
-    placer: &Placer<'a>,
+    placer: &FormPlacer<'a>,
     next: &mut u64,
     items: &Vec<Pat>,
     here: Place,
@@ -222,7 +223,7 @@ fn elaborate_parts<'a>(
 fn elaborate_brace<'a>(
     alloc: Global,
     table: &TypeTable,
-    placer: &Placer<'a>,
+    placer: &FormPlacer<'a>,
     next: &mut u64,
     path: &Path,
     fields: &Vec<FieldPat>,
@@ -247,7 +248,7 @@ fn elaborate_brace<'a>(
 fn elaborate_fields<'a>(
     alloc: Global,
     table: &TypeTable,
-    placer: &Placer<'a>,
+    placer: &FormPlacer<'a>,
     next: &mut u64,
     fields: &Vec<FieldPat>,
     here: Place,
@@ -277,7 +278,7 @@ fn elaborate_fields<'a>(
 fn elaborate_tuple<'a>(
     alloc: Global,
     table: &TypeTable,
-    placer: &Placer<'a>,
+    placer: &FormPlacer<'a>,
     next: &mut u64,
     items: &Vec<Pat>,
     here: Place,
@@ -308,7 +309,7 @@ fn elaborate_tuple<'a>(
 fn elaborate_slice<'a>(
     alloc: Global,
     table: &TypeTable,
-    placer: &Placer<'a>,
+    placer: &FormPlacer<'a>,
     next: &mut u64,
     items: &Vec<Pat>,
     here: Place,
@@ -339,7 +340,7 @@ fn elaborate_slice<'a>(
 fn elaborate_items<'a>(
     alloc: Global,
     table: &TypeTable,
-    placer: &Placer<'a>,
+    placer: &FormPlacer<'a>,
     next: &mut u64,
     items: &Vec<Pat>,
     here: Place,
@@ -383,7 +384,7 @@ fn elaborate_items<'a>(
 fn elaborate_or<'a>(
     alloc: Global,
     table: &TypeTable,
-    placer: &Placer<'a>,
+    placer: &FormPlacer<'a>,
     next: &mut u64,
     all: &Vec<Pat>,
     here: Place,
@@ -395,7 +396,7 @@ fn elaborate_or<'a>(
     ensures made { IfOk result (MadeHere table.now next.old next.new) }
 {
     let choices = elaborate_alternatives(alloc, table, placer, next, all, here)?;
-    let made = over_placed(next, Ctor::Or, here.ty, 0, choices)?;
+    let made = over_placed(placer, next, Ctor::Or, here.ty, 0, choices)?;
     Ok(made)
 }
 
@@ -404,7 +405,7 @@ fn elaborate_or<'a>(
 fn elaborate_alternatives<'a>(
     alloc: Global,
     table: &TypeTable,
-    placer: &Placer<'a>,
+    placer: &FormPlacer<'a>,
     next: &mut u64,
     all: &Vec<Pat>,
     here: Place,
@@ -415,11 +416,11 @@ fn elaborate_alternatives<'a>(
         (patterns_from (map pattern_view all.now.items)) v.now) }
     ensures made { IfOk result (λ v. AreMade (IsOf table.now) next.old next.new (trees v.now)) }
 {
-    let mut choices = placer.list_with_room(all.len())?;
+    let mut choices = placer.arena.list_with_room(all.len())?;
     for alternative in all {
         let pattern = elaborate_pattern(alloc, table, placer, next, alternative, here)?;
         let made = standing_as(placer, next, alternative, pattern)?;
         choices.push(made)?;
     }
-    Ok(placer.place_list(choices))
+    Ok(placer.arena.place_list(choices))
 }

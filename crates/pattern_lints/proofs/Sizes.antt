@@ -38,7 +38,7 @@ ends_written h g n front back f b = record {
 
 -- the range of a placed pattern's constructor does not run backward
 pub placed_forward : {T : Type 0} (p : DePat T) → IsForward (placed_ctor p)
-placed_forward {T} p = forward (placed_ctor p) (made_ctor (out-DePat T p).ctor)
+placed_forward {T} p = forward (placed_ctor p) (made_ctor (out-DePat T p).form.now.ctor)
 
 pub tree_forward : {T : Type 0} (p : DePat T) → IsForward (ctor_of (tree p))
 tree_forward p = subst IsForward (sym (ctor_of-tree p)) (placed_forward p)

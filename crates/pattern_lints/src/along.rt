@@ -32,9 +32,9 @@ pub(crate) fn along<'a, C: PatCx>(
     ensures { Tells result (MeetTogether (C.is_value cx.now) ty (is_sure validity) (tree p.entry.now) path.now
         (tree q.entry.now) other.now) }
 {
-    if is_or(&p.ctor) {
+    if is_or(&p.form.ctor) {
         first_along(cx, ty, validity, p, path, q, other)
-    } else if is_or(&q.ctor) {
+    } else if is_or(&q.form.ctor) {
         second_along(cx, ty, validity, p, path, q, other)
     } else {
         both_along(cx, ty, validity, p, path, q, other)
@@ -145,11 +145,11 @@ fn parts_along<'a, C: PatCx>(
     if !pieces_meet(cx, ty, validity, p, Some(q), Some((i, j))) {
         return false;
     }
-    let part = part_type(cx, &p.ctor, ty, i);
+    let part = part_type(cx, &p.form.ctor, ty, i);
     along(
         cx,
         part,
-        validity.inside(&p.ctor),
+        validity.inside(&p.form.ctor),
         p.sub(i),
         rest,
         q.sub(j),

@@ -70,7 +70,11 @@ pub(crate) fn is_steady(ctor: &Ctor) -> bool
 fn part_pattern<'a, T: Copy>(p: &'a DePat<'a, T>, i: usize) -> Option<&'a DePat<'a, T>>
     ensures { MatchesPart (tree p.entry.now) i (plain_head result) }
 {
-    if is_steady(&p.ctor) { nth(p, i) } else { None }
+    if is_steady(&p.form.ctor) {
+        nth(p, i)
+    } else {
+        None
+    }
 }
 
 // The numbers of the part to which the steps lead, in the values that the pattern matches.
@@ -78,7 +82,7 @@ fn numbers_below<'a, T: Copy>(p: &'a DePat<'a, T>, steps: &[usize]) -> Range
     ensures { LiesBelow (tree p.entry.now) steps.now (plain_range result) }
 {
     match steps.split_first() {
-        None => own_numbers(&p.ctor),
+        None => own_numbers(&p.form.ctor),
         Some((i, rest)) => match part_pattern(p, *i) {
             None => all_numbers(),
             Some(sub) => numbers_below(sub, rest),
@@ -97,7 +101,7 @@ fn numbers_at_step<'a, T: Copy>(
 {
     match steps.split_first() {
         Some((j, behind)) => {
-            if i == *j || !is_steady(&p.ctor) {
+            if i == *j || !is_steady(&p.form.ctor) {
                 return all_numbers();
             }
             match nth(p, *j) {
@@ -125,7 +129,7 @@ pub(crate) fn numbers_beside<'a, T: Copy>(
     let Some(sub) = nth(p, *i) else {
         return all_numbers();
     };
-    if is_or(&p.ctor) {
+    if is_or(&p.form.ctor) {
         numbers_beside(sub, rest, depth, steps)
     } else if depth > 0 {
         numbers_beside(sub, rest, depth - 1, steps)

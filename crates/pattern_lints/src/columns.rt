@@ -176,16 +176,16 @@ fn add_columns<'a, T: Copy>(
     if trying.columns.len() >= TRIED {
         return Ok(());
     }
-    if has_own_number(&p.ctor) {
+    if has_own_number(&p.form.ctor) {
         let steps = Vec::from_slice(trying.alloc, &trying.steps)?;
         trying.columns.push(Column { depth, steps })?;
     }
-    if !is_steady(&p.ctor) {
+    if !is_steady(&p.form.ctor) {
         return Ok(());
     }
-    for j in 0..p.subs.len() {
+    for j in 0..p.form.subs.len() {
         trying.steps.push(j)?;
-        add_columns(trying, &p.subs[j], depth)?;
+        add_columns(trying, &p.form.subs[j], depth)?;
         trying.steps.pop();
     }
     Ok(())
@@ -198,13 +198,13 @@ fn add_others<'a, T: Copy>(
     i: usize,
     depth: usize,
 ) -> Result<(), NoMemory> {
-    if !is_steady(&p.ctor) {
+    if !is_steady(&p.form.ctor) {
         return Ok(());
     }
-    for j in 0..p.subs.len() {
+    for j in 0..p.form.subs.len() {
         if j != i {
             trying.steps.push(j)?;
-            add_columns(trying, &p.subs[j], depth)?;
+            add_columns(trying, &p.form.subs[j], depth)?;
             trying.steps.pop();
         }
     }
@@ -224,7 +224,7 @@ fn add_beside<'a, T: Copy>(
     let Some(sub) = nth(p, *i) else {
         return Ok(());
     };
-    if is_or(&p.ctor) {
+    if is_or(&p.form.ctor) {
         return add_beside(trying, sub, rest, depth);
     }
     add_others(trying, p, *i, depth)?;

@@ -53,7 +53,7 @@ fn is_greatest_alone<'a, T: Copy>(
     ensures { result ≡ greatest_alone spot (Some (tree p.entry.now)) (plain_head q.entry) }
 {
     match spot {
-        None => is_longer(&p.ctor) && has_room(q),
+        None => is_longer(&p.form.ctor) && has_room(q),
         Some(_) => false,
     }
 }
@@ -64,7 +64,7 @@ fn has_room<'a, T: Copy>(q: Option<&'a DePat<'a, T>>) -> bool
 {
     match q {
         None => true,
-        Some(q) => is_longer(&q.ctor),
+        Some(q) => is_longer(&q.form.ctor),
     }
 }
 

@@ -75,7 +75,7 @@ fn one_meets<'a, C: PatCx>(
     ensures { Tells result (Common (C.is_value cx.now) ty (is_sure validity) (Some (tree p.entry.now))
         (plain_head q.entry)) }
 {
-    match p.ctor {
+    match p.form.ctor {
         Ctor::Wild => lone_meets(cx, ty, validity, q),
         Ctor::Or => any_meets(cx, ty, validity, p, q),
         _ => sharp_meets(cx, ty, validity, p, q),
@@ -98,7 +98,7 @@ fn any_meets<'a, C: PatCx>(
     ensures { Tells result (Common (C.is_value cx.now) ty (is_sure validity) (Some (tree p.entry.now))
         (plain_head q.entry)) }
 {
-    for s in p.subs {
+    for s in p.form.subs {
         if one_meets(cx, ty, validity, s, q) {
             return true;
         }
@@ -144,7 +144,7 @@ fn pair_meets<'a, C: PatCx>(
     ensures { Tells result (Common (C.is_value cx.now) ty (is_sure validity) (Some (tree p.entry.now)) (Some
         (tree q.entry.now))) }
 {
-    match q.ctor {
+    match q.form.ctor {
         Ctor::Wild => pieces_meet(cx, ty, validity, p, None, None),
         Ctor::Or => any_meets(cx, ty, validity, q, Some(p)),
         _ => pieces_meet(cx, ty, validity, p, Some(q), None),
@@ -171,13 +171,22 @@ pub(crate) fn pieces_meet<'a, C: PatCx>(
     ensures { Tells result (PiecesMeet (C.is_value cx.now) (C.context cx.now) ty (is_sure validity) (Some
         (tree p.entry.now)) (plain_head q.entry) spot) }
 {
-    if !is_alike(&p.ctor, q) {
+    if !is_alike(&p.form.ctor, q) {
         return false;
     }
-    match p.ctor {
+    match p.form.ctor {
         Ctor::Row(_) => rows_meet(cx, ty, validity, p, q, spot),
         Ctor::Single | Ctor::Point | Ctor::Variant(_) => {
-            piece_meets(cx, ty, validity, &p.ctor, p, q, spot, p.subs.len() as u64)
+            piece_meets(
+                cx,
+                ty,
+                validity,
+                &p.form.ctor,
+                p,
+                q,
+                spot,
+                p.form.subs.len() as u64,
+            )
         }
         _ => true,
     }
@@ -245,10 +254,10 @@ fn have_piece<'a, T: Copy>(p: &'a DePat<'a, T>, q: Option<&'a DePat<'a, T>>, pie
     ensures { result ≡ (has_piece (placed_ctor p.entry.now) (plain_ctor piece.now) && has_piece (head_ctor
         (plain_head q.entry)) (plain_ctor piece.now)) }
 {
-    has_piece(&p.ctor, piece)
+    has_piece(&p.form.ctor, piece)
         && match q {
             None => true,
-            Some(q) => has_piece(&q.ctor, piece),
+            Some(q) => has_piece(&q.form.ctor, piece),
         }
 }
 

@@ -19,7 +19,7 @@ use slice_split::Shape;
 pub(crate) fn nth<'a, T: Copy>(p: &'a DePat<'a, T>, i: usize) -> Option<&'a DePat<'a, T>>
     ensures { plain_head result ≡ slice_get (subs_of (tree p.entry.now)) i }
 {
-    if i < p.subs.len() {
+    if i < p.form.subs.len() {
         Some(p.sub(i))
     } else {
         None
@@ -43,7 +43,7 @@ fn nth_beside<'a, T: Copy>(
     } else if back < n - k {
         None
     } else {
-        nth(p, p.subs.len() - (n - k) as usize)
+        nth(p, p.form.subs.len() - (n - k) as usize)
     }
 }
 
@@ -53,7 +53,7 @@ fn sub_for<'a, T: Copy>(p: &'a DePat<'a, T>, n: u64, k: u64) -> Option<&'a DePat
     requires below { k < n }
     ensures { plain_head result ≡ head_by (placed_ctor p.entry.now) (subs_of (tree p.entry.now)) n k }
 {
-    match p.ctor {
+    match p.form.ctor {
         Ctor::Row(Shape::Longer { front, back }) => nth_beside(p, front, back, n, k),
         _ => nth(p, k as usize),
     }
@@ -97,9 +97,9 @@ pub(crate) fn place_in(ctor: &Ctor, count: usize, n: u64, i: usize) -> u64
 fn front_below<'a, T: Copy>(p: &'a DePat<'a, T>) -> u64
     ensures { result ≡ front_by (placed_ctor p.entry.now) (length (placed_subs p.entry.now)) }
 {
-    match p.ctor {
+    match p.form.ctor {
         Ctor::Row(Shape::Longer { front, .. }) => front,
-        _ => p.subs.len() as u64,
+        _ => p.form.subs.len() as u64,
     }
 }
 
@@ -107,7 +107,7 @@ fn front_below<'a, T: Copy>(p: &'a DePat<'a, T>) -> u64
 fn back_below<'a, T: Copy>(p: &'a DePat<'a, T>) -> u64
     ensures { result ≡ back_by (placed_ctor p.entry.now) }
 {
-    match p.ctor {
+    match p.form.ctor {
         Ctor::Row(Shape::Longer { back, .. }) => back,
         _ => 0,
     }
@@ -170,7 +170,8 @@ pub(crate) fn stands<'a, T: Copy>(
 {
     match (spot, q) {
         (Some((i, j)), Some(q)) => {
-            place_in(&p.ctor, p.subs.len(), n, i) == place_in(&q.ctor, q.subs.len(), n, j)
+            place_in(&p.form.ctor, p.form.subs.len(), n, i)
+                == place_in(&q.form.ctor, q.form.subs.len(), n, j)
         }
         _ => true,
     }
@@ -188,7 +189,7 @@ pub(crate) fn part_left_out<'a, T: Copy>(
 {
     match spot {
         None => None,
-        Some((i, _)) => Some(place_in(&p.ctor, p.subs.len(), n, i)),
+        Some((i, _)) => Some(place_in(&p.form.ctor, p.form.subs.len(), n, i)),
     }
 }
 
@@ -209,7 +210,7 @@ pub(crate) fn is_alike<'a, T: Copy>(c: &Ctor, q: Option<&'a DePat<'a, T>>) -> bo
 {
     match q {
         None => true,
-        Some(q) => are_alike(c, &q.ctor),
+        Some(q) => are_alike(c, &q.form.ctor),
     }
 }
 

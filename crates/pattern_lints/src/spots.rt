@@ -99,9 +99,9 @@ fn note(finding: &mut Finding, place: usize, at: u64, range: Option<Range>) -> R
 fn has_none<'a, T: Copy>(p: &'a DePat<'a, T>) -> bool
     ensures { result ≡ true → spots_in (tree p.entry.now) ≡ [] }
 {
-    match several(&p.ctor) {
+    match several(&p.form.ctor) {
         Some(_) => false,
-        None => p.subs.is_empty(),
+        None => p.form.subs.is_empty(),
     }
 }
 
@@ -114,9 +114,9 @@ fn find_in<'a, T: Copy>(
 ) -> Result<(), NoMemory>
     ensures { OnOk result (Notes finding.old finding.new place (spots_in (tree p.entry.now))) }
 {
-    note(finding, place, p.at, several(&p.ctor))?;
-    for i in 0..p.subs.len() {
-        find_below(finding, place, &p.ctor, i, &p.subs[i])?;
+    note(finding, place, p.at, several(&p.form.ctor))?;
+    for i in 0..p.form.subs.len() {
+        find_below(finding, place, &p.form.ctor, i, &p.form.subs[i])?;
     }
     Ok(())
 }

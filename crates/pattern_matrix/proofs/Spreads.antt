@@ -71,12 +71,12 @@ spread-or {T} row chosen p h = rw (tree_out p, is_or (placed_ctor p) h) (go (pla
     several x y ps = grind arith
 
     go : (ps : List (DePat T)) →
-        map (leaf_of row chosen) (map (with_binds (map plain_bound (out-DePat T p).binds.now)) (all_choices_of (choice_among (de_pats_of (map tree ps))) (de_pats_of (map tree ps))))
+        map (leaf_of row chosen) (map (with_binds (map plain_bound (out-DePat T p).form.now.binds.now)) (all_choices_of (choice_among (de_pats_of (map tree ps))) (de_pats_of (map tree ps))))
         ≡ spread_each row chosen (nat_lt 1 (length ps)) (map tree ps)
     go [] = refl
-    go (x ∷ []) = one row chosen (map plain_bound (out-DePat T p).binds.now) (tree x)
+    go (x ∷ []) = one row chosen (map plain_bound (out-DePat T p).form.now.binds.now) (tree x)
     go (x ∷ y ∷ ps) =
-        many row chosen (map plain_bound (out-DePat T p).binds.now) (de_pats_of (map tree (x ∷ y ∷ ps)))
+        many row chosen (map plain_bound (out-DePat T p).form.now.binds.now) (de_pats_of (map tree (x ∷ y ∷ ps)))
         ∙ ap (spread_each row chosen true) (listed (map tree (x ∷ y ∷ ps)))
         ∙ sym (ap (λ b. spread_each row chosen b (map tree (x ∷ y ∷ ps))) (several x y ps))
 

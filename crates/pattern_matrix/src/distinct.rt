@@ -153,7 +153,7 @@ fn add_head<'a, T: Copy>(
 {
     match head {
         None => Ok(()),
-        Some(p) => add_unless_wild(heads, p.ctor),
+        Some(p) => add_unless_wild(heads, p.form.ctor),
     }
 }
 

@@ -19,7 +19,7 @@ use std::alloc::Global;
 fn starting_heads<'a, T: Copy>(pat: &'a DePat<'a, T>) -> Heads<'a, T>
     ensures { plain_heads (kept_heads result) ≡ cond (is_wild (Some (tree pat.entry.now))) [] ((0, tree pat.entry.now) ∷ []) }
 {
-    if is_wild(&pat.ctor) {
+    if is_wild(&pat.form.ctor) {
         Heads::Bare
     } else {
         Heads::One(Head { column: 0, pat })

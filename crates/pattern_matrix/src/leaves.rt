@@ -42,7 +42,7 @@ pub(crate) fn is_wild(ctor: &Ctor) -> bool
 fn unless_wild<'a, T: Copy>(p: &'a DePat<'a, T>) -> Option<&'a DePat<'a, T>>
     ensures { plain_pattern result ≡ bare_head (Some (tree p.entry.now)) }
 {
-    if is_wild(&p.ctor) { None } else { Some(p) }
+    if is_wild(&p.form.ctor) { None } else { Some(p) }
 }
 
 // The pattern that is listed at the column.
@@ -79,9 +79,9 @@ fn add_choices<'a, T: Copy>(
 ) -> Result<(), NoMemory>
     ensures { OnOk result (plain_leaves leaves.new.items ≡ plain_leaves leaves.old.items ++ spread row (kept_chosen chosen.now) (tree p.entry.now)) }
 {
-    if is_or(&p.ctor) {
-        let several = p.subs.len() > 1;
-        for q in p.subs {
+    if is_or(&p.form.ctor) {
+        let several = p.form.subs.len() > 1;
+        for q in p.form.subs {
             let more = choosing(alloc, chosen, q.uid, several)?;
             add_choices(alloc, leaves, row, q, &more)?;
         }

@@ -30,7 +30,7 @@ pub(crate) fn add_head<'a, T: Copy>(
     ensures { OnOk result (plain_heads heads.new.items ≡ plain_heads heads.old.items
         ++ cond (is_wild (Some (tree pat.entry.now))) [] ((column, tree pat.entry.now) ∷ [])) }
 {
-    if !is_wild(&pat.ctor) {
+    if !is_wild(&pat.form.ctor) {
         heads.push(Head { column, pat })?;
     }
     Ok(())
@@ -89,12 +89,17 @@ fn add_parts<'a, T: Copy>(
     ensures { OnOk result (plain_heads heads.new.items ≡ plain_heads heads.old.items
         ++ listed first (pattern_parts count (placed_ctor p.entry.now) (placed_subs p.entry.now))) }
 {
-    match p.ctor {
+    match p.form.ctor {
         Ctor::Wild => Ok(()),
         Ctor::Row(Shape::Longer { front, back }) => add_items(
-            heads, first, p.subs, front, back, count,
+            heads,
+            first,
+            p.form.subs,
+            front,
+            back,
+            count,
         ),
-        _ => add_subs(heads, first, p.subs),
+        _ => add_subs(heads, first, p.form.subs),
     }
 }
 
@@ -251,7 +256,7 @@ pub fn is_wild_leaf<'a, T: Copy>(head: Option<&'a DePat<'a, T>>) -> bool
 {
     match head {
         None => true,
-        Some(p) => is_wild(&p.ctor),
+        Some(p) => is_wild(&p.form.ctor),
     }
 }
 

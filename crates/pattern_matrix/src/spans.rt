@@ -29,7 +29,7 @@ fn add_ctor<'a, T: Copy>(
 {
     match head {
         None => Ok(()),
-        Some(p) => add_unless_wild(ctors, p.ctor),
+        Some(p) => add_unless_wild(ctors, p.form.ctor),
     }
 }
 

@@ -28,7 +28,7 @@ use std::alloc::Global;
 fn has_parts<'a, T: Copy>(p: &'a DePat<'a, T>) -> bool
     ensures { result ≡ nat_lt 0 (length (placed_subs p.now)) }
 {
-    p.subs.len() > 0
+    p.form.subs.len() > 0
 }
 
 // Tells whether the head writes some part.

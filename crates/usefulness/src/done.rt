@@ -59,8 +59,8 @@ fn is_or(ctor: &Ctor) -> bool
 fn is_choice<'a, T: Copy>(p: &'a DePat<'a, T>) -> bool
     ensures { result ≡ is_choice (placed_ctor p.now) (de_pats_of (map tree (placed_subs p.now))) }
 {
-    if p.subs.len() > 1 {
-        is_or(&p.ctor)
+    if p.form.subs.len() > 1 {
+        is_or(&p.form.ctor)
     } else {
         false
     }
@@ -78,7 +78,7 @@ pub(crate) fn is_settled<'a, T: Copy>(marks: &Marks, arm: u32, p: &'a DePat<'a, 
     ensures { result ≡ are_marked (is_marked marks.now) arm (choices_within (tree p.entry.now)) }
 {
     let choice = is_choice(p);
-    for q in p.subs {
+    for q in p.form.subs {
         if is_left(marks, arm, choice, q.uid) {
             return false;
         }

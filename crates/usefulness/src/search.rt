@@ -38,7 +38,7 @@ use std::alloc::Global;
 fn starting_heads<'a, T: Copy>(pat: &'a DePat<'a, T>) -> Heads<'a, T>
     ensures { plain_heads (kept_heads result) ≡ cond (is_wild (Some (tree pat.entry.now))) [] ((0, tree pat.entry.now) ∷ []) }
 {
-    match pat.ctor {
+    match pat.form.ctor {
         Ctor::Wild => Heads::Bare,
         _ => Heads::One(Head { column: 0, pat }),
     }

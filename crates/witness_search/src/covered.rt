@@ -16,7 +16,7 @@ fn writes_none<'a, T: Copy>(head: Option<&'a DePat<'a, T>>) -> bool
 {
     match head {
         None => true,
-        Some(p) => p.subs.is_empty(),
+        Some(p) => p.form.subs.is_empty(),
     }
 }
 

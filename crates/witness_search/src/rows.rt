@@ -36,7 +36,7 @@ pub(crate) fn has_bare<'a, T: Copy>(rows: &[Row<'a, T>]) -> bool
 fn starting_heads<'a, T: Copy>(pat: &'a DePat<'a, T>) -> Heads<'a, T>
     ensures { plain_heads (kept_heads result) ≡ starting_heads (tree pat.entry.now) }
 {
-    match pat.ctor {
+    match pat.form.ctor {
         Ctor::Wild => Heads::Bare,
         _ => Heads::One(Head { column: 0, pat }),
     }

@@ -31,7 +31,7 @@ fn is_or(ctor: &Ctor) -> bool
 fn is_choice<'a, T: Copy>(p: &'a DePat<'a, T>) -> bool
     ensures { result ≡ (is_or_ctor (placed_ctor p.entry.now) && nat_lt 1 (length (placed_subs p.entry.now))) }
 {
-    p.subs.len() > 1 && is_or(&p.ctor)
+    p.form.subs.len() > 1 && is_or(&p.form.ctor)
 }
 
 // Tells whether the pattern is an alternative to which no value comes.
@@ -54,7 +54,7 @@ fn add_left<'a, T: Copy, M: Marked>(
         ++ left_in (λ id. M.is_marked marks.now (through_alternative arm id)) arm (arena_alternatives (tree p.entry.now))) }
 {
     let chosen = is_choice(p);
-    for q in p.subs {
+    for q in p.form.subs {
         add_one_left(marks, found, arm, chosen, q)?;
     }
     Ok(())
@@ -82,7 +82,7 @@ fn add_one_left<'a, T: Copy, M: Marked>(
             whole: false,
         })?;
         Ok(())
-    } else if q.subs.is_empty() {
+    } else if q.form.subs.is_empty() {
         Ok(())
     } else {
         add_left(marks, found, arm, q)

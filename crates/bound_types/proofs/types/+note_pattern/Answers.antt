@@ -22,7 +22,7 @@ pub returns : goal.returns
 returns g t c = λ q.
     let p = c.args.pat.now in
     let old = get_by_text c.args.types.now q in
-    let own = has_name q (map plain_bound (out-DePat g.row.T.Denot p).binds.now) in
+    let own = has_name q (map plain_bound (out-DePat g.row.T.Denot p).form.now.binds.now) in
     let below = from_on (placed_subs p) q 0 in
     sym (none_behind (get_by_text c.loop-sub.types q))
     ∙ ap (option_or (get_by_text c.loop-sub.types q))
@@ -31,5 +31,5 @@ returns g t c = λ q.
     ∙ ap (λ o. option_or o below) (c.in_ok-note_names.ensures q)
     ∙ ap (λ (ty : g.row.T.Denot). option_or (option_or old (some_if own ty)) below)
     (type_is p c.type_of.result c.type_of.ensures)
-    ∙ noted_first old (some_if own (out-DePat g.row.T.Denot p).ty) below
+    ∙ noted_first old (some_if own (out-DePat g.row.T.Denot p).form.now.ty) below
     ∙ ap (option_or old) (sym (own_or_below p q))

@@ -19,5 +19,5 @@ returns-after-loop-q g t c =
     ∙ ap (λ (xs : List (DePat g.row.T.Denot)). old ++ choices_of_each chosen (map plain_bound around) several (map tree xs))
     (take_all c.loop-q.q-index (placed_subs p) c.loop-q-test.false)
     ∙ ap (λ (bs : List MBound). old ++ choices_of_each chosen bs several (map tree (placed_subs p)))
-    (ap (map plain_bound) c.in_ok-around.ensures ∙ map-append plain_bound binds (out-DePat g.row.T.Denot p).binds.now)
+    (ap (map plain_bound) c.in_ok-around.ensures ∙ map-append plain_bound binds (out-DePat g.row.T.Denot p).form.now.binds.now)
     ∙ ap (λ xs. old ++ xs) (sym (choices-or chosen (map plain_bound binds) p (sym c.is_or.ensures ∙ c.if-is_or.true)))

@@ -28,7 +28,7 @@ returns-then-is_wild g c =
     on-rows c.add_replaced.result (plain_rows c.add_replaced.new.all.items) (plain_rows c.args.all.now.items) _
     (row_at default_head place i (plain_row row))
     (row-one default_head place i row (Some c.in-Some.p)
-    (record { heads = []; chosen = []; binds = map plain_bound (out-DePat g.row.T.Denot p).binds.now }) at
+    (record { heads = []; chosen = []; binds = map plain_bound (out-DePat g.row.T.Denot p).form.now.binds.now }) at
     (default-wild p (sym c.is_wild.ensures ∙ c.if-is_wild.true))) c.add_replaced.ensures
 
 pub returns-else-is_wild : goal.returns-else-is_wild

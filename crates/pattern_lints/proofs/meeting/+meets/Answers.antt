@@ -89,7 +89,7 @@ one_meets-sharp_meets-requires g t c κs within = (
       within.1,
       (
         c.requires.ty,
-        (ctor_sharp (out-DePat g.row.C-Ty.Denot c.args.p.now).ctor c.in_default.not-Wild c.in_default.not-Or, (c.requires.first, c.requires.second)),
+        (ctor_sharp (out-DePat g.row.C-Ty.Denot c.args.p.now).form.now.ctor c.in_default.not-Wild c.in_default.not-Or, (c.requires.first, c.requires.second)),
       ),
     ),
   ),
@@ -117,7 +117,7 @@ pair_meets-pieces_meet-requires-in_default g t c κs within = (
         c.requires.ty,
         (
           c.requires.sharp,
-          (tree_sharp c.args.q.now (ctor_sharp (out-DePat g.row.C-Ty.Denot c.args.q.now).ctor c.in_default.not-Wild c.in_default.not-Or), (c.requires.first, (c.requires.second, tt))),
+          (tree_sharp c.args.q.now (ctor_sharp (out-DePat g.row.C-Ty.Denot c.args.q.now).form.now.ctor c.in_default.not-Wild c.in_default.not-Or), (c.requires.first, (c.requires.second, tt))),
         ),
       ),
     ),
@@ -147,7 +147,7 @@ pair_meets-returns-in_default g t c =
     let p = tree c.args.p.now in
     let q = tree c.args.q.now in
     let sure = is_sure c.args.validity in
-    let qs = tree_sharp c.args.q.now (ctor_sharp (out-DePat g.row.C-Ty.Denot c.args.q.now).ctor c.in_default.not-Wild c.in_default.not-Or) in
+    let qs = tree_sharp c.args.q.now (ctor_sharp (out-DePat g.row.C-Ty.Denot c.args.q.now).form.now.ctor c.in_default.not-Wild c.in_default.not-Or) in
     tells c.pieces_meet-in_default.result
     (common_back (g.C.PatCx.is_type cx) iv (g.C.PatCx.context cx) (g.met.C.PatCx.values cx) (g.met.C.PatCx.parts cx) c.args.ty sure (Some p) (Some q) c.requires.ty c.requires.first c.requires.second)
     (common_forth (g.C.PatCx.is_type cx) iv (g.C.PatCx.context cx) (g.met.C.PatCx.values cx) (g.met.C.PatCx.parts cx) c.args.ty sure p (Some q) c.requires.ty c.requires.first c.requires.second
@@ -422,7 +422,7 @@ pieces_meet-piece_meets-requires g t c κs within =
     let same = ctor_of-tree c.args.p.now in
     let alike = subst (λ d. IsAlikeHead d (plain_head c.args.q)) (sym same) c.if-not-is_alike.ensures in
     let piece = one_piece (g.C.PatCx.is_type cx) (g.C.PatCx.is_value cx) (g.C.PatCx.context cx) (g.met.C.PatCx.values cx) (g.met.C.PatCx.parts cx) c.args.ty (tree c.args.p.now) (plain_head c.args.q)
-    (length (placed_subs c.args.p.now)) c.requires.ty c.requires.first (tree_one c.args.p.now (ctor_one (out-DePat g.row.C-Ty.Denot c.args.p.now).ctor c.in-Single.is))
+    (length (placed_subs c.args.p.now)) c.requires.ty c.requires.first (tree_one c.args.p.now (ctor_one (out-DePat g.row.C-Ty.Denot c.args.p.now).form.now.ctor c.in-Single.is))
     (tree_sharp c.args.p.now c.requires.sharp) alike (sym (placed_count c.args.p.now)) in (
       omega (arith, c.decreases),
       (
@@ -461,7 +461,7 @@ pieces_meet-returns-in-Single g t c =
     let k = plain_head c.args.q in
     let n = length (placed_subs c.args.p.now) in
     let same = ctor_of-tree c.args.p.now in
-    let one = tree_one c.args.p.now (ctor_one (out-DePat g.row.C-Ty.Denot c.args.p.now).ctor c.in-Single.is) in
+    let one = tree_one c.args.p.now (ctor_one (out-DePat g.row.C-Ty.Denot c.args.p.now).form.now.ctor c.in-Single.is) in
     let sharp = tree_sharp c.args.p.now c.requires.sharp in
     let alike = subst (λ d. IsAlikeHead d k) (sym same) c.if-not-is_alike.ensures in
     let piece = one_piece (g.C.PatCx.is_type cx) iv context (g.met.C.PatCx.values cx) (g.met.C.PatCx.parts cx) c.args.ty p k n c.requires.ty c.requires.first one sharp alike (sym (placed_count c.args.p.now)) in
@@ -480,7 +480,7 @@ pieces_meet-returns-in_default g t c =
     leaves_meet (g.C.PatCx.is_type cx) (g.C.PatCx.is_value cx) (g.C.PatCx.context cx) (g.met.C.PatCx.values cx) (g.met.C.PatCx.parts cx)
     (g.C.PatCx.empty_of cx) (g.C.PatCx.variant_empty_of cx) (g.met.C.PatCx.empty cx) (g.met.C.PatCx.unsure cx)
     c.args.ty (is_sure c.args.validity) p k c.args.spot c.requires.ty c.requires.first c.requires.second
-    (tree_leaf c.args.p.now (ctor_leaf (out-DePat g.row.C-Ty.Denot c.args.p.now).ctor c.requires.sharp written c.in_default.not-Single c.in_default.not-Point c.in_default.not-Variant c.in_default.not-Row))
+    (tree_leaf c.args.p.now (ctor_leaf (out-DePat g.row.C-Ty.Denot c.args.p.now).form.now.ctor c.requires.sharp written c.in_default.not-Single c.in_default.not-Point c.in_default.not-Variant c.in_default.not-Row))
     sharp c.requires.also_sharp (tree_forward c.args.p.now) (subst (λ d. IsAlikeHead d k) (sym same) c.if-not-is_alike.ensures) c.requires.within
 
 -- ---- rows
