@@ -10,7 +10,8 @@ fn mixed(digest: u64, number: u64) -> u64 {
         .rotate_left(29)
 }
 
-// A number of the step: two words where it has two, and a mark that tells its kind where it has one.
+// A number of the step, in one word: its two numbers where it has two, and a mark of its kind in all but parts. Steps with
+// the same number are rare and do no harm.
 fn step_number(step: &Step) -> u64 {
     match step {
         Step::Through => 1,

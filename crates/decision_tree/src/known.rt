@@ -56,7 +56,8 @@ pub(crate) struct KnownRow<'a> {
 #[derive(PartialEq, Eq, Drop)]
 #[derive_where(Hash)]
 pub(crate) struct KnownMatrix<'a> {
-    // A number made of all the rest, by which alone the matrix is looked for among the others.
+    // A number made of the places of the columns and, row by row, of the arm, the alternatives, the places of names and the
+    // heads that patterns wrote. By it alone the matrix is looked for among the others; two that share it are compared.
     pub(crate) digest: u64,
     #[derive_where(skip(Hash))]
     pub(crate) columns: Vec<KnownColumn<'a>>,

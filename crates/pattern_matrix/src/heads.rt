@@ -30,7 +30,7 @@ pub struct HeadPart<'a, T: Copy> {
     count: u32,
 }
 
-// The number in half the room. A list with as many heads or constructors as it cannot hold takes 64 gigabytes.
+// The number in half the room. From 2^32 on it is want of memory: as many heads or constructors take 64 gigabytes and more.
 pub(crate) fn short(number: usize) -> Result<u32, NoMemory>
     ensures { IfOk result (λ n. n ≡ number) }
 {

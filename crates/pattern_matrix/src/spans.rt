@@ -105,7 +105,8 @@ pub fn leaf_spans<'a, T: Copy>(
     Ok(all)
 }
 
-/// The same of spans that are not asked for any more. Where no leaf is a wildcard, these are what is asked for.
+/// The same, from spans that are taken over: where no leaf is a wildcard they are the result as they stand, and no list is
+/// made.
 pub fn into_leaf_spans<'a, T: Copy>(
     alloc: Global,
     pieces: &[Ctor<'a>],

@@ -195,6 +195,7 @@ pub(crate) fn children<'a, C: PatCx>(
         gaps,
         spans,
     } = found;
+    // From here on the spans are told by leaf, beside what was found: none stand in it.
     let spans = into_leaf_spans(alloc, &ctors, &a.leaves, spans)?;
     let found = PresentPieces {
         ctors,
