@@ -4,6 +4,7 @@ ghost use Rattle.match_model.specs.Constructors.{belongs};
 ghost use Rattle.pat_context.specs.Views.{plain_ctor};
 ghost use Rattle.pat_context.specs.Toy.{toy_set, toy_arity};
 
+use crate::patterns::{flag, pattern};
 use bumpalo::Bump;
 use keyed_matrix::{
     KeyedColumn, are_wild, ctors_at, decisions_of, dropped_columns, dropped_rows, expanded_rows,
@@ -13,36 +14,26 @@ use keyed_matrix::{
 use no_memory::NoMemory;
 use pat_context::toy::{Toy, ToyTy};
 use pat_context::{Ctor, Validity};
-use pattern_arena::{CheckedArm, CheckedMatch, DePat, Placer};
-
-// A pattern of a flag.
-fn flag<'a>(ctor: Ctor<'a>, uid: u64) -> DePat<'a, ToyTy> {
-    DePat {
-        ctor,
-        ty: ToyTy::Flag,
-        uid,
-        at: uid,
-        subs: &[],
-        binds: &[],
-    }
-}
+use pattern_arena::{CheckedArm, CheckedMatch, Placer};
 
 // The match of a flag with one arm for both, and one for the rest.
 fn either_flag<'a>(placer: &Placer<'a>) -> Result<CheckedMatch<'a, ToyTy>, NoMemory>
     ensures { IfOk result (λ m. length m.arms.now ≡ 2) }
 {
-    let choices = placer.place_subs(&[flag(Ctor::Flag(true), 1), flag(Ctor::Flag(false), 2)])?;
-    let either = DePat {
-        subs: choices,
-        ..flag(Ctor::Or, 0)
-    };
+    let choices = [
+        flag(placer, Ctor::Flag(true), 1)?,
+        flag(placer, Ctor::Flag(false), 2)?,
+    ];
+    let choices = placer.place_subs(&choices)?;
+    let either = pattern(placer, Ctor::Or, ToyTy::Flag, 0, choices, &[])?;
+    let rest = flag(placer, Ctor::Wild, 3)?;
     let arms = placer.place_arms(&[
         CheckedArm {
             pat: either,
             guarded: false,
         },
         CheckedArm {
-            pat: flag(Ctor::Wild, 3),
+            pat: rest,
             guarded: false,
         },
     ])?;

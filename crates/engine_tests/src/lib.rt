@@ -28,6 +28,8 @@ mod pattern_lints_calls;
 #[cfg(test)]
 mod pattern_matrix_calls;
 #[cfg(test)]
+mod patterns;
+#[cfg(test)]
 mod range_split_calls;
 #[cfg(test)]
 mod slice_split_calls;

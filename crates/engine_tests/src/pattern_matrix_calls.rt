@@ -1,11 +1,13 @@
 // A match over flags is taken apart at its column.
 ghost use Rattle.std.specs.Prelude.{◌≤◌, ◌^◌, length};
 
+use crate::patterns::flag;
+use bumpalo::Bump;
 use constructor_sets::Span;
 use no_memory::NoMemory;
 use pat_context::toy::{Toy, ToyTy};
 use pat_context::{Ctor, Validity};
-use pattern_arena::{CheckedArm, CheckedMatch, DePat};
+use pattern_arena::{CheckedArm, CheckedMatch, Placer};
 use pattern_matrix::cover_laws::{
     empty_lists_are_exhaustive, witness_lists_are_covers, witnesses_are_of_the_type,
 };
@@ -25,18 +27,6 @@ use pattern_matrix::{
 };
 use std::alloc::Global;
 use std::test::Fail;
-
-// A pattern of a flag.
-fn flag<'a>(ctor: Ctor<'a>, uid: u64) -> DePat<'a, ToyTy> {
-    DePat {
-        ctor,
-        ty: ToyTy::Flag,
-        uid,
-        at: uid,
-        subs: &[],
-        binds: &[],
-    }
-}
 
 // How many rows a match has, leaves at its column, constructors there, rows of wildcards, and rows of a piece that no leaf has.
 fn taken_apart<'a>(
@@ -61,12 +51,14 @@ fn taken_apart<'a>(
 
 #[test]
 fn a_column_is_taken_apart(rt: HostRuntime) -> Result<(), Fail> {
+    let arena = Bump::new(rt.alloc());
+    let placer = Placer::new(&arena);
     let first = CheckedArm {
-        pat: flag(Ctor::Flag(true), 1),
+        pat: flag(&placer, Ctor::Flag(true), 1)?,
         guarded: true,
     };
     let second = CheckedArm {
-        pat: flag(Ctor::Wild, 2),
+        pat: flag(&placer, Ctor::Wild, 2)?,
         guarded: false,
     };
     let arms = [first, second];
