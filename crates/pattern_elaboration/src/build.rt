@@ -14,7 +14,7 @@ ghost use Rattle.type_table.specs.Tables.{IsOf};
 ghost use Rattle.pattern_elaboration.specs.Numbered.{IsMade, AreMade};
 ghost use Rattle.pattern_elaboration.specs.Placed.{bound_on, standing_tree};
 
-use crate::placing::FormPlacer;
+use crate::placing::{FormPlacer, TableForm};
 use decl_syntax::Pat;
 use no_memory::NoMemory;
 use pat_context::Ctor;
@@ -32,6 +32,14 @@ pub fn fresh(next: &mut u64) -> Result<u64, NoMemory>
     }
     *next = uid + 1;
     Ok(uid)
+}
+
+/// The pattern of this form, with the number and the offset.
+pub fn of_form<'a>(form: &'a TableForm<'a>, uid: u64, at: u64) -> DePat<'a, TyId>
+    ensures { tree result ≡ de_pat (plain_ctor form.now.ctor) form.now.ty uid at
+        (de_pats_of (map tree form.now.subs.now)) (map plain_bound form.now.binds.now) }
+{
+    DePat { form, uid, at }
 }
 
 /// The pattern of these parts. The only error is want of memory.
@@ -53,7 +61,7 @@ pub fn make<'a>(
         subs,
         binds,
     })?;
-    Ok(DePat { form, uid, at })
+    Ok(of_form(form, uid, at))
 }
 
 /// A pattern with nothing below. The only error is want of memory.
@@ -71,7 +79,7 @@ pub fn leaf<'a>(
 {
     let uid = fresh(next)?;
     let form = placer.place_leaf(ctor, ty)?;
-    Ok(DePat { form, uid, at })
+    Ok(of_form(form, uid, at))
 }
 
 /// A pattern over others, one for each part.
@@ -181,6 +189,5 @@ fn standing<'a>(
     if is_wide(&pattern.form.ctor) && at != pattern.at {
         return over(placer, next, Ctor::Or, pattern.form.ty, at, &[pattern]);
     }
-    let DePat { form, uid, .. } = pattern;
-    Ok(DePat { form, uid, at })
+    Ok(of_form(pattern.form, pattern.uid, at))
 }

@@ -1,5 +1,5 @@
 //! Where patterns are placed.
-ghost use Rattle.std.specs.Prelude.{◌≡◌, [], IfOk, IfSome};
+ghost use Rattle.std.specs.Prelude.{◌≡◌, true, [], IfOk, IfSome};
 ghost use Rattle.pat_context.specs.Views.{plain_ctor};
 ghost use Rattle.pattern_elaboration.specs.Placed.{IsLeafForm};
 
