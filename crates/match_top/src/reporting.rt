@@ -224,6 +224,7 @@ fn add_judged(
 }
 
 // Adds a function with what is found of it, what is unreachable and its overlapping ranges, over a scrutinee of this type.
+// These two lists are taken over, since the report has them as they stand; of the rest its names are made, so it is lent.
 fn add_found<'r>(
     alloc: Global,
     source: Source<'r>,
