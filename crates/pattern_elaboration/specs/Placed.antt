@@ -25,9 +25,9 @@ abbrev pub wrapped : List MType → Built → Built
 wrapped [] p = p
 wrapped (t ∷ ts) p = point t (wrapped ts p)
 
--- a form of patterns with nothing below and no names
-pub record IsLeafForm {T P : Type 0} (c : MCtor) (t : T) (f : Form T P) : Type 0 where
+-- a form without names over these patterns
+pub record IsFormOver {T P : Type 0} (c : MCtor) (t : T) (ps : List P) (f : Form T P) : Type 0 where
   pub ctor : plain_ctor f.ctor ≡ c
   pub ty : f.ty ≡ t
-  pub subs : f.subs.now ≡ []
+  pub subs : f.subs.now ≡ ps
   pub binds : f.binds.now ≡ []

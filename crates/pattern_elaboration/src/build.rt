@@ -34,8 +34,8 @@ pub fn fresh(next: &mut u64) -> Result<u64, NoMemory>
     Ok(uid)
 }
 
-/// The pattern of this form, with the number and the offset.
-pub fn of_form<'a>(form: &'a TableForm<'a>, uid: u64, at: u64) -> DePat<'a, TyId>
+// The pattern of this form, with the number and the offset.
+fn of_form<'a>(form: &'a TableForm<'a>, uid: u64, at: u64) -> DePat<'a, TyId>
     ensures { tree result ≡ de_pat (plain_ctor form.now.ctor) form.now.ty uid at
         (de_pats_of (map tree form.now.subs.now)) (map plain_bound form.now.binds.now) }
 {
@@ -77,9 +77,7 @@ pub fn leaf<'a>(
     ensures made { (any : AnyTable) → IsOf any ty
         → IfOk result (λ p. IsMade (IsOf any) next.old next.new (tree p)) }
 {
-    let uid = fresh(next)?;
-    let form = placer.place_leaf(ctor, ty)?;
-    Ok(of_form(form, uid, at))
+    over_placed(placer, next, ctor, ty, at, &[])
 }
 
 /// A pattern over others, one for each part.
@@ -119,7 +117,8 @@ pub fn over_placed<'a>(
         → IfOk result (λ p. IsMade (IsOf any) from next.new (tree p)) }
 {
     let uid = fresh(next)?;
-    make(placer, ctor, ty, uid, at, subs, &[])
+    let form = placer.place_over(ctor, ty, subs)?;
+    Ok(of_form(form, uid, at))
 }
 
 /// The pattern with one more name, before those that it has.
