@@ -4,7 +4,7 @@ ghost use Rattle.match_model.specs.ArenaPatterns.{de_pat, de_pats_of, no_de_pats
 ghost use Rattle.pat_context.specs.Views.{plain_ctor};
 ghost use Rattle.pat_context.specs.declared.toy.ToyTy.TheVariants.{Flag as FlagTy};
 ghost use Rattle.pattern_arena.specs.Examples.{flag_arm as plain_flag_arm};
-ghost use Rattle.pattern_arena.specs.Trees.{plain_arm, plain_bound, tree};
+ghost use Rattle.pattern_arena.specs.Trees.{placed_subs, plain_arm, plain_bound, tree};
 
 use no_memory::NoMemory;
 use pat_context::Ctor;
@@ -20,8 +20,9 @@ pub(crate) fn pattern<'a>(
     subs: &'a [DePat<'a, ToyTy>],
     binds: &'a [Bound<'a>],
 ) -> Result<DePat<'a, ToyTy>, NoMemory>
-    ensures { IfOk result (λ p. tree p
+    ensures tree { IfOk result (λ p. tree p
         ≡ de_pat (plain_ctor ctor.entry) ty uid uid (de_pats_of (map tree subs.now)) (map plain_bound binds.now)) }
+    ensures subs { IfOk result (λ p. placed_subs p ≡ subs.now) }
 {
     let form = placer.place_form(Form {
         ctor,
