@@ -1,4 +1,4 @@
--- What a text begins with whose first character tells it.
+-- What a text begins with, where that is a plain token.
 use Rattle.std.proofs.Common.{◌≡◌, ℕ, zero, suc, ◌<◌, Bool, true, false, cond, not, ◌&&◌, ◌||◌, ◌==◌, ◌^◌, nat_lt, List, [], ◌∷◌, drop, Some, refl, sym, ap, ◌∙◌, arith}
 use Rattle.std.specs.Char.{is_ascii_alphabetic, is_ascii_alphanumeric, is_digit}
 use Rattle.std.specs.List.{take_while}

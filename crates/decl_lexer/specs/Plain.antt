@@ -1,4 +1,4 @@
--- What the first two characters of a text tell of the token that it begins with.
+-- What the front of a text tells of a plain token that it begins with.
 use Rattle.std.specs.Prelude.{◌≡◌, ℕ, List, [], ◌∷◌, Bool, true, not, nat_lt, ◌&&◌, ◌||◌, ◌==◌, nat_le, Option, Some, None, chars}
 use Rattle.std.specs.Char.{is_ascii_alphanumeric}
 use lib.Chars.{codes}

@@ -68,7 +68,7 @@ read_view read.CStr = CText
 abbrev pub read_token_view : ReadToken → Placed
 read_token_view t = record { lexeme = read_view t.kind; from = t.from; to = t.to }
 
--- the same of a token that its first two characters tell
+-- the same of a plain token
 abbrev pub plain_view : PlainKind → Lexeme
 plain_view (plain.Mark mark) = Marked mark
 plain_view (plain.Word word) = Keyword word

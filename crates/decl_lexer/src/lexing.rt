@@ -93,8 +93,8 @@ fn behind_spaces(at: u64, rest: &str) -> (u64, &str)
     }
 }
 
-/// The token that the rest begins with, at byte `at` of its source, and the text behind the token, where the first two
-/// characters tell it. Else `None`, from which nothing follows.
+/// The token that the rest begins with, at byte `at` of its source, and the text behind the token, where it is
+/// plain. Else `None`, from which nothing follows.
 #[inline(always)]
 fn plain_token(at: u64, rest: &str) -> Option<(PlainToken<'_>, &str)>
     requires { at + length rest.now < 2 ^ 64 }

@@ -1,4 +1,4 @@
-//! Tokens that their first character or their first two tell.
+//! Plain tokens: those that are commonest, and are read without the ways by which any other token is found.
 ghost use Rattle.std.specs.Prelude.{◌≡◌, ◌<◌, ◌∷◌, IfSome, true, chars};
 ghost use Rattle.decl_lexer.specs.Begins.{Marked, token};
 ghost use Rattle.decl_lexer.specs.Marks.{mark_at};
@@ -15,9 +15,10 @@ use crate::read::PlainKind;
 use crate::text::{name_before, skip_name, split_first};
 use crate::words::word_of;
 
-/// The token that the text begins with, and the text behind it, where its first two characters tell of what kind it is:
-/// a name or keyword in ASCII, an integer up to 4 * 10^9, or one of the commonest marks. Else `None`, from which nothing
-/// follows. `behind` is the text behind its first character.
+/// The token that the text begins with, and the text behind it, where it is plain: a keyword or a name in ASCII, of those
+/// that begin with `b`, `c` or `r` where neither a quote nor `#` nor `r` follows; a decimal integer up to 4 * 10^9 + 9 that
+/// does not begin with 0, behind which nothing stands or a character of ASCII that goes on no number; or one of the
+/// commonest marks. Else `None`, from which nothing follows. `behind` is the text behind its first character.
 #[inline(always)]
 pub fn plain_kind<'a>(
     text: &'a str,

@@ -3,7 +3,7 @@ use crate::marks::Mark;
 use crate::token::IntToken;
 use crate::words::Word;
 
-/// A token that its first character or its first two tell.
+/// A plain token: one of the commonest kinds, which is read and kept without a value for any other.
 #[derive(Clone, Copy, Debug)]
 pub enum PlainKind<'a> {
     Mark(Mark),
@@ -14,7 +14,7 @@ pub enum PlainKind<'a> {
     Small(u32),
 }
 
-/// Such a token, and its place: the byte offsets in the file where it begins and where it ends.
+/// A plain token, and its place: the byte offsets in the file where it begins and where it ends.
 #[derive(Clone, Copy, Debug)]
 pub struct PlainToken<'a> {
     pub kind: PlainKind<'a>,

@@ -24,8 +24,8 @@ impl Recent {
     }
 }
 
-/// The place of a name. The factor is above the 26 letters, so that names in small letters have places of their own where
-/// their first letters differ by at most eight.
+/// The place of a name, by its first and last byte: names that have both in common share a place. Names in small letters
+/// whose first letters differ by at most eight share one only so, since the factor is above the 26 letters.
 pub fn place_of(text: &str) -> u8 {
     let bytes = text.as_bytes();
     match (bytes.first(), bytes.last()) {

@@ -197,7 +197,7 @@ impl Lists {
         }
     }
 
-    /// Keeps what a token is that its first two characters told.
+    /// Keeps what a plain token is.
     #[inline(always)]
     fn keep_plain(
         &mut self,
@@ -319,7 +319,7 @@ impl Tokens {
         Ok(())
     }
 
-    /// Appends a token that its first two characters told. Places and entries from 2^32 on are want of memory.
+    /// Appends a plain token. Places and entries from 2^32 on are want of memory.
     #[inline(always)]
     pub(crate) fn push_plain(
         &mut self,

@@ -1,11 +1,12 @@
 //! Patterns as the engine has them, in an arena.
 //!
 //! A pattern of the source is written for people: a name goes through references on its own, `..` stands for fields, a
-//! range has types behind it. The engine wants it plain: each pattern (`DePat`) is a constructor with its type and one
-//! pattern for each of its parts, references are written out, and an or-pattern is a constructor of its own, whose
-//! patterns below are its alternatives. The names that it binds stand beside it (`Bound`).
+//! range has types behind it. The engine wants it plain: a pattern (`DePat`) is a number, an offset and a form, and a form
+//! (`Form`) is a constructor with its type, one pattern for each of its parts, and the names that are bound (`Bound`).
+//! References are written out, and an or-pattern is a constructor of its own, whose patterns below are its alternatives.
 //!
-//! Patterns hold the patterns below them by reference, so that they are copied and taken apart without want of memory.
+//! Patterns hold their forms by reference, and forms the patterns below, so that they are copied and taken apart without
+//! want of memory, and patterns that are alike may share a form.
 //! All of one match stand in one arena (`bumpalo`), where a `Placer` puts them, and go together when it is reset. The
 //! borrow rules see to it that no pattern is used after that.
 //!

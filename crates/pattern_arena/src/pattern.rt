@@ -47,6 +47,7 @@ pub struct DePat<'a, T: Copy> {
     pub at: u64,
 }
 
+// Written out, since a pattern stands within its own form: for such a type the compiler proves no derived `Clone`.
 impl<'a, T: Copy> Clone for DePat<'a, T> {
     ghost is_clone = { λ pattern copy. copy ≡ pattern };
 
