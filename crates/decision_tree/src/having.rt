@@ -1,5 +1,5 @@
 // Which rows have which pieces of a column.
-ghost use Rattle.std.specs.Prelude.{◌≡◌, ◌∷◌, ◌<◌, ℕ, List, length, map, IfOk};
+ghost use Rattle.std.specs.Prelude.{◌≡◌, ◌<◌, ℕ, List, length, map, IfOk};
 ghost use Rattle.std.specs.List.{All};
 ghost use Rattle.match_model.specs.Lowering.{ctors_at};
 ghost use Rattle.match_model.specs.Steps.{specialise_head};

@@ -1,5 +1,5 @@
 // Pieces and cases.
-ghost use Rattle.std.specs.Prelude.{◌≡◌, ◌∷◌, [], IfOk, IfSome, IfNone, true, false};
+ghost use Rattle.std.specs.Prelude.{◌≡◌, IfOk, true, false};
 ghost use Rattle.match_model.specs.DecisionTrees.{case_of, is_switchless};
 ghost use Rattle.pat_context.specs.Views.{plain_ctor, plain_set};
 ghost use Rattle.tree_eval.specs.Nodes.{plain_case};

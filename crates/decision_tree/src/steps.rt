@@ -1,6 +1,6 @@
 // The steps of a matrix at a column, after each of which the rows are in order. Rows that a step keeps are in order
 // still; only rows whose or-patterns are taken apart are sorted.
-ghost use Rattle.std.specs.Prelude.{◌≡◌, ◌<◌, ℕ, List, length, IfOk};
+ghost use Rattle.std.specs.Prelude.{◌<◌, ℕ, List, length, IfOk};
 ghost use Rattle.std.specs.List.{All};
 ghost use Rattle.match_model.specs.Places.{MStep};
 ghost use Rattle.match_model.specs.Steps.{specialise_head, rows_at};

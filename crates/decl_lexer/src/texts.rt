@@ -1,5 +1,5 @@
 //! Texts, byte texts, C texts, and the raw ones.
-ghost use Rattle.std.specs.Prelude.{◌≡◌, ◌∷◌, [], ◌<◌, ◌≤◌, true, false, length, drop, MatchOption, chars, string_bytes, encode_utf8_all};
+ghost use Rattle.std.specs.Prelude.{◌≡◌, ◌<◌, ◌≤◌, true, false, length, drop, MatchOption, chars, string_bytes, encode_utf8_all};
 ghost use Rattle.std.specs.List.{take_while};
 ghost use Rattle.decl_lexer.specs.Text.{skip_while, first_passes};
 ghost use Rattle.decl_lexer.specs.Texts.{begins_line_end, behind_blanks, is_ordinary, text_from, text_at, is_hash, has_hashes, raw_from, is_raw_text, raw_text_at, text_lexeme};

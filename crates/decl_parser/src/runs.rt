@@ -1,5 +1,5 @@
 //! Runs: tokens that are skipped, whose brackets pair up.
-ghost use Rattle.std.specs.Prelude.{◌≡◌, ◌&&◌, []};
+ghost use Rattle.std.specs.Prelude.{◌≡◌, ◌&&◌};
 ghost use Rattle.decl_lexer.specs.Begins.{Marked};
 ghost use Rattle.decl_syntax.specs.Units.{left, unit_view, first_passes};
 ghost use Rattle.decl_syntax.specs.Reading.{Gives};

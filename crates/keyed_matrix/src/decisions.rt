@@ -1,5 +1,5 @@
 // What the alternatives of a match decide.
-ghost use Rattle.std.specs.Prelude.{◌≡◌, ◌+◌, ◌∷◌, [], ℕ, length, map, nat_lt, cond, IfOk, OnOk};
+ghost use Rattle.std.specs.Prelude.{◌≡◌, ◌+◌, ◌∷◌, [], ℕ, map, cond, IfOk, OnOk};
 ghost use Rattle.match_model.specs.ArenaPatterns.{de_pats_of};
 ghost use Rattle.match_model.specs.Numbering.{or_count, is_choice, decisions_in, match_decisions, own_decision};
 ghost use Rattle.pattern_arena.specs.Trees.{tree, placed_ctor, placed_subs, plain_match};

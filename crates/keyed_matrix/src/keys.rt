@@ -1,5 +1,5 @@
 // What was decided of the or-patterns of an arm.
-ghost use Rattle.std.specs.Prelude.{◌≡◌, ◌<◌, ℕ, [], ◌∷◌, true, map, IfOk, OnOk};
+ghost use Rattle.std.specs.Prelude.{◌≡◌, ◌<◌, ℕ, true, map, IfOk, OnOk};
 ghost use Rattle.match_model.specs.Lists.{Every};
 ghost use Rattle.match_model.specs.Keys.{key_of};
 ghost use Rattle.keyed_matrix.specs.KeyLists.{DoAscend, put_decision};

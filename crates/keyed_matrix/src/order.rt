@@ -1,5 +1,5 @@
 // Rows in the order in which their arms and alternatives are tried.
-ghost use Rattle.std.specs.Prelude.{◌≡◌, ◌<◌, ◌++◌, ◌∷◌, [], map, IfOk, OnOk, All};
+ghost use Rattle.std.specs.Prelude.{◌≡◌, ◌<◌, IfOk, All};
 ghost use Rattle.match_model.specs.Lists.{Ordered};
 ghost use Rattle.match_model.specs.RowOrder.{AreInOrder};
 ghost use Rattle.keyed_matrix.specs.Deciding.{table_decides};

@@ -1,5 +1,5 @@
 // Writes a whole text to a sink that may take any part of a piece.
-ghost use Rattle.std.specs.Prelude.{◌≡◌, ℕ, ◌≤◌, OnOk, OnErr, take};
+ghost use Rattle.std.specs.Prelude.{OnOk, take};
 ghost use Rattle.std.specs.Io.KnownBytes.{Appends};
 ghost use Rattle.match_io.specs.Causes.{HasCause};
 ghost use Rattle.match_top.specs.Writing.{AppendsPart};

@@ -1,19 +1,16 @@
 //! The first or-pattern whose alternatives do not all bind the same.
-ghost use Rattle.std.specs.Prelude.{◌≡◌, true, false, None, ℕ, List, map, length, IfOk, OnOk};
+ghost use Rattle.std.specs.Prelude.{◌≡◌, true, false, None, ℕ, List, map, IfOk, OnOk};
 ghost use Rattle.decl_syntax.specs.Patterns.{Or, pattern_view, shape_view, patterns_from, field_view, fields_from};
 ghost use Rattle.decl_syntax.specs.Widths.{pattern_count};
-ghost use Rattle.match_model.specs.RustTypes.{inner_type};
 ghost use Rattle.type_table.specs.Lookups.{field_names as names_of_variant};
 ghost use Rattle.type_table.specs.Tables.{IsOf, table_program, table_type, fields_of_type, type_variant};
 ghost use Rattle.pattern_rules.specs.Settings.{Setting, Place as AnyPlace, place, rest_type};
-ghost use Rattle.pattern_rules.specs.Nodes.{Standing, AsItem, nodes, nodes_within};
-ghost use Rattle.pattern_rules.specs.Nodes.{part_nodes, field_nodes, item_nodes, alternative_nodes, is_rest};
+ghost use Rattle.pattern_rules.specs.Nodes.{Standing, AsItem, nodes};
+ghost use Rattle.pattern_rules.specs.Nodes.{part_nodes, field_nodes, item_nodes, is_rest};
 ghost use Rattle.pattern_rules.specs.NodeRules.{is_tuple};
-ghost use Rattle.pattern_rules.specs.OtherRules.{some_differ};
-ghost use Rattle.pattern_rules.specs.Faults.{node_rules};
 ghost use Rattle.pattern_check.specs.Checking.{IsOfFile, IsSettingOf};
-ghost use Rattle.pattern_check.specs.NodeForms.{node_at, pick};
-ghost use Rattle.pattern_check.specs.Walks.{fault_at, earlier, first_in, types_of_parts};
+ghost use Rattle.pattern_check.specs.NodeForms.{pick};
+ghost use Rattle.pattern_check.specs.Walks.{fault_at, earlier, types_of_parts};
 ghost use Rattle.pattern_check.specs.BoundSets.{bounds_view, AreHeld, BoundsAre, BoundsWithin, Told, IsFirst};
 
 use crate::fault::NodeFault;

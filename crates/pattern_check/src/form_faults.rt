@@ -3,7 +3,7 @@ ghost use Rattle.std.specs.Prelude.{◌≡◌, ◌&&◌, not, false, Bool, map, 
 ghost use Rattle.match_model.specs.declared.Mode.{Mode as AnyMode};
 ghost use Rattle.decl_syntax.specs.Patterns.{path_view, pattern_view, patterns_from, field_view, fields_from};
 ghost use Rattle.decl_syntax.specs.Patterns as patterns;
-ghost use Rattle.type_names.specs.Finding.{FoundTree, found_form};
+ghost use Rattle.type_names.specs.Finding.{FoundTree};
 ghost use Rattle.type_table.specs.Paths.{FoundIs, FoundOf};
 ghost use Rattle.type_table.specs.Lookups.{field_names};
 ghost use Rattle.type_table.specs.Tables.{IsOf, table_program, table_type, type_variant};

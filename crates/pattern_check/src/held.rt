@@ -1,18 +1,17 @@
 // What a node binds: a name, the type of what it holds, and its mode.
 ghost use Rattle.std.specs.Prelude.{◌≡◌, ◌&&◌, [], ◌∷◌, ℕ, List, OnOk, IfOk};
 ghost use Rattle.match_model.specs.declared.Mode.{Mode as AnyMode};
-ghost use Rattle.match_model.specs.Matching.{mode_written, to_move};
 ghost use Rattle.decl_syntax.specs.Patterns.{shape_view};
 ghost use Rattle.type_table.specs.Tables.{IsOf, table_type};
 ghost use Rattle.pattern_rules.specs.Settings.{Setting, place};
 ghost use Rattle.pattern_rules.specs.Nodes.{Standing};
 ghost use Rattle.pattern_rules.specs.Namings.{is_path_name};
 ghost use Rattle.match_model.specs.Patterns.{WrittenPlain};
-ghost use Rattle.pattern_rules.specs.OtherRules.{written, bound_by, bound_name, bound_unless, are_among};
+ghost use Rattle.pattern_rules.specs.OtherRules.{bound_by, bound_name, bound_unless, are_among};
 ghost use Rattle.pattern_check.specs.Checking.{IsOfFile, IsSettingOf};
 ghost use Rattle.pattern_check.specs.NodeForms.{node_at};
 ghost use Rattle.pattern_check.specs.BoundSets.{held_type, shortened, IsHeld, AreHeld};
-ghost use Rattle.pattern_check.specs.BoundSets.{bound_view, bounds_view, bound_list, Binds};
+ghost use Rattle.pattern_check.specs.BoundSets.{bounds_view, bound_list, Binds};
 
 use crate::names::is_path_name;
 use crate::types::{Place, row_of};

@@ -1,5 +1,5 @@
 // The rules that names, bindings and reference patterns break.
-ghost use Rattle.std.specs.Prelude.{◌≡◌, ◌&&◌, ◌||◌, Bool, List, ℕ, Option, not};
+ghost use Rattle.std.specs.Prelude.{◌≡◌, ◌&&◌, ◌||◌, Bool, Option, not};
 ghost use Rattle.match_model.specs.declared.Mode.{Mode as AnyMode};
 ghost use Rattle.match_model.specs.Types.{MType};
 ghost use Rattle.decl_syntax.specs.Patterns.{PatternTree, bind_shape};

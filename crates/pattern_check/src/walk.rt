@@ -1,5 +1,5 @@
 //! The first node of a pattern that breaks a rule.
-ghost use Rattle.std.specs.Prelude.{◌≡◌, false, ◌<◌, ◌^◌, ◌-◌, ◌≤◌, ℕ, suc, map, position, if◌then◌else◌, IfOk};
+ghost use Rattle.std.specs.Prelude.{◌≡◌, false, ◌<◌, ◌^◌, ◌-◌, ◌≤◌, ℕ, suc, map, if◌then◌else◌, IfOk};
 ghost use Rattle.decl_syntax.specs.Patterns.{pattern_view, shape_view, patterns_from, field_view, fields_from};
 ghost use Rattle.decl_syntax.specs.Widths.{pattern_count};
 ghost use Rattle.match_model.specs.RustTypes.{inner_type};

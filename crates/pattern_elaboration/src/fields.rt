@@ -1,5 +1,5 @@
 //! All parts of a struct, variant or tuple, from those that are written.
-ghost use Rattle.std.specs.Prelude.{◌≡◌, ◌≤◌, ℕ, map, IfOk};
+ghost use Rattle.std.specs.Prelude.{◌≡◌, ℕ, map, IfOk};
 ghost use Rattle.match_model.specs.Constructors.{WildCtor};
 ghost use Rattle.match_model.specs.Declarations.{node_types};
 ghost use Rattle.match_model.specs.RustTypes.{rust_set};

@@ -1,5 +1,5 @@
 //! Rows of slices and arrays, and tuples, from their items.
-ghost use Rattle.std.specs.Prelude.{◌≡◌, ◌+◌, ◌-◌, ◌≤◌, ℕ, true, ◌∷◌, [], ◌++◌, length, map, take, drop, IfOk};
+ghost use Rattle.std.specs.Prelude.{◌≡◌, ◌+◌, ◌-◌, ◌≤◌, ℕ, true, [], ◌++◌, length, map, take, drop, IfOk};
 ghost use Rattle.match_model.specs.declared.Mode.{Mode as AnyMode};
 ghost use Rattle.match_model.specs.Types.{types_list};
 ghost use Rattle.match_model.specs.Constructors.{SingleCtor, WildCtor};

@@ -1,16 +1,13 @@
 //! The match of a function, arm by arm.
-ghost use Rattle.std.specs.Prelude.{◌≡◌, ℕ, Some, IsSomeAnd, IfSome, map, slice_get, nat_eq, IfOk};
-ghost use Rattle.std.specs.List.{Contains, IsDistinct, flat_map};
-ghost use Rattle.match_model.specs.Lists.{Each, Every};
-ghost use Rattle.match_model.specs.ArenaPatterns.{type_of};
-ghost use Rattle.match_model.specs.WellTyped.{uids_in};
+ghost use Rattle.std.specs.Prelude.{◌≡◌, ℕ, Some, IsSomeAnd, IfSome, map, slice_get, IfOk};
+ghost use Rattle.std.specs.List.{Contains};
+ghost use Rattle.match_model.specs.Lists.{Each};
 ghost use Rattle.decl_syntax.specs.Functions.{function_view};
 ghost use Rattle.decl_syntax.specs.Items.{ItemTree, ArmTree, arm_view};
 ghost use Rattle.type_table.specs.Tables.{IsOf, table_type};
 ghost use Rattle.pattern_arena.specs.Trees.{plain_arm, plain_match};
 ghost use Rattle.pattern_rules.specs.Settings.{Setting};
 ghost use Rattle.pattern_rules.specs.Faults.{function_of, BreaksNone};
-ghost use Rattle.pattern_rules.specs.ArenaForms.{all_within};
 ghost use Rattle.pattern_rules.specs.ShownMatches.{IsSoundArm, IsShownMatch};
 ghost use Rattle.pattern_elaboration.specs.Checking.{IsOfFile, IsSettingOf};
 ghost use Rattle.pattern_elaboration.specs.Numbered.{AreMade};

@@ -1,5 +1,5 @@
 //! The variants and fields of types.
-ghost use Rattle.std.specs.Prelude.{◌≡◌, ◌<◌, nat_eq, nat_lt, if◌then◌else◌, ◌∷◌, [], List, Some};
+ghost use Rattle.std.specs.Prelude.{◌≡◌, ◌<◌, nat_eq, nat_lt, if◌then◌else◌, List, Some};
 ghost use Rattle.std.specs.Prelude.{length, slice_get, option_map, IsSome};
 ghost use Rattle.match_model.specs.Types.{MType, OptionOwner, ResultOwner, NamedType, more_types, no_types};
 ghost use Rattle.match_model.specs.Declarations.{MProgram, variant_types, item_variants};

@@ -1,11 +1,10 @@
 // Values without parts.
-ghost use Rattle.std.specs.Prelude.{◌≡◌, ℕ, pos, Bool, true, false, chars, option_map, IfOk};
+ghost use Rattle.std.specs.Prelude.{◌≡◌, pos, Bool, true, false, chars, option_map, IfOk};
 ghost use Rattle.match_model.specs.declared.IntKind.TheVariants.{U8 as ByteKind};
-ghost use Rattle.match_model.specs.Types.{MType};
 ghost use Rattle.match_model.specs.Values.{Flag, Num as MNum, Text, Point, Thing, Later, Unseen};
 ghost use Rattle.number_kinds.specs.Kinds.{kind_type};
 ghost use Rattle.pattern_rules.specs.Literals.{is_char, is_kind, has_suffix_type};
-ghost use Rattle.range_split.specs.Numbers.{num_value, signed};
+ghost use Rattle.range_split.specs.Numbers.{signed};
 ghost use Rattle.tree_eval.specs.Views.{plain_value};
 ghost use Rattle.type_table.specs.Tables.{IsOf, table_program, table_type};
 ghost use Rattle.value_text.specs.Meanings.{if_value, literal_of};

@@ -1,7 +1,6 @@
 // What a report on a whole file comes to, in numbers.
 ghost use Rattle.std.specs.Prelude.{◌≡◌, ◌+◌, ◌++◌, ◌∷◌, [], ℕ, List, if◌then◌else◌, IfOk, string_bytes};
 ghost use Rattle.serde_json.specs.View.{view};
-ghost use Rattle.serde_json.specs.Written.{has_float, compact_text};
 ghost use Rattle.verdict_json.specs.Report.{ReportEntry, JudgedFunction, RefusedFunction};
 ghost use Rattle.verdict_json.specs.declared.refusal.Refusal.{Refusal};
 ghost use Rattle.verdict_json.specs.Summaries.{IsSummary, summary_data, summary_text};

@@ -2,7 +2,7 @@
 ghost use Rattle.std.specs.Prelude.{◌≡◌, map, IfOk};
 ghost use Rattle.match_model.specs.Declarations.{node_types};
 ghost use Rattle.match_model.specs.RustTypes.{inner_type};
-ghost use Rattle.match_model.specs.Witness.{MWitness, NodeOf, witnesses_of};
+ghost use Rattle.match_model.specs.Witness.{NodeOf, witnesses_of};
 ghost use Rattle.type_table.specs.Tables.{IsOf, table_program, table_type};
 ghost use Rattle.witnesses.specs.Views.{plain_witness, plain_strings};
 ghost use Rattle.witness_text.specs.Trees.{witness_view, texts_view, field_view};

@@ -2,8 +2,6 @@
 ghost use Rattle.std.specs.Prelude.{◌≡◌, false, map, option_map, IfOk, IfSome};
 ghost use Rattle.match_model.specs.OfType.{type_at_place};
 ghost use Rattle.match_model.specs.RustTypes.{rust_context};
-ghost use Rattle.match_model.specs.Trees.{MBranch};
-ghost use Rattle.match_model.specs.Types.{MType};
 ghost use Rattle.pat_context.specs.Places.{steps_of};
 ghost use Rattle.pat_context.specs.Views.{plain_place};
 ghost use Rattle.tree_eval.specs.Nodes.{plain_case, plain_branch, plain_node, tree_nodes};

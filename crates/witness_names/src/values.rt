@@ -1,8 +1,8 @@
 // Values with the names by which they are written.
-ghost use Rattle.std.specs.Prelude.{◌≡◌, ℕ, map, chars, encode_utf8_all, string_bytes, IfOk};
+ghost use Rattle.std.specs.Prelude.{◌≡◌, map, chars, encode_utf8_all, string_bytes, IfOk};
 ghost use Rattle.match_model.specs.Declarations.{node_types};
 ghost use Rattle.match_model.specs.RustTypes.{inner_type};
-ghost use Rattle.match_model.specs.Values.{MValue, Node, values_of};
+ghost use Rattle.match_model.specs.Values.{Node, values_of};
 ghost use Rattle.range_split.specs.Numbers.{num_value};
 ghost use Rattle.tree_eval.specs.Views.{plain_value};
 ghost use Rattle.type_table.specs.Tables.{IsOf, table_program, table_type};
