@@ -18,12 +18,26 @@ use Rattle.type_table.specs.declared.entries.Entry.{Entry}
 use Rattle.type_table.specs.declared.entries.Entry.TheVariants as entries
 use Rattle.type_table.specs.Nodes.{head_type, type_at, first_type, fits_head, are_below}
 use Rattle.type_table.specs.Entries.{field_entry, variant_entry, entry_told, form_with, field_below, variant_below, entry_below}
-use Rattle.type_table.specs.Bodies.{node_atoms, each_alone, outright, base_bodies, point_bodies, array_bodies, item_bodies, node_bodies, form_atoms, variant_body, enum_bodies, entry_bodies}
+use Rattle.type_table.specs.Bodies.{node_atoms, each_alone, outright, base_bodies, point_bodies, array_bodies, item_bodies, node_bodies, form_atoms, variant_body, asks_nothing, least_asking, enum_bodies, entry_bodies}
 use Rattle.type_table.specs.Possible.{may_be, may_all_be, may_some_be, is_unseen, item_may_be}
 
 -- all atoms of one of the bodies hold
 abbrev pub some_body : (ℕ → Bool) → List (List ℕ) → Bool
 some_body f bodies = list_any (list_all f) bodies
+
+-- a body that asks nothing holds
+bare_holds : (f : ℕ → Bool) (bodies : List (List ℕ)) → list_any asks_nothing bodies ≡ true → some_body f bodies ≡ true
+bare_holds f [] h = h
+bare_holds f ([] ∷ bs) h = refl
+bare_holds f ((a ∷ atoms) ∷ bs) h = or_right (list_all f (a ∷ atoms)) (some_body f bs) (bare_holds f bs h)
+
+-- so beside it the others need not be asked
+least_says : (f : ℕ → Bool) (bodies : List (List ℕ)) → some_body f bodies ≡ some_body f (least_asking bodies)
+least_says f bodies = by (list_any asks_nothing bodies) refl
+  where
+    by : (b : Bool) → list_any asks_nothing bodies ≡ b → some_body f bodies ≡ some_body f (cond b outright bodies)
+    by true e = bare_holds f bodies e
+    by false e = refl
 
 -- what an atom says: of an item its mark, of a node what its type says by the marks
 abbrev pub atom_says : (sure : Bool) → (count : ℕ) → (marks : List Bool) → (types : List MType) → ℕ → Bool
@@ -135,8 +149,8 @@ module _ (sure : Bool) (count : ℕ) (marks : List Bool) (types : List MType) wh
       (is_unseen s (map (variant_entry types) vs) || any) ≡ some_body Says (enum_bodies s false (map (variant_body count) vs))
   enum_says true [] any e = e
   enum_says false [] any e = refl
-  enum_says true (v ∷ vs) any e = e
-  enum_says false (v ∷ vs) any e = e
+  enum_says true (v ∷ vs) any e = e ∙ least_says Says (map (variant_body count) (v ∷ vs))
+  enum_says false (v ∷ vs) any e = e ∙ least_says Says (map (variant_body count) (v ∷ vs))
 
   -- an item has a value where all atoms of one of its bodies say so
   pub item_is : (e : Entry) → item_may_be sure marks (Some (entry_told types e).item) ≡ some_body Says (entry_bodies sure count e)
@@ -259,11 +273,18 @@ within_variants count n (v ∷ vs) h =
     let halves = and_parts (variant_below n v) (list_all (variant_below n) vs) h in
     rw (within_variant count n v halves.0, within_variants count n vs halves.1) refl
 
+within_least : (w : List ℕ → Bool) (bodies : List (List ℕ)) → w [] ≡ true → list_all w bodies ≡ true → list_all w (least_asking bodies) ≡ true
+within_least w bodies e h = by (list_any asks_nothing bodies)
+  where
+    by : (b : Bool) → list_all w (cond b outright bodies) ≡ true
+    by true = rw e refl
+    by false = h
+
 within_enum : (sure later : Bool) (w : List ℕ → Bool) (bodies : List (List ℕ)) → w [] ≡ true → list_all w bodies ≡ true → list_all w (enum_bodies sure later bodies) ≡ true
 within_enum sure true w bodies e h = rw e refl
-within_enum true false w bodies e h = h
+within_enum true false w bodies e h = within_least w bodies e h
 within_enum false false w [] e h = rw e refl
-within_enum false false w (b ∷ bs) e h = h
+within_enum false false w (b ∷ bs) e h = within_least w (b ∷ bs) e h
 
 pub entry_within : (sure : Bool) (count n : ℕ) (e : Entry) → entry_below n e ≡ true → list_all (list_all (λ a. nat_lt a (count + n))) (entry_bodies sure count e) ≡ true
 entry_within sure count n (entries.Struct id v) h =

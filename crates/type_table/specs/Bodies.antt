@@ -2,6 +2,7 @@
 -- is our own choice). Of `count` items the item `i` is the atom `i`, and the node `n` is the atom `count + n`; an atom holds
 -- where all atoms of one of its bodies do.
 use Rattle.std.specs.Prelude.{ℕ, ◌+◌, Bool, true, false, List, [], ◌∷◌, ◌++◌, map, nat_eq, nat_lt, if◌then◌else◌}
+use Rattle.std.specs.List.{list_any}
 use Rattle.type_names.specs.declared.meanings.Base.{Base}
 use Rattle.type_names.specs.declared.meanings.Base.TheVariants as bases
 use Rattle.type_names.specs.declared.meanings.Owner.TheVariants as owners
@@ -69,13 +70,22 @@ form_atoms _ atoms = atoms
 abbrev pub variant_body : (count : ℕ) → declared_variant.VariantEntry → List ℕ
 variant_body count v = form_atoms v.form (node_atoms count (map (λ f. f.ty) v.fields.items))
 
+-- nothing is asked
+abbrev pub asks_nothing : List ℕ → Bool
+asks_nothing [] = true
+asks_nothing (a ∷ atoms) = false
+
+-- one of the bodies; where one of them asks nothing, that one alone
+abbrev pub least_asking : List (List ℕ) → List (List ℕ)
+least_asking bodies = if list_any asks_nothing bodies then outright else bodies
+
 -- what an enum asks: one of its variants, unless later ones may come; without variants it has its bare unseen value where the
 -- place is not sure
 abbrev pub enum_bodies : (sure later : Bool) → List (List ℕ) → List (List ℕ)
 enum_bodies sure true bodies = outright
-enum_bodies true false bodies = bodies
+enum_bodies true false bodies = least_asking bodies
 enum_bodies false false [] = outright
-enum_bodies false false (b ∷ bs) = b ∷ bs
+enum_bodies false false (b ∷ bs) = least_asking (b ∷ bs)
 
 -- what an item asks
 abbrev pub entry_bodies : (sure : Bool) → (count : ℕ) → Entry → List (List ℕ)

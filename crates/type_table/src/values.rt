@@ -1,12 +1,12 @@
 //! Which types have values, by Horn clauses over items and nodes: the item `i` is the atom `i`, and the node `n` is the
 //! atom that many behind the items.
-ghost use Rattle.std.specs.Prelude.{◌≡◌, ◌<◌, ◌+◌, ◌^◌, ◌++◌, ◌∷◌, [], true, map, length, IfOk, OnOk};
-ghost use Rattle.std.specs.List.{All, list_all};
+ghost use Rattle.std.specs.Prelude.{◌≡◌, ◌<◌, ◌+◌, ◌^◌, ◌++◌, ◌∷◌, [], ℕ, true, map, length, IfOk, OnOk};
+ghost use Rattle.std.specs.List.{All, list_all, list_any};
 ghost use Rattle.type_table.specs.Nodes.{AreNodes};
 ghost use Rattle.type_table.specs.Entries.{entry_below, variant_below};
 ghost use Rattle.type_table.specs.Possible.{TellsValues};
 ghost use Rattle.type_table.specs.Bodies.{node_atoms, each_alone, outright, item_bodies, bodies_of};
-ghost use Rattle.type_table.specs.Bodies.{variant_body, entry_bodies, said, said_from, clause_pair};
+ghost use Rattle.type_table.specs.Bodies.{asks_nothing, variant_body, entry_bodies, said, said_from, clause_pair};
 
 use crate::entries::{Entry, FieldEntry, VariantEntry};
 use crate::nodes::{Head, Node};
@@ -58,7 +58,7 @@ fn entries_room(items: &[Entry]) -> usize {
     for item in items {
         room = room.saturating_add(match item {
             Entry::Struct { .. } => 1,
-            Entry::Enum { variants, .. } => variants.len().max(1),
+            Entry::Enum { variants, .. } => enum_room(variants),
             Entry::Function { .. } => 0,
             Entry::Import => 0,
         });
@@ -99,6 +99,15 @@ fn value_atoms(
     let clauses = all_clauses(alloc, sure, nodes, items)?;
     let count = (items.len() + nodes.len()) as u32;
     least_model(alloc, count, &clauses)
+}
+
+// At most how many clauses an enum has.
+fn enum_room(variants: &[VariantEntry]) -> usize {
+    if some_asks_nothing(variants) {
+        1
+    } else {
+        variants.len().max(1)
+    }
 }
 
 // Adds the clauses of the items.
@@ -167,7 +176,7 @@ fn add_entry(
             variants,
             ..
         } => {
-            if *later || (!sure && variants.is_empty()) {
+            if *later || (!sure && variants.is_empty()) || some_asks_nothing(variants) {
                 add_fact(alloc, clauses, head)
             } else {
                 add_variants(alloc, clauses, count, size, head, variants)
@@ -197,6 +206,29 @@ fn add_variants(
         clauses.push(Clause { head, body })?;
     }
     Ok(())
+}
+
+// Whether one of the variants has no fields: then an enum has a value, whatever the others ask.
+fn some_asks_nothing(variants: &[VariantEntry]) -> bool
+    ensures { (count : ℕ) → result ≡ list_any asks_nothing (map (variant_body count) variants.now) }
+{
+    for variant in variants {
+        if has_no_fields(variant) {
+            return true;
+        }
+    }
+    false
+}
+
+// Whether a variant has no fields.
+fn has_no_fields(variant: &VariantEntry) -> bool
+    ensures { (count : ℕ) → result ≡ asks_nothing (variant_body count variant.now) }
+{
+    match variant.form {
+        FormKind::Unit => true,
+        FormKind::Tuple => variant.fields.is_empty(),
+        FormKind::Brace => variant.fields.is_empty(),
+    }
 }
 
 // The atoms of the fields of a variant.
