@@ -6,7 +6,7 @@ ghost use Rattle.pattern_elaboration.specs.Placed.{IsFormOver};
 use no_memory::NoMemory;
 use pat_context::Ctor;
 use pattern_arena::{DePat, Form, Placer};
-use std::cell::Cell;
+use std::cell::RefCell;
 use std::hash::{FoldHasher, Hash, Hasher};
 use type_table::TyId;
 
@@ -23,7 +23,7 @@ pub struct FormPlacer<'a> {
     pub arena: Placer<'a>,
     // Forms of leaves that were placed of late, each where its constructor and its type say. They are no more than hints:
     // what stands here is compared.
-    recent: Cell<[Option<&'a TableForm<'a>>; REMEMBERED]>,
+    recent: RefCell<[Option<&'a TableForm<'a>>; REMEMBERED]>,
 }
 
 impl<'a> FormPlacer<'a> {
@@ -33,7 +33,7 @@ impl<'a> FormPlacer<'a> {
     {
         FormPlacer {
             arena,
-            recent: Cell::new([None; REMEMBERED]),
+            recent: RefCell::new([None; REMEMBERED]),
         }
     }
 
@@ -63,8 +63,7 @@ impl<'a> FormPlacer<'a> {
         ensures { IfOk result (λ form. IsFormOver (plain_ctor ctor.entry) ty [] form.now) }
     {
         let place = place_of(&ctor, ty);
-        let recent = self.recent.get();
-        if let Some(form) = recent[place] {
+        if let Some(form) = self.remembered(place) {
             if is_leaf_like(form, &ctor, ty) {
                 return Ok(form);
             }
@@ -79,13 +78,24 @@ impl<'a> FormPlacer<'a> {
         Ok(form)
     }
 
+    // The form that is remembered at the place. The list is held for no longer than that; that it is free is not proved, and
+    // where it was not, a form would only be placed anew.
+    fn remembered(&self, place: usize) -> Option<&'a TableForm<'a>>
+        requires { place < REMEMBERED }
+    {
+        match self.recent.try_borrow() {
+            Ok(recent) => recent[place],
+            Err(_held) => None,
+        }
+    }
+
     // Remembers the form at the place.
     fn remember(&self, place: usize, form: &'a TableForm<'a>)
         requires { place < REMEMBERED }
     {
-        let mut recent = self.recent.get();
-        recent[place] = Some(form);
-        self.recent.set(recent);
+        if let Ok(mut recent) = self.recent.try_borrow_mut() {
+            recent[place] = Some(form);
+        }
     }
 }
 
