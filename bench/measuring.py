@@ -42,14 +42,14 @@ def source_name(kind, name, n):
     return f"{kind}_" + "".join(c if c.isalnum() else "_" for c in name) + f"_{n}.rs"
 
 
-def run(command):
-    """The processor time of a run, its peak memory in MB, and its status. What it prints is lost."""
+def run(command, stack=STACK):
+    """The processor time of a run with so many bytes of stack, its peak memory in MB, and its status. What it prints is lost."""
     pid = os.fork()
     if pid == 0:
         none = os.open(os.devnull, os.O_WRONLY)
         os.dup2(none, 1)
         os.dup2(none, 2)
-        resource.setrlimit(resource.RLIMIT_STACK, (STACK, STACK))
+        resource.setrlimit(resource.RLIMIT_STACK, (stack, stack))
         os.execvp(command[0], command)
     _, status, usage = os.wait4(pid, 0)
     return usage.ru_utime + usage.ru_stime, usage.ru_maxrss / 1024, os.waitstatus_to_exitcode(status)
