@@ -317,6 +317,3 @@ impl Sink for MemorySink {
         Ok(count)
     }
 }
-
-#[cfg(test)]
-mod tests;

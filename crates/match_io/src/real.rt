@@ -107,6 +107,3 @@ impl<'a, R: Print> Sink for RealOut<'a, R> {
         }
     }
 }
-
-#[cfg(test)]
-mod tests;
