@@ -29,8 +29,6 @@ mod source;
 mod statuses;
 mod telling;
 mod top;
-#[cfg(test)]
-mod tree_tests;
 mod trees;
 mod words;
 mod writing;
