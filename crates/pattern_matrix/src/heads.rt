@@ -129,6 +129,24 @@ impl<'a, T: Copy> Heads<'a, T> {
         }
     }
 
+    /// The same heads, in the same order. Several of them are shared, not copied. The only error is want of memory.
+    pub fn shared(&self) -> Result<Self, NoMemory>
+        ensures { IfOk result (λ h. kept_heads h ≡ kept_heads self.now) }
+    {
+        match self {
+            Heads::Bare => Ok(Heads::Bare),
+            Heads::One(one) => Ok(Heads::One(*one)),
+            Heads::Several(part) => {
+                let list = part.list.clone()?;
+                Ok(Heads::Several(HeadPart {
+                    list,
+                    first: part.first,
+                    count: part.count,
+                }))
+            }
+        }
+    }
+
     /// How many heads these are.
     pub fn len(&self) -> usize
         ensures { result ≡ length (kept_heads self.now) }
