@@ -156,7 +156,7 @@ module _ {T : Type 0} (IsType : T → Type 0) (IsValue : T → Bool → MValue �
       (record { ascend = values.ascend o.type d.0; ranges = values.made o.type d.0; allowed = column; made = column_made es m }) ps.1 i))
       us a.1 (λ vs b. expand_takes (row ∷ rows) vs ∙ f vs b)))
 
-  none_left : (w : ℕ) (places : List (Open T)) (hss : List (List (Head T))) → total hss < w → LeaveNone places hss
+  pub none_left : (w : ℕ) (places : List (Open T)) (hss : List (List (Head T))) → total hss < w → LeaveNone places hss
   none_left zero places hss l = absurd (omega (arith, l))
   none_left (suc w) places hss l = none_by w (none_left w) places hss l
 
