@@ -1,2 +1,0 @@
-mod FlagMatch
-mod TwoNodes
