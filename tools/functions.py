@@ -1,15 +1,17 @@
 """The functions of a crate's sources: where each stands, what it calls, whether it is public, generic or takes memory.
 
-It reads `.rt` files by their tokens, without types: a call is a name before `(` or `::<`, so two functions of one name count as one where nothing
-tells them apart. Names are those that a check prints: the modules of a file, then the type, then for a method of a trait's impl the trait too.
+It reads `.rt` files by their tokens, without types: a call is a name before `(` or `::<`, so two functions of one
+name count as one where nothing tells them apart. Names are those that a check prints: the modules of a file, then the
+type, then for a method of a trait's impl the trait too.
 """
 import dataclasses
 import pathlib
 import re
 
 TOKEN = re.compile(
-    r"""(?P<gap>\s+|//[^\n]*|/\*.*?\*/)|(?P<text>b?r(?P<marks>\#*)".*?"(?P=marks)|b?"(?:\\.|[^"\\])*")|(?P<char>b?'(?:\\[^\n]{1,10}?|[^'\\\n])')"""
-    r"""|(?P<life>'\w+)|(?P<word>[^\W\d]\w*)|(?P<number>\d\w*)|(?P<mark>::|->|=>|\.\.=|\.\.|.)""",
+    r"""(?P<gap>\s+|//[^\n]*|/\*.*?\*/)|(?P<text>b?r(?P<marks>\#*)".*?"(?P=marks)|b?"(?:\\.|[^"\\])*")"""
+    r"""|(?P<char>b?'(?:\\[^\n]{1,10}?|[^'\\\n])')|(?P<life>'\w+)|(?P<word>[^\W\d]\w*)|(?P<number>\d\w*)"""
+    r"""|(?P<mark>::|->|=>|\.\.=|\.\.|.)""",
     re.S | re.X,
 )
 CLAUSES = ("requires", "ensures", "ghost")

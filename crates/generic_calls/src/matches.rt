@@ -15,8 +15,8 @@ use pattern_arena::laws::placed_patterns_stand;
 use pattern_arena::{CheckedMatch, Placer};
 use std::alloc::Global;
 
-/// The match of a flag with an arm for each of the two. It is well typed and exhaustive, and both arms are reachable, so
-/// what the engine requires of a match can be met. The only error is want of memory.
+/// The match of a flag with an arm for each of the two. It is well typed and exhaustive, and both arms are reachable,
+/// so what the engine requires of a match can be met. The only error is want of memory.
 pub fn both_flags<'a>(placer: &Placer<'a>) -> Result<CheckedMatch<'a, ToyTy>, NoMemory>
     ensures typed { IfOk result (λ m. IsWellTyped IsToyType toy_context m) }
     ensures exhaustive { IfOk result (λ m. IsExhaustive ToyValue m) }
@@ -45,8 +45,8 @@ pub fn rows_of_both(alloc: Global) -> Result<(usize, usize), NoMemory> {
     Ok((expanded.len(), plain.len()))
 }
 
-/// Whether a pattern without names binds `x`, and how many patterns stand at a place before and behind a call that places one
-/// more. The only error is want of memory.
+/// Whether a pattern without names binds `x`, and how many patterns stand at a place before and behind a call that
+/// places one more. The only error is want of memory.
 pub fn placed_patterns(alloc: Global) -> Result<(bool, usize), NoMemory> {
     let arena = Bump::new(alloc);
     let placer = Placer::new(&arena);

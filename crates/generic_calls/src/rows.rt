@@ -17,8 +17,8 @@ fn is_short(shape: &Shape) -> bool
     }
 }
 
-/// The number of the pieces into which the shapes cut the lengths of a slice, or 0 where a shape is too long. The only error is
-/// want of memory.
+/// The number of the pieces into which the shapes cut the lengths of a slice, or 0 where a shape is too long. The
+/// only error is want of memory.
 pub fn pieces_of_lengths(alloc: Global, shapes: &[Shape]) -> Result<usize, NoMemory> {
     if !shapes.iter().all(is_short) {
         return Ok(0);
@@ -27,8 +27,8 @@ pub fn pieces_of_lengths(alloc: Global, shapes: &[Shape]) -> Result<usize, NoMem
     Ok(pieces.len())
 }
 
-/// Files of these names and bytes, which give two bytes at a time, and a sink for as many bytes, which takes two at a time. No
-/// call of theirs fails by its number. The only error is want of memory.
+/// Files of these names and bytes, which give two bytes at a time, and a sink for as many bytes, which takes two at a
+/// time. No call of theirs fails by its number. The only error is want of memory.
 pub fn in_memory(
     alloc: Global,
     named: Vec<(String, Vec<u8>)>,

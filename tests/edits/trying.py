@@ -1,0 +1,193 @@
+"""Tries batches of edits: checks the functions that they change in a copy of a crate, and judges each edit by what
+the check says of its own functions."""
+import importlib
+import os
+import re
+import shutil
+import subprocess
+import sys
+import tempfile
+
+import planning
+
+REFUSED, THROUGH, OTHER, UNREAD, GONE, UNSURE = (
+    "refused",
+    "let through",
+    "refused only through another function",
+    "does not compile",
+    "its text is gone",
+    "not tried",
+)
+# What is said where a name is gone, so that an error tells nothing of a contract.
+NAMES = re.compile(
+    r"has no field|is not in scope|has no `|was not admitted|is no name|operand is missing|expected the end"
+    r"|cannot continue"
+)
+ERROR = re.compile(r"(?m)^(?:\./)?(\S+?):(\d+):\d+: error: (.*)$")
+LINE = re.compile(r"(?m)^fn (\S+): (.*)$")
+END = re.compile(r"(?m)^only=\d+ proved=\d+")
+
+
+def toolchain():
+    """The library of the kit's `rt`, which knows the words of a check."""
+    home = os.path.dirname(os.path.realpath(shutil.which("rt")))
+    if home not in sys.path:
+        sys.path.insert(0, home)
+    return importlib.import_module("rtlib")
+
+
+def words_of(crate):
+    """The words of a check of a crate: over its libraries where all are built, and else over the sources of the
+    crates below it."""
+    library = toolchain()
+    made = library.Crate(os.path.join(planning.CRATES, crate), planning.TOP, {}, name=crate)
+    is_built = all(below.is_built() for below in made.below())
+    return [library.RATTLE, "check", *made.words(["--jobs", "1"], keeps=False, as_source=not is_built)]
+
+
+def heard(command, folder):
+    """What a command says in a folder, and its status."""
+    how = {"stdin": subprocess.DEVNULL, "stdout": subprocess.PIPE, "stderr": subprocess.STDOUT}
+    done = subprocess.run(command, cwd=folder, errors="replace", text=True, **how)
+    return done.stdout, done.returncode
+
+
+def checked(words, sources, edits):
+    """What a check of the functions that the edits change says, of a copy of the crate with these edits, and its
+    status."""
+    texts = planning.applied({}, sources.crate, [pair for edit in edits for pair in edit.pairs])[0]
+    wanted = sorted({it.path for edit in edits for it in edit.changed})
+    with tempfile.TemporaryDirectory(prefix="edits-") as room:
+        for path, text in {**sources.texts, **texts}.items():
+            os.makedirs(os.path.dirname(os.path.join(room, path)), exist_ok=True)
+            with open(os.path.join(room, path), "w", encoding="utf-8") as file:
+                file.write(text)
+        command = words + [word for name in wanted for word in ("--only", name)]
+        said, status = heard(command, room)
+    return said, status, texts
+
+
+def owned(name, unit):
+    """Whether the name that a check prints is of the function, or of a closure in it."""
+    plain = name.replace("::fn::", "::")
+    return plain == unit or plain.startswith(unit + "::")
+
+
+def folder_of(path, sources):
+    """The folder of the proof files of a function, or of its cycle of calls."""
+    return "proofs/" + sources.unit[path].replace("::", "/")
+
+
+def lines_of(function, text):
+    """The numbers of the first and the last line of a function's body in its file."""
+    return text.count("\n", 0, function.body[0]) + 1, text.count("\n", 0, function.body[1]) + 1
+
+
+def own_errors(said, function, sources, text):
+    """The errors in the function's own proof files or in its own body, but for those of a name that is gone."""
+    first, last = lines_of(function, text)
+    folder = folder_of(function.path, sources)
+    for path, line, told in ERROR.findall(said):
+        is_own = path.startswith(folder + "/") or (path == function.file and first <= int(line) <= last)
+        if is_own and not NAMES.search(re.sub(r"`[^`]*`", "", told)):
+            yield f"{path}:{line}: {told}"
+
+
+def function_now(function, texts):
+    """The same function where the edits have moved it."""
+    text = texts[function.file]
+    for it in planning.functions.Reader(function.crate, function.file, text).read():
+        if it.path == function.path:
+            return it
+    return function
+
+
+def signs(said, edit, sources, texts):
+    """The signs that the goals of an edit's own functions refuse it, and what the check says of these functions."""
+    found, told = [], []
+    for function in edit.changed:
+        members = [path for path, unit in sources.unit.items() if unit == sources.unit[function.path]]
+        for name, line in LINE.findall(said):
+            name = name.removeprefix(f"{edit.crate}::")
+            if any(owned(name, path) for path in members):
+                told.append(line)
+                if re.search(r"`search` did not prove `", line):
+                    found.append(f"{name}: {line}")
+        found += own_errors(said, function_now(function, texts), sources, texts[function.file])
+    return found, told
+
+
+def verdict(said, edit, sources, texts):
+    """What a check says of an edit, and why."""
+    found, told = signs(said, edit, sources, texts)
+    if found:
+        return REFUSED, found[0]
+    waits = any(f"has not tried the goals of `{edit.crate}::{it.path}`" in said for it in edit.changed)
+    if told and not waits and all(line == "proved" for line in told):
+        return THROUGH, "each function that it changes is proved"
+    if told and not waits and all(line == "proved" or re.match(r"no proof: it calls `", line) for line in told):
+        return OTHER, next(line for line in told if line != "proved")
+    return UNSURE, "; ".join(told) or said[-300:].strip()
+
+
+def judged(words, sources, edits):
+    """The verdict on each edit of a batch, and why; a batch of which an edit does not compile is halved."""
+    said, status, texts = checked(words, sources, edits)
+    if END.search(said):
+        return {edit: verdict(said, edit, sources, texts) for edit in edits}
+    if len(edits) == 1:
+        is_read = not re.search(r"\berror\[[\w-]+\]", said)
+        return {edits[0]: (UNSURE if is_read else UNREAD, said.strip()[:300])}
+    half = len(edits) // 2
+    return {**judged(words, sources, edits[:half]), **judged(words, sources, edits[half:])}
+
+
+def settled(words, sources, edits):
+    """The same, where each edit that is neither refused nor let through is tried once more without others."""
+    found = judged(words, sources, edits)
+    for edit in edits if len(edits) > 1 else ():
+        if found[edit][0] in (OTHER, UNSURE):
+            found.update(judged(words, sources, [edit]))
+    return found
+
+
+def tried_alone(edit):
+    """The verdict of `rt must-fail` on an edit, in a copy of its crate and of those below."""
+    with tempfile.TemporaryDirectory(prefix="edits-") as room:
+        for name in [edit.crate, *below(edit.crate)]:
+            shutil.copytree(
+                os.path.join(planning.CRATES, name),
+                os.path.join(room, "crates", name),
+                ignore=shutil.ignore_patterns("must-fail", "incremental"),
+            )
+        lines = [line for line in lines_of_crates() if os.path.isdir(os.path.join(room, "crates", line.split(":")[0]))]
+        with open(os.path.join(room, "crates.txt"), "w", encoding="utf-8") as file:
+            file.write("\n".join(lines) + "\n")
+        shutil.copy(os.path.join(planning.TOP, "HANDLES"), room)
+        folder = os.path.join(room, "crates", edit.crate, "must-fail")
+        os.mkdir(folder)
+        shutil.copy(edit.path, folder)
+        said, _ = heard(["rt", "must-fail", edit.crate], room)
+    told = next((line for line in said.split("\n") if "must-fail " in line and edit.name in line), said[-300:])
+    if "refused, as it must be" in told:
+        return REFUSED, told
+    if "NOT REFUSED" in told:
+        return THROUGH, told
+    return (UNREAD if "BAD EDIT" in told else UNSURE), told
+
+
+def lines_of_crates():
+    with open(os.path.join(planning.TOP, "crates.txt"), encoding="utf-8") as file:
+        return [line for line in file.read().split("\n") if ":" in line]
+
+
+def below(crate):
+    """The crates that a crate stands on."""
+    uses = {line.split(":")[0]: line.split(":")[1].split() for line in lines_of_crates()}
+    found, left = [], list(uses[crate])
+    while left:
+        name = left.pop()
+        if name in uses and name not in found:
+            found.append(name)
+            left += uses[name]
+    return sorted(found)
