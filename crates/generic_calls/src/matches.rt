@@ -1,5 +1,5 @@
 //! Matches of a flag, and what takes them apart.
-ghost use Rattle.std.specs.Prelude.{IfOk};
+ghost use Rattle.std.specs.Prelude.{◌≡◌, length, IfOk};
 ghost use Rattle.pat_context.specs.Toy.{toy_context, ToyValue};
 ghost use Rattle.pat_context.specs.ToyLaws.{IsToyType};
 ghost use Rattle.pattern_arena.specs.Meaning.{IsWellTyped, IsExhaustive, IsArmReachable};
@@ -21,6 +21,7 @@ pub fn both_flags<'a>(placer: &Placer<'a>) -> Result<CheckedMatch<'a, ToyTy>, No
     ensures typed { IfOk result (λ m. IsWellTyped IsToyType toy_context m) }
     ensures exhaustive { IfOk result (λ m. IsExhaustive ToyValue m) }
     ensures reachable { IfOk result (λ m. IsArmReachable ToyValue m 0 × IsArmReachable ToyValue m 1) }
+    ensures arms { IfOk result (λ m. length m.arms.now ≡ 2) }
 {
     let first = flag_arm(placer, true, 1)?;
     let second = flag_arm(placer, false, 2)?;
