@@ -21,13 +21,13 @@ def said_of(crate, names):
     """What is said of each of these edits of a crate, tried in one check, and then alone where another function
     decides."""
     edits = [planning.Edit(crate, os.path.join(FOLDER, f"{name}.edit")) for name in names]
-    sources, words = planning.Sources(crate), trying.words_of(crate)
+    sources, check = planning.Sources(crate), trying.Check(crate)
     found = {edit.name: trying.GONE for edit in edits if edit.gone}
     there = [edit for edit in edits if not edit.gone]
     for edit in there:
         edit.find(sources)
-    for edit, (word, _) in trying.judged(words, sources, there).items():
-        alone = trying.judged(words, sources, [edit])[edit][0] if word == trying.OTHER else ""
+    for edit, (word, _) in trying.judged(check, sources, there).items():
+        alone = trying.judged(check, sources, [edit])[edit][0] if word == trying.OTHER else ""
         found[edit.name] = ", ".join(part for part in (word, alone) if part)
     return found
 

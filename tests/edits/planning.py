@@ -11,7 +11,7 @@ import functions  # noqa: E402
 
 CLAUSES = ("requires", "ensures", "ghost")
 # The most edits of one batch: where one does not compile, its batch is halved.
-MOST = 16
+MOST = 24
 
 
 class Edit:
@@ -80,6 +80,14 @@ class Sources:
 
     def units(self, edit):
         return {self.unit[it.path] for it in edit.changed}
+
+    def can_start(self, edit):
+        """Whether the proof of each function that an edit changes can be started: no cycle, and no answers needed."""
+        for it in edit.changed:
+            folder = "proofs/" + it.path.replace("::", "/") + "/"
+            if it.cycle or any(path.startswith(folder) and path != folder + "Invariants.antt" for path in self.texts):
+                return False
+        return True
 
 
 def unit_of(function):
@@ -166,25 +174,27 @@ def changed_bodies(crate, path, before, after):
     return [one for one, other in zip(old, new) if before[slice(*one.body)] != after[slice(*other.body)]]
 
 
-def fits(batch, edit, sources):
-    """Whether an edit may stand in a batch: no function that it changes is changed there, or calls or is called by
-    one that is."""
+def fits(batch, edit, sources, may_call):
+    """Whether an edit may stand in a batch: no function that it changes is changed there.
+
+    Without `may_call` none of its functions calls one that is changed there, or is called by one.
+    """
     mine = sources.units(edit)
     for other in batch:
         theirs = sources.units(other)
         is_above = any(sources.below[unit] & theirs for unit in mine)
         is_below = any(sources.below[unit] & mine for unit in theirs)
-        if mine & theirs or is_above or is_below:
+        if mine & theirs or (not may_call and (is_above or is_below)):
             return False
     return applied({}, edit.crate, [pair for it in [*batch, edit] for pair in it.pairs])[1] == ""
 
 
-def batches(edits, sources):
+def batches(edits, sources, may_call=False):
     """The edits in batches, each as large as the order of the edits allows."""
     found = []
     for edit in edits:
         for batch in found:
-            if len(batch) < MOST and fits(batch, edit, sources):
+            if len(batch) < MOST and fits(batch, edit, sources, may_call):
                 batch.append(edit)
                 break
         else:

@@ -1,5 +1,8 @@
-"""Tries batches of edits: checks the functions that they change in a copy of a crate, and judges each edit by what
-the check says of its own functions."""
+"""Tries batches of edits in a copy of a crate, and judges each by what the prover says of its own functions' goals.
+
+Where a function needs no answers, a start of its proof (`--start`) tells whether goals are left open, and asks for no
+proof of what the function calls. Else a check of the function (`--only`) tells it.
+"""
 import importlib
 import os
 import re
@@ -25,7 +28,7 @@ NAMES = re.compile(
 )
 ERROR = re.compile(r"(?m)^(?:\./)?(\S+?):(\d+):\d+: error: (.*)$")
 LINE = re.compile(r"(?m)^fn (\S+): (.*)$")
-END = re.compile(r"(?m)^only=\d+ proved=\d+")
+END = re.compile(r"(?m)^(?:only=\d+ proved|started)=\d+")
 
 
 def toolchain():
@@ -36,25 +39,37 @@ def toolchain():
     return importlib.import_module("rtlib")
 
 
-def words_of(crate):
-    """The words of a check of a crate: over its libraries where all are built, and else over the sources of the
-    crates below it."""
-    library = toolchain()
-    made = library.Crate(os.path.join(planning.CRATES, crate), planning.TOP, {}, name=crate)
-    is_built = all(below.is_built() for below in made.below())
-    return [library.RATTLE, "check", *made.words(["--jobs", "1"], keeps=False, as_source=not is_built)]
+class Check:
+    """The words of a check of a crate: over its libraries where all are built and fit, and else over the sources."""
+
+    def __init__(self, crate):
+        self.library = toolchain()
+        self.crate = self.library.Crate(os.path.join(planning.CRATES, crate), planning.TOP, {}, name=crate)
+        self.is_over_sources = not all(below.is_built() for below in self.crate.below())
+
+    def words(self):
+        words = self.crate.words(["--jobs", "1"], keeps=False, as_source=self.is_over_sources)
+        return [self.library.RATTLE, "check", *words]
+
+    def said(self, more, folder):
+        """What the check says in a folder; it goes over the sources once a library does not fit."""
+        said = heard([*self.words(), *more], folder)
+        if not self.is_over_sources and ("unusable-built-library" in said or self.library.STALE.search(said)):
+            self.is_over_sources = True
+            said = heard([*self.words(), *more], folder)
+        return said
 
 
 def heard(command, folder):
-    """What a command says in a folder, and its status."""
+    """What a command says in a folder."""
     how = {"stdin": subprocess.DEVNULL, "stdout": subprocess.PIPE, "stderr": subprocess.STDOUT}
-    done = subprocess.run(command, cwd=folder, errors="replace", text=True, **how)
-    return done.stdout, done.returncode
+    return subprocess.run(command, cwd=folder, errors="replace", text=True, **how).stdout
 
 
-def checked(words, sources, edits):
-    """What a check of the functions that the edits change says, of a copy of the crate with these edits, and its
-    status."""
+def checked(check, sources, edits, flag):
+    """What a check of the functions that the edits change says, in a copy of the crate with these edits, and the texts
+    that these leave.
+    """
     texts = planning.applied({}, sources.crate, [pair for edit in edits for pair in edit.pairs])[0]
     wanted = sorted({it.path for edit in edits for it in edit.changed})
     with tempfile.TemporaryDirectory(prefix="edits-") as room:
@@ -62,9 +77,8 @@ def checked(words, sources, edits):
             os.makedirs(os.path.dirname(os.path.join(room, path)), exist_ok=True)
             with open(os.path.join(room, path), "w", encoding="utf-8") as file:
                 file.write(text)
-        command = words + [word for name in wanted for word in ("--only", name)]
-        said, status = heard(command, room)
-    return said, status, texts
+        said = check.said([word for name in wanted for word in (flag, name)], room)
+    return said, texts
 
 
 def owned(name, unit):
@@ -108,8 +122,8 @@ def signs(said, edit, sources, texts):
     for function in edit.changed:
         members = [path for path, unit in sources.unit.items() if unit == sources.unit[function.path]]
         for name, line in LINE.findall(said):
-            name = name.removeprefix(f"{edit.crate}::")
-            if any(owned(name, path) for path in members):
+            crate, _, name = name.partition("::")
+            if crate == edit.crate and any(owned(name, path) for path in members):
                 told.append(line)
                 if re.search(r"`search` did not prove `", line):
                     found.append(f"{name}: {line}")
@@ -130,24 +144,42 @@ def verdict(said, edit, sources, texts):
     return UNSURE, "; ".join(told) or said[-300:].strip()
 
 
-def judged(words, sources, edits):
+def start(said, edit):
+    """What is said of an edit where the proofs of its functions were started, which asks for no proof of a callee."""
+    left = [it for it in edit.changed if f"wrote ./proofs/{it.path.replace('::', '/')}/Answers.antt" in said]
+    if left:
+        return REFUSED, f"goals of {left[0].path} are left open"
+    if all(f"`{it.key()}` needs no file" in said for it in edit.changed):
+        return THROUGH, "no goal of a function that it changes is left open"
+    return UNSURE, said[-300:].strip()
+
+
+def judged(check, sources, edits, flag="--only"):
     """The verdict on each edit of a batch, and why; a batch of which an edit does not compile is halved."""
-    said, status, texts = checked(words, sources, edits)
+    said, texts = checked(check, sources, edits, flag)
+    if END.search(said) and flag == "--start":
+        return {edit: start(said, edit) for edit in edits}
     if END.search(said):
         return {edit: verdict(said, edit, sources, texts) for edit in edits}
     if len(edits) == 1:
         is_read = not re.search(r"\berror\[[\w-]+\]", said)
         return {edits[0]: (UNSURE if is_read else UNREAD, said.strip()[:300])}
     half = len(edits) // 2
-    return {**judged(words, sources, edits[:half]), **judged(words, sources, edits[half:])}
+    first, second = edits[:half], edits[half:]
+    return {**judged(check, sources, first, flag), **judged(check, sources, second, flag)}
 
 
-def settled(words, sources, edits):
-    """The same, where each edit that is neither refused nor let through is tried once more without others."""
-    found = judged(words, sources, edits)
-    for edit in edits if len(edits) > 1 else ():
-        if found[edit][0] in (OTHER, UNSURE):
-            found.update(judged(words, sources, [edit]))
+def settled(check, sources, edits, flag):
+    """The same, where each edit that is not refused for sure is tried once more without others, by a check.
+
+    Where that tells nothing either, as at a limit of the prover, `rt must-fail` decides.
+    """
+    found = judged(check, sources, edits, flag)
+    for edit in edits:
+        if found[edit][0] in (OTHER, UNSURE) or (flag == "--start" and found[edit][0] == THROUGH):
+            found.update(judged(check, sources, [edit]))
+        if found[edit][0] == UNSURE:
+            found[edit] = tried_alone(edit)
     return found
 
 
@@ -167,7 +199,7 @@ def tried_alone(edit):
         folder = os.path.join(room, "crates", edit.crate, "must-fail")
         os.mkdir(folder)
         shutil.copy(edit.path, folder)
-        said, _ = heard(["rt", "must-fail", edit.crate], room)
+        said = heard(["rt", "must-fail", edit.crate], room)
     told = next((line for line in said.split("\n") if "must-fail " in line and edit.name in line), said[-300:])
     if "refused, as it must be" in told:
         return REFUSED, told
