@@ -1,0 +1,333 @@
+#!/usr/bin/env python3
+"""Finds the program that ./matchcheck runs, and builds it without a proof where there is none.
+
+    programs.py find NAME      finds the program, and builds it first where there is none
+    programs.py look NAME      the same, but builds nothing; status 1 where there is none
+
+The proved program is crates/NAME/out/NAME where the stamp beside it, which `rt run` and `rt ci` leave, is the sum of
+the sources and the kit here, and ends with the sum of the program's own bytes. The kit's own code computes that sum.
+Else it is out/unproved/NAME-SUM, where SUM covers the kit, the lines of crates.txt and the `.rt` files of the crates
+that the program stands on. `rt try` builds such a program anew at each call, with the address sanitizer, and throws
+it away. Here `rt try` runs in a folder of links to the kit, whose compiler leaves the sanitizer out, and whose linker
+keeps what it links. The tests that `rt try` puts in stay: the program stops at a sum that overflows or an index out
+of bounds.
+
+One build of a program runs at a time: the others wait for its lock, which the system takes back when its owner dies.
+A build ends with a rename, so what was cut off is never taken for whole.
+
+Prints three lines: the program's path from the top, `proved` or `unproved`, and why it is unproved. Writes them to
+out/unproved/NAME.record too, with what the program was made from, so that ./matchcheck need not ask again.
+"""
+import contextlib
+import ctypes
+import fcntl
+import hashlib
+import importlib.machinery
+import importlib.util
+import io
+import os
+import pathlib
+import re
+import shutil
+import signal
+import subprocess
+import sys
+import time
+
+ROOT = pathlib.Path(__file__).resolve().parent.parent.parent
+KEPT = ROOT / "out" / "unproved"
+# How many unproved builds of one program are kept.
+MOST = 4
+NOT_BUILT, NO_TOOL = 125, 127
+# The time between two looks at a build, and between two lines about it, in seconds.
+LOOK, TELL = 0.2, 15
+CLANG = """#!/bin/sh
+for word; do
+    shift
+    [ "$word" = -fsanitize=address ] || set -- "$@" "$word"
+done
+: > "{room}/compiling"
+exec "{tools}/clang" "$@"
+"""
+LINKER = """#!/bin/sh
+# Links what `rt try` asks for, and then the program alone, without the archive that runs it, to a place of our own.
+: > "{room}/linking"
+"{tools}/ld.lld" "$@" || exit
+own= inside= output=
+for word; do
+    shift
+    case $word in
+        --whole-archive) own=yes inside=yes ;;
+        --no-whole-archive) inside= ;;
+        *)
+            [ -z "$output" ] || word={room}/made
+            output=
+            [ "$word" != -o ] || output=yes
+            [ -n "$inside" ] || set -- "$@" "$word"
+            ;;
+    esac
+done
+[ -z "$own" ] || "{tools}/ld.lld" "$@"
+"""
+
+
+def say(text):
+    print(f"matchcheck: {text}", file=sys.stderr, flush=True)
+
+
+def fail(status, text):
+    say(text)
+    sys.exit(status)
+
+
+def kit_of_path():
+    """The folder of the kit whose `rt` is on the PATH, and the path of that `rt`."""
+    rt = shutil.which("rt")
+    if rt is None:
+        fail(NO_TOOL, "rt is not on the PATH: the kit of README.md is not installed here, or its folder bin is not on it")
+    return pathlib.Path(os.path.realpath(rt)).parent.parent, rt
+
+
+def crates_below(name):
+    """The lines of crates.txt of the crates that the program is made of, by their names."""
+    lines = (line.partition("#")[0].strip() for line in (ROOT / "crates.txt").read_text().splitlines())
+    known = {line.partition(":")[0].split()[0]: line for line in lines if line}
+    found, open_names = {}, [name]
+    while open_names:
+        it = open_names.pop()
+        if it in known and it not in found:
+            found[it] = known[it]
+            open_names += known[it].partition(":")[2].split()
+    if name not in found:
+        fail(NOT_BUILT, f"crates.txt has no line for {name}")
+    return found
+
+
+def unproved_sum(kit, name):
+    """The sum of all that the unproved program is made from."""
+    total = hashlib.sha256((CLANG + LINKER).encode())
+    for file in (kit / "KIT-ID", kit / "WHAT"):
+        total.update(file.read_bytes() if file.is_file() else b"")
+    for crate, line in sorted(crates_below(name).items()):
+        folder = ROOT / "crates" / crate / "src"
+        total.update(f"{line}\n".encode())
+        for file in sorted(folder.rglob("*.rt")):
+            total.update(repr((str(file.relative_to(folder)), file.read_bytes())).encode())
+    return total.hexdigest()[:32]
+
+
+def loaded(name, path):
+    """A file of the kit's own code, as a module."""
+    loader = importlib.machinery.SourceFileLoader(name, str(path))
+    module = importlib.util.module_from_spec(importlib.util.spec_from_loader(name, loader))
+    sys.modules[name] = module
+    loader.exec_module(module)
+    return module
+
+
+def stamp_here(kit, name):
+    """What the stamp of a program says that was proved from the sources here, without the program's own sum, or None
+    where the kit's code does not tell. Crates with C code, whose stamps say more, are never taken for proved."""
+    sys.dont_write_bytecode = True
+    sys.path.insert(0, str(kit / "bin"))
+    try:
+        with contextlib.redirect_stdout(io.StringIO()), contextlib.redirect_stderr(io.StringIO()):
+            of_rt = loaded("rt_of_kit", kit / "bin" / "rt")
+            folder, top = os.path.realpath(ROOT / "crates" / name), os.path.realpath(ROOT)
+            crate = sys.modules["rtlib"].Crate(folder, top, {})
+            of_rt.read_files(crate)
+            return crate.stamp()
+    except (Exception, SystemExit):
+        return None
+
+
+def is_proved(kit, name, stamp):
+    """Whether the program in the crate's folder is proved, from the sources here, by its stamp."""
+    program = ROOT / "crates" / name / "out" / name
+    if not program.is_file():
+        return False
+    here = stamp_here(kit, name)
+    return here is not None and stamp == here + hashlib.sha256(program.read_bytes()).hexdigest()
+
+
+def link_all(source, target, but=()):
+    """A folder with links to all that another one has, but for these names."""
+    target.mkdir(parents=True)
+    for it in source.iterdir():
+        if it.name not in but:
+            (target / it.name).symlink_to(it)
+
+
+def write_tool(path, text, **words):
+    path.write_text(text.format(**words))
+    path.chmod(0o755)
+
+
+def kit_that_keeps(kit, room):
+    """A folder of links to the kit, whose linker keeps the program in the room; the path of its `rt`."""
+    folder, tools = room / "kit", kit / "toolchain" / "bin"
+    link_all(kit, folder, ("bin", "toolchain"))
+    link_all(kit / "bin", folder / "bin", ("rt", "rtlib.py", "rattle"))
+    for it in ("rt", "rtlib.py"):
+        shutil.copy(kit / "bin" / it, folder / "bin" / it)
+    # `rt try` starts a check beside the build, for a hint alone: here it is not wanted.
+    write_tool(folder / "bin" / "rattle", "#!/bin/sh\nexit 1\n")
+    link_all(kit / "toolchain", folder / "toolchain", ("bin",))
+    link_all(tools, folder / "toolchain" / "bin", ("clang", "ld.lld"))
+    write_tool(folder / "toolchain/bin/clang", CLANG, tools=tools, room=room)
+    write_tool(folder / "toolchain/bin/ld.lld", LINKER, tools=tools, room=room)
+    return folder / "bin" / "rt"
+
+
+def end_with_parent():
+    """Has the system end this process when the one that started it dies."""
+    ctypes.CDLL(None).prctl(1, signal.SIGTERM)
+
+
+def step_of(room):
+    """The step that a build has come to, in words."""
+    if (room / "linking").exists():
+        return "step 3 of 3, linking"
+    if (room / "compiling").exists():
+        return "step 2 of 3, compiling"
+    return "step 1 of 3, reading the sources"
+
+
+def wait_for(build, name, room):
+    """Waits for a build, and says in between how far it is: each step where it begins, and then now and then."""
+    begun, told, last = time.monotonic(), "", 0.0
+    while True:
+        step, passed = step_of(room), time.monotonic() - begun
+        if step != told or passed - last >= TELL:
+            say(f"building {name}: {step}, {passed:.0f} s")
+            told, last = step, passed
+        with contextlib.suppress(subprocess.TimeoutExpired):
+            return build.wait(LOOK)
+
+
+def first_fault(text):
+    """The line that says best why a build failed."""
+    lines = [line.strip() for line in text.splitlines() if line.strip()]
+    return next((line for line in lines if "error" in line), lines[-1] if lines else "it said nothing")
+
+
+def build(kit, name, room, target):
+    """Has `rt try` build the program, in a room of its own, and keeps what was linked."""
+    shutil.rmtree(room, ignore_errors=True)
+    room.mkdir()
+    rt = kit_that_keeps(kit, room)
+    said = room / "said"
+    with open(said, "wb") as out:
+        how = {"cwd": ROOT / "crates" / name, "stdin": subprocess.DEVNULL, "stdout": out, "stderr": out}
+        env = {**os.environ, "TMPDIR": str(room)}
+        build_of = subprocess.Popen([rt, "try"], env=env, preexec_fn=end_with_parent, **how)
+        try:
+            wait_for(build_of, name, room)
+        except (KeyboardInterrupt, SystemExit):
+            build_of.terminate()
+            build_of.wait()
+            shutil.rmtree(room, ignore_errors=True)
+            fail(130, f"the build of {name} was interrupted; nothing of it is kept")
+    made = room / "made"
+    if not made.is_file():
+        log = KEPT / f"{name}.log"
+        os.replace(said, log)
+        shutil.rmtree(room, ignore_errors=True)
+        fault = first_fault(log.read_text(errors="replace"))
+        fail(NOT_BUILT, f"{name} cannot be built: {fault} (all of it: {log.relative_to(ROOT)})")
+    made.chmod(0o755)
+    made.rename(target)
+    shutil.rmtree(room, ignore_errors=True)
+
+
+def remove_old(name):
+    """Removes all unproved builds of a program but the newest."""
+    builds = [it for it in KEPT.glob(f"{name}-*") if re.fullmatch(rf"{name}-[0-9a-f]{{32}}", it.name)]
+    for old in sorted(builds, key=lambda it: it.stat().st_mtime)[:-MOST]:
+        old.unlink(missing_ok=True)
+
+
+def build_once(kit, name):
+    """The path of an unproved program that was built from the sources here, and the time before they were read. Two
+    calls at once build it once."""
+    with open(KEPT / f"{name}.lock", "a") as lock:
+        try:
+            fcntl.flock(lock, fcntl.LOCK_EX | fcntl.LOCK_NB)
+        except BlockingIOError:
+            say(f"another call builds {name} now: waiting for it")
+            fcntl.flock(lock, fcntl.LOCK_EX)
+        for _ in range(3):
+            now, total = time.time(), unproved_sum(kit, name)
+            target = KEPT / f"{name}-{total}"
+            if target.is_file():
+                return target, now
+            say(f"building {name} without its proof, once; this takes about a minute")
+            build(kit, name, KEPT / f"{name}.room", target)
+            if unproved_sum(kit, name) == total:
+                remove_old(name)
+                return target, now
+            # A source changed meanwhile, so nobody knows which text was built.
+            target.unlink()
+    fail(NOT_BUILT, f"the sources of {name} change faster than they are built")
+
+
+def watched(kit, rt, name, has_stamp):
+    """What a change of the program would show in: paths from the top, and those of the kit. Proofs and statements are
+    a part of what was proved, and so they count where there is a stamp."""
+    parts = ("src", "specs", "proofs") if has_stamp else ("src",)
+    found = ["crates", "crates.txt", "tools/door/programs.py"]
+    for crate in sorted(crates_below(name)):
+        found += [f"crates/{crate}/{part}" for part in parts if (ROOT / "crates" / crate / part).is_dir()]
+    own = ["args", "status", "stdin"] + [f"out/{name}", f"out/{name}.stamp"] * has_stamp
+    found += [f"crates/{name}/{it}" for it in own if (ROOT / "crates" / name / it).exists()]
+    return found + [str(it) for it in (rt, kit / "WHAT", kit / "KIT-ID") if os.path.exists(it)]
+
+
+def record(lines, name, before):
+    """Writes the record, with the time of a moment before the sources were read. What a clock of whole ticks might
+    not tell apart counts as changed."""
+    if any(re.search(r"[\s*?\[\\]", it) for it in lines[-1].split(" ")) or "\n" in "".join(lines):
+        return
+    part = KEPT / f"{name}.record.{os.getpid()}"
+    part.write_text("".join(f"{line}\n" for line in lines))
+    os.utime(part, (before - 1, before - 1))
+    part.rename(KEPT / f"{name}.record")
+
+
+def found_program(kit, name, may_build):
+    """The program, whether it is proved, why not, whether it has a stamp, and the time before the sources were read."""
+    before = time.time()
+    stamp = ROOT / "crates" / name / "out" / f"{name}.stamp"
+    has_stamp = stamp.is_file()
+    if has_stamp and is_proved(kit, name, stamp.read_text(errors="replace")):
+        return ROOT / "crates" / name / "out" / name, "proved", "", has_stamp, before
+    why = "a source has changed since the proved build" if has_stamp else "no proved program is built here"
+    kept = KEPT / f"{name}-{unproved_sum(kit, name)}"
+    if not kept.is_file():
+        if not may_build:
+            sys.exit(1)
+        kept, before = build_once(kit, name)
+    return kept, "unproved", why, has_stamp, before
+
+
+def main(words):
+    if len(words) != 2 or words[0] not in ("find", "look"):
+        fail(2, "programs.py takes find or look, and the name of a program")
+    name = words[1]
+    signal.signal(signal.SIGTERM, lambda *_: sys.exit(143))
+    kit, rt = kit_of_path()
+    KEPT.mkdir(parents=True, exist_ok=True)
+    program, state, why, has_stamp, before = found_program(kit, name, words[0] == "find")
+    lines = [str(program.relative_to(ROOT)), state, why]
+    more = ["yes" if has_stamp else "no", rt, " ".join(watched(kit, rt, name, has_stamp))]
+    record(lines + more, name, before)
+    print("\n".join(lines))
+
+
+if __name__ == "__main__":
+    try:
+        main(sys.argv[1:])
+    except KeyboardInterrupt:
+        fail(130, "interrupted")
+    except OSError as error:
+        fail(NOT_BUILT, f"{error.filename}: {error.strerror}")
