@@ -88,9 +88,9 @@ def kit_of_path():
     return pathlib.Path(os.path.realpath(rt)).parent.parent, rt
 
 
-def crates_below(name):
+def crates_below(name, top=ROOT):
     """The lines of crates.txt of the crates that the program is made of, by their names."""
-    lines = (line.partition("#")[0].strip() for line in (ROOT / "crates.txt").read_text().splitlines())
+    lines = (line.partition("#")[0].strip() for line in (top / "crates.txt").read_text().splitlines())
     known = {line.partition(":")[0].split()[0]: line for line in lines if line}
     found, open_names = {}, [name]
     while open_names:
@@ -103,13 +103,13 @@ def crates_below(name):
     return found
 
 
-def unproved_sum(kit, name):
-    """The sum of all that the unproved program is made from."""
+def unproved_sum(kit, name, top=ROOT):
+    """The sum of all that the unproved program is made from, in the repository at this folder."""
     total = hashlib.sha256((CLANG + LINKER).encode())
     for file in (kit / "KIT-ID", kit / "WHAT"):
         total.update(file.read_bytes() if file.is_file() else b"")
-    for crate, line in sorted(crates_below(name).items()):
-        folder = ROOT / "crates" / crate / "src"
+    for crate, line in sorted(crates_below(name, top).items()):
+        folder = top / "crates" / crate / "src"
         total.update(f"{line}\n".encode())
         for file in sorted(folder.rglob("*.rt")):
             total.update(repr((str(file.relative_to(folder)), file.read_bytes())).encode())
@@ -211,14 +211,15 @@ def first_fault(text):
     return next((line for line in lines if "error" in line), lines[-1] if lines else "it said nothing")
 
 
-def build(kit, name, room, target):
-    """Has `rt try` build the program, in a room of its own, and keeps what was linked."""
+def build(kit, folder, room, target):
+    """Has `rt try` build the program of a crate's folder, in a room of its own, and keeps what was linked."""
+    name = folder.name
     shutil.rmtree(room, ignore_errors=True)
     room.mkdir()
     rt = kit_that_keeps(kit, room)
     said = room / "said"
     with open(said, "wb") as out:
-        how = {"cwd": ROOT / "crates" / name, "stdin": subprocess.DEVNULL, "stdout": out, "stderr": out}
+        how = {"cwd": folder, "stdin": subprocess.DEVNULL, "stdout": out, "stderr": out}
         env = {**os.environ, "TMPDIR": str(room)}
         build_of = subprocess.Popen([rt, "try"], env=env, preexec_fn=end_with_parent, **how)
         try:
@@ -247,9 +248,10 @@ def remove_old(name):
         old.unlink(missing_ok=True)
 
 
-def build_once(kit, name):
-    """The path of an unproved program that was built from the sources here, and the time before they were read. Two
-    calls at once build it once."""
+def build_once(kit, name, top=ROOT):
+    """The path of an unproved program that was built from the sources of the repository at this folder, and the time
+    before they were read. Two calls at once build it once."""
+    KEPT.mkdir(parents=True, exist_ok=True)
     with open(KEPT / f"{name}.lock", "a") as lock:
         try:
             fcntl.flock(lock, fcntl.LOCK_EX | fcntl.LOCK_NB)
@@ -257,13 +259,13 @@ def build_once(kit, name):
             say(f"another call builds {name} now: waiting for it")
             fcntl.flock(lock, fcntl.LOCK_EX)
         for _ in range(3):
-            now, total = time.time(), unproved_sum(kit, name)
+            now, total = time.time(), unproved_sum(kit, name, top)
             target = KEPT / f"{name}-{total}"
             if target.is_file():
                 return target, now
             say(f"building {name} without its proof, once; this takes about a minute")
-            build(kit, name, KEPT / f"{name}.room", target)
-            if unproved_sum(kit, name) == total:
+            build(kit, top / "crates" / name, KEPT / f"{name}.room", target)
+            if unproved_sum(kit, name, top) == total:
                 remove_old(name)
                 return target, now
             # A source changed meanwhile, so nobody knows which text was built.
