@@ -8,9 +8,9 @@ The proved program is crates/NAME/out/NAME where the stamp beside it, which `rt 
 the sources and the kit here, and ends with the sum of the program's own bytes. The kit's own code computes that sum.
 Else it is out/unproved/NAME-SUM, where SUM covers the kit, the lines of crates.txt and the `.rt` files of the crates
 that the program stands on. `rt try` builds such a program anew at each call, with the address sanitizer, and throws
-it away. Here `rt try` runs in a folder of links to the kit, whose compiler leaves the sanitizer out, and whose linker
-keeps what it links. The tests that `rt try` puts in stay: the program stops at a sum that overflows or an index out
-of bounds.
+it away. Here `rt try` runs in a folder of links to the kit. Its compiler leaves the sanitizer out, and its linker makes code
+of the program alone, without what cannot be reached, and keeps it. The tests that `rt try` puts in stay: the program
+stops at a sum that overflows or an index out of bounds.
 
 One build of a program runs at a time: the others wait for its lock, which the system takes back when its owner dies.
 A build ends with a rename, so what was cut off is never taken for whole.
@@ -41,33 +41,35 @@ MOST = 4
 NOT_BUILT, NO_TOOL = 125, 127
 # The time between two looks at a build, and between two lines about it, in seconds.
 LOOK, TELL = 0.2, 15
+# What the linker does with the program before it makes code of it, and the level at which it makes code. Without these
+# passes a build takes as long, since code is made of more, and the program takes four times as long.
+PASSES, LEVEL = "globaldce,function(sroa,early-cse,instcombine<no-verify-fixpoint>,simplifycfg,dse)", 0
 CLANG = """#!/bin/sh
+# Gives the linker the module itself in place of an object file.
+input= output= before=
 for word; do
-    shift
-    [ "$word" = -fsanitize=address ] || set -- "$@" "$word"
+    [ "$before" != -o ] || output=$word
+    case $word in *.bc) input=$word ;; esac
+    before=$word
 done
-: > "{room}/compiling"
-exec "{tools}/clang" "$@"
+[ -n "$input" ] && [ -n "$output" ] && cp "$input" "$output"
 """
 LINKER = """#!/bin/sh
-# Links what `rt try` asks for, and then the program alone, without the archive that runs it, to a place of our own.
-: > "{room}/linking"
-"{tools}/ld.lld" "$@" || exit
-own= inside= output=
+# Links without the archive of the sanitizer, to a place of our own, and gives `rt try` a copy.
+: > "{room}/compiling"
+inside= output= before=
 for word; do
     shift
+    this=$word
+    [ "$before" != -o ] || {{ output=$word word={room}/made; }}
+    before=$this
     case $word in
-        --whole-archive) own=yes inside=yes ;;
+        --whole-archive) inside=yes ;;
         --no-whole-archive) inside= ;;
-        *)
-            [ -z "$output" ] || word={room}/made
-            output=
-            [ "$word" != -o ] || output=yes
-            [ -n "$inside" ] || set -- "$@" "$word"
-            ;;
+        *) [ -n "$inside" ] || set -- "$@" "$word" ;;
     esac
 done
-[ -z "$own" ] || "{tools}/ld.lld" "$@"
+"{tools}/ld.lld" --lto-newpm-passes='{passes}' --lto-CGO{level} "$@" && cp "{room}/made" "$output"
 """
 
 
@@ -105,7 +107,7 @@ def crates_below(name, top=ROOT):
 
 def unproved_sum(kit, name, top=ROOT):
     """The sum of all that the unproved program is made from, in the repository at this folder."""
-    total = hashlib.sha256((CLANG + LINKER).encode())
+    total = hashlib.sha256(f"{PASSES} {LEVEL}\n{CLANG}{LINKER}".encode())
     for file in (kit / "KIT-ID", kit / "WHAT"):
         total.update(file.read_bytes() if file.is_file() else b"")
     for crate, line in sorted(crates_below(name, top).items()):
@@ -174,8 +176,8 @@ def kit_that_keeps(kit, room):
     write_tool(folder / "bin" / "rattle", "#!/bin/sh\nexit 1\n")
     link_all(kit / "toolchain", folder / "toolchain", ("bin",))
     link_all(tools, folder / "toolchain" / "bin", ("clang", "ld.lld"))
-    write_tool(folder / "toolchain/bin/clang", CLANG, tools=tools, room=room)
-    write_tool(folder / "toolchain/bin/ld.lld", LINKER, tools=tools, room=room)
+    write_tool(folder / "toolchain/bin/clang", CLANG)
+    write_tool(folder / "toolchain/bin/ld.lld", LINKER, tools=tools, room=room, passes=PASSES, level=LEVEL)
     return folder / "bin" / "rt"
 
 
@@ -186,11 +188,9 @@ def end_with_parent():
 
 def step_of(room):
     """The step that a build has come to, in words."""
-    if (room / "linking").exists():
-        return "step 3 of 3, linking"
     if (room / "compiling").exists():
-        return "step 2 of 3, compiling"
-    return "step 1 of 3, reading the sources"
+        return "step 2 of 2, compiling"
+    return "step 1 of 2, reading the sources"
 
 
 def wait_for(build, name, room):
