@@ -8,9 +8,9 @@ The proved program is crates/NAME/out/NAME where the stamp beside it, which `rt 
 the sources and the kit here, and ends with the sum of the program's own bytes. The kit's own code computes that sum.
 Else it is out/unproved/NAME-SUM, where SUM covers the kit, the lines of crates.txt and the `.rt` files of the crates
 that the program stands on. `rt try` builds such a program anew at each call, with the address sanitizer, and throws
-it away. Here `rt try` runs in a folder of links to the kit. Its compiler leaves the sanitizer out, and its linker makes code
-of the program alone, without what cannot be reached, and keeps it. The tests that `rt try` puts in stay: the program
-stops at a sum that overflows or an index out of bounds.
+it away. Here `rt try` runs in a folder of links to the kit. Its compiler leaves the sanitizer out, and its linker
+makes code of what can be reached, and keeps the program. The tests that `rt try` puts in stay: the program stops at a
+sum that overflows or an index out of bounds.
 
 One build of a program runs at a time: the others wait for its lock, which the system takes back when its owner dies.
 A build ends with a rename, so what was cut off is never taken for whole.
@@ -86,7 +86,7 @@ def kit_of_path():
     """The folder of the kit whose `rt` is on the PATH, and the path of that `rt`."""
     rt = shutil.which("rt")
     if rt is None:
-        fail(NO_TOOL, "rt is not on the PATH: the kit of README.md is not installed here, or its folder bin is not on it")
+        fail(NO_TOOL, "rt is not on the PATH: install the kit that README.md names, or put its folder bin there")
     return pathlib.Path(os.path.realpath(rt)).parent.parent, rt
 
 
@@ -263,7 +263,7 @@ def build_once(kit, name, top=ROOT):
             target = KEPT / f"{name}-{total}"
             if target.is_file():
                 return target, now
-            say(f"building {name} without its proof, once; this takes about a minute")
+            say(f"building {name} without its proof, once: about a minute of processor time")
             build(kit, top / "crates" / name, KEPT / f"{name}.room", target)
             if unproved_sum(kit, name, top) == total:
                 remove_old(name)
@@ -332,4 +332,4 @@ if __name__ == "__main__":
     except KeyboardInterrupt:
         fail(130, "interrupted")
     except OSError as error:
-        fail(NOT_BUILT, f"{error.filename}: {error.strerror}")
+        fail(NOT_BUILT, f"{error.filename or 'the build'}: {error.strerror}")
