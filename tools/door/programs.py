@@ -277,7 +277,8 @@ def watched(kit, rt, name, has_stamp):
     """What a change of the program would show in: paths from the top, and those of the kit. Proofs and statements are
     a part of what was proved, and so they count where there is a stamp."""
     parts = ("src", "specs", "proofs") if has_stamp else ("src",)
-    found = ["crates", "crates.txt", "tools/door/programs.py"]
+    # Of the first two folders the search looks at the folder alone, and so sees which names are in it.
+    found = ["crates", f"crates/{name}", "crates.txt", "tools/door/programs.py"]
     for crate in sorted(crates_below(name)):
         found += [f"crates/{crate}/{part}" for part in parts if (ROOT / "crates" / crate / part).is_dir()]
     own = ["args", "status", "stdin"] + [f"out/{name}", f"out/{name}.stamp"] * has_stamp
