@@ -45,23 +45,26 @@ LOOK, TELL = 0.2, 15
 # passes a build takes as long, since code is made of more, and the program takes four times as long.
 PASSES, LEVEL = "globaldce,function(sroa,early-cse,instcombine<no-verify-fixpoint>,simplifycfg,dse)", 0
 CLANG = """#!/bin/sh
-# Gives the linker the module itself in place of an object file.
+# Keeps the module for the linker, and gives `rt try`, which wants an object file, an empty one.
 input= output= before=
 for word; do
     [ "$before" != -o ] || output=$word
     case $word in *.bc) input=$word ;; esac
     before=$word
 done
-[ -n "$input" ] && [ -n "$output" ] && cp "$input" "$output"
+cp "$input" "{room}/own.bc" &&
+    "{tools}/clang" --target=x86_64-unknown-linux-gnu -c -x assembler /dev/null -o "$output"
 """
 LINKER = """#!/bin/sh
-# Links without the archive of the sanitizer, to a place of our own, and gives `rt try` a copy.
+# Links the module in place of the empty object file, which is the first input, and without the archive of the
+# sanitizer, to a place of our own. `rt try` gets a copy.
 : > "{room}/compiling"
 inside= output= before=
 for word; do
     shift
     this=$word
     [ "$before" != -o ] || {{ output=$word word={room}/made; }}
+    [ "$word" != input-0 ] || word={room}/own.bc
     before=$this
     case $word in
         --whole-archive) inside=yes ;;
@@ -176,7 +179,7 @@ def kit_that_keeps(kit, room):
     write_tool(folder / "bin" / "rattle", "#!/bin/sh\nexit 1\n")
     link_all(kit / "toolchain", folder / "toolchain", ("bin",))
     link_all(tools, folder / "toolchain" / "bin", ("clang", "ld.lld"))
-    write_tool(folder / "toolchain/bin/clang", CLANG)
+    write_tool(folder / "toolchain/bin/clang", CLANG, tools=tools, room=room)
     write_tool(folder / "toolchain/bin/ld.lld", LINKER, tools=tools, room=room, passes=PASSES, level=LEVEL)
     return folder / "bin" / "rt"
 
@@ -208,7 +211,7 @@ def wait_for(build, name, room):
 def first_fault(text):
     """The line that says best why a build failed."""
     lines = [line.strip() for line in text.splitlines() if line.strip()]
-    return next((line for line in lines if "error" in line), lines[-1] if lines else "it said nothing")
+    return next((line for line in lines if "error" in line), lines[0] if lines else "it said nothing")
 
 
 def build(kit, folder, room, target):
