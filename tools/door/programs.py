@@ -16,7 +16,8 @@ One build of a program runs at a time: the others wait for its lock, which the s
 A build ends with a rename, so what was cut off is never taken for whole.
 
 Prints three lines: the program's path from the top, `proved` or `unproved`, and why it is unproved. Writes them to
-out/unproved/NAME.record too, with what the program was made from, so that ./matchcheck need not ask again.
+out/unproved/NAME.record too, and beside it lists of what the program was made from, so that ./matchcheck need not ask
+again.
 """
 import contextlib
 import ctypes
@@ -276,28 +277,46 @@ def build_once(kit, name, top=ROOT):
     fail(NOT_BUILT, f"the sources of {name} change faster than they are built")
 
 
+def below(folder):
+    """The folder, and all that is in it at any depth, as paths from the top."""
+    found = []
+    for at, _, names in os.walk(folder):
+        inside = os.path.relpath(at, ROOT)
+        found += [inside, *(f"{inside}/{it}" for it in names)]
+    return found
+
+
 def watched(kit, rt, name, has_stamp):
-    """What a change of the program would show in: paths from the top, and those of the kit. Proofs and statements are
-    a part of what was proved, and so they count where there is a stamp."""
-    parts = ("src", "specs", "proofs") if has_stamp else ("src",)
-    # Of the first two folders the search looks at the folder alone, and so sees which names are in it.
+    """Two lists of paths in which a change of the program would show: those of its code and statements, and with them
+    those of the proofs. Where there is no stamp the code alone counts. A folder shows which names are in it."""
+    crates = sorted(crates_below(name))
     found = ["crates", f"crates/{name}", "crates.txt", "tools/door/programs.py"]
-    for crate in sorted(crates_below(name)):
-        found += [f"crates/{crate}/{part}" for part in parts if (ROOT / "crates" / crate / part).is_dir()]
     own = ["args", "status", "stdin"] + [f"out/{name}", f"out/{name}.stamp"] * has_stamp
     found += [f"crates/{name}/{it}" for it in own if (ROOT / "crates" / name / it).exists()]
-    return found + [str(it) for it in (rt, kit / "WHAT", kit / "KIT-ID") if os.path.exists(it)]
+    found += [str(it) for it in (rt, kit / "WHAT", kit / "KIT-ID") if os.path.exists(it)]
+    for part in ("src", "specs") if has_stamp else ("src",):
+        found += [it for crate in crates for it in below(ROOT / "crates" / crate / part)]
+    proofs = [it for crate in crates for it in below(ROOT / "crates" / crate / "proofs")] if has_stamp else []
+    return found, found + proofs
 
 
-def record(lines, name, before):
-    """Writes the record, with the time of a moment before the sources were read. What a clock of whole ticks might
-    not tell apart counts as changed."""
-    if any(re.search(r"[\s*?\[\\]", it) for it in lines[-1].split(" ")) or "\n" in "".join(lines):
-        return
-    part = KEPT / f"{name}.record.{os.getpid()}"
-    part.write_text("".join(f"{line}\n" for line in lines))
-    os.utime(part, (before - 1, before - 1))
-    part.rename(KEPT / f"{name}.record")
+def write_apart(path, text, when=None):
+    """Writes a file apart and then renames it, so that no reader meets half of it; with this time, if it is given."""
+    part = path.with_name(f"{path.name}.{os.getpid()}")
+    part.write_text(text)
+    if when is not None:
+        os.utime(part, (when, when))
+    part.rename(path)
+
+
+def record(lines, name, lists, before):
+    """Writes the record of a program, and before it the lists of what it was made from. Its time is that of a moment
+    before the sources were read; what a clock of whole ticks might not tell apart counts as changed."""
+    with open(KEPT / f"{name}.lock", "a") as lock:
+        fcntl.flock(lock, fcntl.LOCK_EX)
+        for ending, paths in zip(("code", "all"), lists):
+            write_apart(KEPT / f"{name}.{ending}", "".join(f"{it}\0" for it in paths))
+        write_apart(KEPT / f"{name}.record", "".join(f"{line}\n" for line in lines), before - 1)
 
 
 def found_program(kit, name, may_build):
@@ -325,8 +344,7 @@ def main(words):
     KEPT.mkdir(parents=True, exist_ok=True)
     program, state, why, has_stamp, before = found_program(kit, name, words[0] == "find")
     lines = [str(program.relative_to(ROOT)), state, why]
-    more = ["yes" if has_stamp else "no", rt, " ".join(watched(kit, rt, name, has_stamp))]
-    record(lines + more, name, before)
+    record([*lines, "yes" if has_stamp else "no", rt], name, watched(kit, rt, name, has_stamp), before)
     print("\n".join(lines))
 
 
