@@ -233,9 +233,9 @@ def build(kit, folder, room, target):
             build_of.wait()
             shutil.rmtree(room, ignore_errors=True)
             fail(130, f"the build of {name} was interrupted; nothing of it is kept")
-    made = room / "made"
+    made, log = room / "made", KEPT / f"{name}.log"
+    log.unlink(missing_ok=True)
     if not made.is_file():
-        log = KEPT / f"{name}.log"
         os.replace(said, log)
         shutil.rmtree(room, ignore_errors=True)
         fault = first_fault(log.read_text(errors="replace"))
@@ -312,7 +312,7 @@ def write_apart(path, text, when=None):
 def record(lines, name, lists, before):
     """Writes the record of a program, and before it the lists of what it was made from. Its time is that of a moment
     before the sources were read; what a clock of whole ticks might not tell apart counts as changed."""
-    with open(KEPT / f"{name}.lock", "a") as lock:
+    with open(KEPT / f"{name}.writing", "a") as lock:
         fcntl.flock(lock, fcntl.LOCK_EX)
         for ending, paths in zip(("code", "all"), lists):
             write_apart(KEPT / f"{name}.{ending}", "".join(f"{it}\0" for it in paths))
