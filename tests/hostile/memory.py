@@ -36,7 +36,7 @@ def wrong_with(found, wanted):
 
 
 def ending(found):
-    return "status 6, nothing written" if found == (NO_MEMORY, b"") else "the whole output"
+    return "status 6, no output" if found == (NO_MEMORY, b"") else "whole output"
 
 
 def try_all(tried, program, folder):
@@ -74,6 +74,6 @@ def room(tried, program, folder):
 
         found = run(program, ["check", "f.rs"], folder, preexec_fn=hold)
         if isinstance(found[0], str) and found[0].startswith("127"):
-            tried.add("a large source with less and less room", "the system did not begin it")
+            tried.add("a large source with less and less room", "not begun")
             return
         tried.add("a large source with less and less room", ending(found), wrong_with(found, wanted), f"{pieces} MiB")
