@@ -1,4 +1,4 @@
-"""The decision tree of a function as a graph, a second time: in plain Python, from docs/use.md alone. Nothing about it is proved."""
+"""The decision tree of a function as a graph, a second time: in plain Python, from docs/use.md and docs/report.md alone. Nothing about it is proved."""
 from explaining import functions_with_arms, place_of
 
 HEAD = 'digraph tree {\n  labelloc=t;\n  label="%s";\n  node [shape=box];\n'

@@ -1,4 +1,4 @@
-"""The text of a report beside its file, a second time: in plain Python, from docs/use.md alone. Nothing about it is proved.
+"""The text of a report beside its file, a second time: in plain Python, from docs/use.md and docs/report.md alone. Nothing about it is proved.
 
 Lines and columns are counted from the decoded text before a place; functions are found by the oracle's tokens.
 """
