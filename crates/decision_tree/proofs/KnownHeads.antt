@@ -1,5 +1,5 @@
 -- Heads side by side.
-use Rattle.std.proofs.Common.{◌≡◌, ℕ, zero, suc, ◌+◌, List, [], ◌∷◌, ◌++◌, map, replicate, Option, Some, None, ap, sym, ◌∙◌, arith, append-nil, append_assoc}
+use Rattle.std.proofs.Common.{◌≡◌, ℕ, zero, suc, ◌+◌, List, [], ◌∷◌, ◌++◌, map, replicate, Some, None, ap, sym, ◌∙◌, arith, append-nil}
 use Rattle.std.specs.List.{flat_map}
 use Rattle.std.proofs.lemmas.Grind.{flat_map-append}
 use Rattle.keyed_matrix.specs.declared.rows.HeadRun.{HeadRun}
@@ -19,18 +19,6 @@ pub more-some : (first n next : ℕ) → first + n ≡ next → uids_of (Some fi
 more-some first n next e =
     let more : n + 1 ≡ suc n = omega arith in
     ap (uids_of (Some first)) more ∙ from-more first n next e
-
--- the last ones with one more
-pub last-longer : (all before new : List KnownHeads) (last heads : KnownHeads) (uid : Option ℕ) → all ≡ before ++ last ∷ [] →
-    plain_known_heads heads ≡ plain_known_heads last ++ uid ∷ [] → new ≡ before ++ heads ∷ [] →
-    flat_map plain_known_heads new ≡ flat_map plain_known_heads all ++ uid ∷ []
-last-longer all before new last heads uid e h n =
-    ap (flat_map plain_known_heads) n ∙ flat_map-append plain_known_heads before (heads ∷ [])
-    ∙ ap (λ us. flat_map plain_known_heads before ++ us) (append-nil (plain_known_heads heads) ∙ h)
-    ∙ sym (append_assoc (flat_map plain_known_heads before) (plain_known_heads last) (uid ∷ []))
-    ∙ ap (λ us. us ++ uid ∷ []) (sym (ap (flat_map plain_known_heads) e
-    ∙ flat_map-append plain_known_heads before (last ∷ [])
-    ∙ ap (λ us. flat_map plain_known_heads before ++ us) (append-nil (plain_known_heads last))))
 
 -- wildcards, as known heads
 pub known-wilds : {T : Type 0} (all new : List KnownHeads) (n : ℕ) (one : HeadRun T) → one ≡ Wilds n →

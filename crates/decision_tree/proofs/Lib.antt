@@ -47,7 +47,9 @@ pub mod ThinHeads
 pub mod ThinGood
 pub mod ThinLeads
 pub mod ThinMatrix
+mod Longer
 mod KnownHeads
+mod KnownColumns
 mod KnownRows
 pub mod Passing
 pub mod IdleCases

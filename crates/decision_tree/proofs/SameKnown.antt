@@ -1,33 +1,26 @@
 -- What the derived test finds equal tells the same matrix; what is among known trees.
-use Rattle.std.proofs.Common.{◌≡◌, ◌⊎◌, inl, inr, ℕ, Bool, true, false, if◌then◌else◌, cond, List, [], ◌∷◌, map, take, drop, Option, Some, None, refl, sym, ap, ◌∙◌, rules, nat_eq}
+use Rattle.std.proofs.Common.{◌≡◌, ◌⊎◌, inl, inr, ℕ, Bool, true, false, if◌then◌else◌, cond, List, [], ◌∷◌, ◌++◌, map, take, drop, Option, Some, None, refl, sym, ap, ◌∙◌, rules, nat_eq}
 use Rattle.std.proofs.lemmas.Slice.Eq.{bytes_eq-Decides}
 use Rattle.std.specs.Cmp.Lexicographic.{pointwise}
 use Rattle.std.specs.List.{flat_map}
 use Rattle.indexmap.specs.IndexMap.{insert_entry}
 use Rattle.match_model.specs.Lists.{Among}
-use Rattle.pat_context.specs.declared.place.Step.{Step}
-use Rattle.pat_context.specs.contracts.place.StepPartialEq.TheImpl as step_eq
 use Rattle.std.specs.Map.{lookup}
 use Rattle.std.specs.Option.{option_eq}
-use Rattle.pat_context.specs.Views.{plain_step, is_sure}
+use Rattle.pat_context.specs.Views.{plain_step}
 use Rattle.tree_eval.proofs.Pointwise.{both, nat-same, pointwise-map}
-use Rattle.decision_tree.specs.declared.known.KnownColumn.{KnownColumn}
+use Rattle.decision_tree.specs.declared.known.KnownColumns.{KnownColumns}
 use Rattle.decision_tree.specs.declared.known.KnownName.{KnownName}
 use Rattle.decision_tree.specs.declared.known.KnownHeads.{KnownHeads}
 use Rattle.decision_tree.specs.declared.known.KnownRow.{KnownRow}
 use Rattle.decision_tree.specs.declared.known.KnownMatrix.{KnownMatrix}
-use Rattle.decision_tree.specs.contracts.known.KnownColumnPartialEq.TheImpl as column_eq
+use Rattle.decision_tree.specs.contracts.known.KnownColumnsPartialEq.TheImpl as columns_eq
 use Rattle.decision_tree.specs.contracts.known.KnownNamePartialEq.TheImpl as name_eq
 use Rattle.decision_tree.specs.contracts.known.KnownHeadsPartialEq.TheImpl as heads_eq
 use Rattle.decision_tree.specs.contracts.known.KnownRowPartialEq.TheImpl as row_eq
 use Rattle.decision_tree.specs.contracts.known.KnownMatrixPartialEq.TheImpl as matrix_eq
-use Rattle.decision_tree.specs.KnownViews.{plain_known_heads, plain_known_column, side_place, plain_name, plain_known_row, plain_known_rows, plain_known_matrix}
-
-same-step : (a b : Step) → step_eq.ghosts.eq a b ≡ true → plain_step a ≡ plain_step b
-same-step a b h = let e : a ≡ b = search (rules, h) in ap plain_step e
-
-same-place : (a b : List Step) → pointwise (λ x y. step_eq.ghosts.eq x y) a b ≡ true → map plain_step a ≡ map plain_step b
-same-place a b h = pointwise-map (λ x y. step_eq.ghosts.eq x y) plain_step a b same-step h
+use Rattle.decision_tree.specs.KnownViews.{plain_known_heads, known_columns_from, plain_known_columns, side_place, plain_name, plain_known_row, plain_known_rows, plain_known_matrix}
+use Rattle.decision_tree.proofs.KnownColumns.{same-validity, same-place}
 
 -- lists that are equal item by item are one, where equal items are
 pointwise-same : {A : Type 0} (E : A → A → Bool) → ((x y : A) → E x y ≡ true → x ≡ y) → (xs ys : List A) →
@@ -41,12 +34,26 @@ pointwise-same E k (x ∷ xs) (y ∷ ys) h =
     let rest : xs ≡ ys = pointwise-same E k xs ys b.1 in
     ap (λ z. z ∷ xs) here ∙ ap (λ zs. y ∷ zs) rest
 
-same-column : (a b : KnownColumn) → column_eq.ghosts.eq a b ≡ true → plain_known_column a ≡ plain_known_column b
-same-column a b h =
+-- what is made of their items together is one, where equal items make one thing
+pointwise-flat : {A B : Type 0} (E : A → A → Bool) (f : A → List B) (xs ys : List A) →
+    ((x y : A) → E x y ≡ true → f x ≡ f y) → pointwise E xs ys ≡ true → flat_map f xs ≡ flat_map f ys
+pointwise-flat E f [] [] k h = refl
+pointwise-flat E f [] (y ∷ ys) k h = cc
+pointwise-flat E f (x ∷ xs) [] k h = cc
+pointwise-flat E f (x ∷ xs) (y ∷ ys) k h =
+    let b = both (E x y) (pointwise E xs ys) h in
+    let here : f x ≡ f y = k x y b.0 in
+    let rest : flat_map f xs ≡ flat_map f ys = pointwise-flat E f xs ys k b.1 in
+    λ i. here i ++ rest i
+
+same-columns : (a b : KnownColumns) → columns_eq.ghosts.eq a b ≡ true → plain_known_columns a ≡ plain_known_columns b
+same-columns a b h =
     let k = both _ _ h in
+    let l = both _ _ k.1 in
     let place : map plain_step a.place.now ≡ map plain_step b.place.now = same-place a.place.now b.place.now k.0 in
-    let sure : a.validity ≡ b.validity = search (rules, k.1) in
-    λ i. record { place = place i; sure = (ap is_sure sure) i }
+    let count : a.count ≡ b.count = nat-same a.count b.count l.0 in
+    let sure = same-validity a.validity b.validity l.1 in
+    λ i. known_columns_from (place i) (sure i) 0 (count i)
 
 same-name : (a b : KnownName) → name_eq.ghosts.eq a b ≡ true → plain_name a ≡ plain_name b
 same-name a b h =
@@ -113,8 +120,9 @@ pub same-matrix : (a b : KnownMatrix) → matrix_eq.ghosts.eq a b ≡ true → p
 same-matrix a b h =
     let d = both _ _ h in
     let k = both _ _ d.1 in
-    let columns : map plain_known_column a.columns.items ≡ map plain_known_column b.columns.items = pointwise-map
-    (λ x y. column_eq.ghosts.eq x y) plain_known_column a.columns.items b.columns.items same-column k.0 in
+    let columns : flat_map plain_known_columns a.columns.items ≡ flat_map plain_known_columns b.columns.items =
+    pointwise-flat (λ x y. columns_eq.ghosts.eq x y) plain_known_columns a.columns.items b.columns.items same-columns
+    k.0 in
     let l = both _ _ k.1 in
     let heads : a.heads.items ≡ b.heads.items = pointwise-same (λ x y. heads_eq.ghosts.eq x y) same-heads a.heads.items
     b.heads.items l.0 in

@@ -1,10 +1,10 @@
 -- What tells matrices, and which trees are known, as the definitions have them.
-use Rattle.std.specs.Prelude.{ℕ, zero, suc, List, [], ◌∷◌, ◌++◌, map, take, drop, replicate, Option, Some, None}
+use Rattle.std.specs.Prelude.{ℕ, zero, suc, ◌+◌, Bool, List, [], ◌∷◌, ◌++◌, map, take, drop, replicate, Option, Some, None}
 use Rattle.std.specs.List.{flat_map}
-use Rattle.match_model.specs.Places.{MStep, MiddleStep}
+use Rattle.match_model.specs.Places.{MStep, FieldStep, FrontStep, MiddleStep}
 use Rattle.match_model.specs.Trees.{MBind}
 use Rattle.pat_context.specs.Views.{plain_place, is_sure}
-use Rattle.decision_tree.specs.declared.known.KnownColumn.{KnownColumn}
+use Rattle.decision_tree.specs.declared.known.KnownColumns.{KnownColumns}
 use Rattle.decision_tree.specs.declared.known.KnownName.{KnownName}
 use Rattle.decision_tree.specs.declared.known.KnownHeads.{KnownHeads}
 use Rattle.decision_tree.specs.declared.known.KnownRow.{KnownRow}
@@ -12,8 +12,26 @@ use Rattle.decision_tree.specs.declared.known.KnownMatrix.{KnownMatrix}
 use Rattle.decision_tree.specs.declared.known.KnownTrees.{KnownTrees}
 use Rattle.decision_tree.specs.Known.{MKnownColumn, MKnownRow, MKnownMatrix}
 
-abbrev pub plain_known_column : KnownColumn → MKnownColumn
-plain_known_column c = record { place = plain_place c.place.now; sure = is_sure c.validity }
+-- the step to the part of the same variant, or to the item from the front, so many after; any other step stays as it is
+abbrev pub step_after : MStep → (count : ℕ) → MStep
+step_after (FieldStep variant part) n = FieldStep variant (part + n)
+step_after (FrontStep item) n = FrontStep (item + n)
+step_after step n = step
+
+-- the place whose last step is so many parts or items after that of this one
+abbrev pub place_after : List MStep → (count : ℕ) → List MStep
+place_after [] n = []
+place_after (step ∷ []) n = step_after step n ∷ []
+place_after (step ∷ next ∷ steps) n = step ∷ place_after (next ∷ steps) n
+
+-- so many columns, the first so many parts or items after the place, and each one more than that before it
+abbrev pub known_columns_from : List MStep → (sure : Bool) → (first count : ℕ) → List MKnownColumn
+known_columns_from place sure first zero = []
+known_columns_from place sure first (suc n) =
+    record { place = place_after place first; sure = sure } ∷ known_columns_from place sure (suc first) n
+
+abbrev pub plain_known_columns : KnownColumns → List MKnownColumn
+plain_known_columns c = known_columns_from (plain_place c.place.now) (is_sure c.validity) 0 c.count
 
 -- the place of what a name holds that leaves so many items out at each end, or none
 abbrev pub side_place : List MStep → Option (ℕ × ℕ) → List MStep
@@ -53,7 +71,7 @@ plain_known_rows heads (r ∷ rows) = plain_known_row (take r.size heads) r ∷ 
 
 abbrev pub plain_known_matrix : KnownMatrix → MKnownMatrix
 plain_known_matrix m = record {
-  columns = map plain_known_column m.columns.items;
+  columns = flat_map plain_known_columns m.columns.items;
   rows = plain_known_rows m.heads.items m.rows.items;
 }
 

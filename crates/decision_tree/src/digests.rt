@@ -1,5 +1,5 @@
 // A number made of what tells a matrix, by which it is looked for: equal matrices have one, and others seldom the same.
-use crate::known::{KnownColumn, KnownHeads, KnownName, KnownRow};
+use crate::known::{KnownColumns, KnownHeads, KnownName, KnownRow};
 use pat_context::Step;
 
 // The digest with one number more: an odd number near 2^64 divided by the golden ratio spreads it upwards, and the turn
@@ -69,17 +69,17 @@ fn with_row<'a>(digest: u64, row: &KnownRow<'a>) -> u64 {
 }
 
 // The digest of the columns.
-fn columns_digest<'a>(columns: &[KnownColumn<'a>]) -> u64 {
+fn columns_digest<'a>(columns: &[KnownColumns<'a>]) -> u64 {
     let mut digest = 0;
-    for column in columns {
-        digest = with_place(digest, column.place);
+    for some in columns {
+        digest = with_place(mixed(digest, some.count), some.place);
     }
     digest
 }
 
 // The digest of the matrix.
 pub(crate) fn digest_of<'a>(
-    columns: &[KnownColumn<'a>],
+    columns: &[KnownColumns<'a>],
     heads: &[KnownHeads],
     rows: &[KnownRow<'a>],
 ) -> u64 {

@@ -14,10 +14,14 @@ use no_memory::NoMemory;
 use pat_context::{Step, Validity};
 use std::alloc::Global;
 
-// What tells a column: its place, at which the match has one type, and whether that is sure.
+// What tells columns side by side: one, or columns of one validity whose places follow one another. These are the parts of
+// one variant, or the items from the front of one row, each with the next number. At a place the match has one type.
 #[derive(PartialEq, Eq, Drop)]
-pub(crate) struct KnownColumn<'a> {
+pub(crate) struct KnownColumns<'a> {
+    // The place of the first.
     pub(crate) place: &'a [Step],
+    // How many there are.
+    pub(crate) count: u64,
     pub(crate) validity: Validity,
 }
 
@@ -60,7 +64,7 @@ pub(crate) struct KnownMatrix<'a> {
     // heads that patterns wrote. By it alone the matrix is looked for among the others; two that share it are compared.
     pub(crate) digest: u64,
     #[derive_where(skip(Hash))]
-    pub(crate) columns: Vec<KnownColumn<'a>>,
+    pub(crate) columns: Vec<KnownColumns<'a>>,
     // The heads of the rows, those of one behind those of the other.
     #[derive_where(skip(Hash))]
     pub(crate) heads: Vec<KnownHeads>,
@@ -114,14 +118,12 @@ fn row_words<'a>(row: &KnownRow<'a>) -> usize {
         .saturating_add(ROW_WORDS)
 }
 
-// About how many words the matrix takes: three for a column and for heads side by side, and those of the rows.
+// About how many words the matrix takes: four for columns side by side, three for heads side by side, and those of the
+// rows.
 fn matrix_words<'a>(matrix: &KnownMatrix<'a>) -> usize {
-    let mut words = matrix
-        .columns
-        .len()
-        .saturating_add(matrix.heads.len())
-        .saturating_mul(3)
-        .saturating_add(MATRIX_WORDS);
+    let columns = matrix.columns.len().saturating_mul(4);
+    let heads = matrix.heads.len().saturating_mul(3);
+    let mut words = columns.saturating_add(heads).saturating_add(MATRIX_WORDS);
     for row in &matrix.rows {
         words = words.saturating_add(row_words(row));
     }

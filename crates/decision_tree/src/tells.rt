@@ -1,17 +1,21 @@
 // What tells a matrix from the others of a match.
 ghost use Rattle.std.specs.Prelude.{◌≡◌, ◌+◌, ◌++◌, ◌∷◌, [], List, true, length, map, IfOk, IfSome, OnOk};
 ghost use Rattle.std.specs.List.{flat_map};
-ghost use Rattle.keyed_matrix.specs.Views.{plain_caught, plain_columns, plain_run, plain_heads, plain_row};
-ghost use Rattle.keyed_matrix.specs.Views.{plain_rows};
+ghost use Rattle.pat_context.specs.Views.{plain_step, plain_place, is_sure};
+ghost use Rattle.keyed_matrix.specs.Views.{plain_caught, plain_column, plain_columns, plain_run, plain_heads};
+ghost use Rattle.keyed_matrix.specs.Views.{plain_row, plain_rows};
 ghost use Rattle.decision_tree.specs.Known.{head_uid, known_column, known_row, known_matrix};
 ghost use Rattle.decision_tree.specs.KnownViews.{uids_of, plain_known_heads};
-ghost use Rattle.decision_tree.specs.KnownViews.{plain_known_column, plain_name, plain_known_row, plain_known_matrix};
+ghost use Rattle.decision_tree.specs.KnownViews.{step_after, place_after, known_columns_from, plain_known_columns};
+ghost use Rattle.decision_tree.specs.KnownViews.{plain_name, plain_known_row, plain_known_matrix};
+ghost use Rattle.decision_tree.specs.declared.known.KnownColumns.{KnownColumns};
 ghost use Rattle.decision_tree.specs.declared.known.KnownHeads.{KnownHeads};
 
 use crate::digests::digest_of;
-use crate::known::{KnownColumn, KnownHeads, KnownMatrix, KnownName, KnownRow};
+use crate::known::{KnownColumns, KnownHeads, KnownMatrix, KnownName, KnownRow};
 use keyed_matrix::{Caught, HeadRun, KeyedColumn, KeyedRow};
 use no_memory::NoMemory;
+use pat_context::Step;
 use pattern_arena::Part;
 use std::alloc::Global;
 
@@ -189,20 +193,129 @@ fn copied(alloc: Global, numbers: &[u64]) -> Result<Vec<u64>, NoMemory>
     Ok(all)
 }
 
+// Tells whether the second step leads to the part of the same variant, or to the item from the front, so many after that
+// of the first.
+fn is_step_after(first: &Step, count: u64, next: &Step) -> bool
+    ensures { result ≡ true → step_after (plain_step first.now) count ≡ plain_step next.now }
+{
+    match (first, next) {
+        (
+            Step::Field { variant, part },
+            Step::Field {
+                variant: other,
+                part: further,
+            },
+        ) => *variant == *other && is_next(*part as u64, count, *further as u64),
+        (Step::Front(item), Step::Front(further)) => is_next(*item, count, *further),
+        _ => false,
+    }
+}
+
+// Tells whether the second place differs from the first in its last step alone, which leads so many parts or items
+// after.
+fn is_place_after(first: &[Step], count: u64, next: &[Step]) -> bool
+    ensures { result ≡ true → place_after (plain_place first.now) count ≡ plain_place next.now }
+{
+    match (first.split_last(), next.split_last()) {
+        (Some((last, before)), Some((other, around))) => {
+            is_step_after(last, count, other) && before == around
+        }
+        _ => false,
+    }
+}
+
+// Tells whether the columns go on with this one.
+fn is_next_column<'a, T: Copy>(columns: &KnownColumns<'a>, column: &KeyedColumn<'a, T>) -> bool
+    ensures { result ≡ true → known_columns_from (plain_place columns.now.place.now) (is_sure columns.now.validity) 0
+        (columns.now.count + 1) ≡ plain_known_columns columns.now ++ known_column (plain_column column.now) ∷ [] }
+{
+    columns.validity == column.validity
+        && is_place_after(columns.place, columns.count, column.place)
+}
+
+// The columns with one more, where they go on with it.
+fn more_columns<'a, T: Copy>(
+    columns: &KnownColumns<'a>,
+    column: &KeyedColumn<'a, T>,
+) -> Option<KnownColumns<'a>>
+    ensures { IfSome result (λ c. plain_known_columns c
+        ≡ plain_known_columns columns.now ++ known_column (plain_column column.now) ∷ []) }
+{
+    if columns.count == u64::MAX {
+        return None;
+    }
+    if !is_next_column(columns, column) {
+        return None;
+    }
+    Some(KnownColumns {
+        place: columns.place,
+        count: columns.count + 1,
+        validity: columns.validity,
+    })
+}
+
+// The last ones of the columns with one more, where they go on with it.
+fn last_more_columns<'a, T: Copy>(
+    all: &[KnownColumns<'a>],
+    column: &KeyedColumn<'a, T>,
+) -> Option<KnownColumns<'a>>
+    ensures { IfSome result (λ c. (before : List KnownColumns) (last : KnownColumns) → all.now ≡ before ++ last ∷ []
+        → plain_known_columns c ≡ plain_known_columns last ++ known_column (plain_column column.now) ∷ []) }
+{
+    match all.last() {
+        None => None,
+        Some(last) => more_columns(last, column),
+    }
+}
+
+// Adds the column behind the others.
+fn push_column<'a, T: Copy>(
+    all: &mut Vec<KnownColumns<'a>>,
+    column: &KeyedColumn<'a, T>,
+) -> Result<(), NoMemory>
+    ensures { OnOk result (flat_map plain_known_columns all.new.items
+        ≡ flat_map plain_known_columns all.old.items ++ known_column (plain_column column.now) ∷ []) }
+{
+    all.push(KnownColumns {
+        place: column.place,
+        count: 1,
+        validity: column.validity,
+    })?;
+    Ok(())
+}
+
+// Adds the column: to the last ones, where they go on with it.
+fn add_column<'a, T: Copy>(
+    all: &mut Vec<KnownColumns<'a>>,
+    column: &KeyedColumn<'a, T>,
+) -> Result<(), NoMemory>
+    ensures { OnOk result (flat_map plain_known_columns all.new.items
+        ≡ flat_map plain_known_columns all.old.items ++ known_column (plain_column column.now) ∷ []) }
+{
+    match last_more_columns(all, column) {
+        None => push_column(all, column),
+        Some(columns) => match all.pop() {
+            None => push_column(all, column),
+            Some(_last) => {
+                all.push(columns)?;
+                Ok(())
+            }
+        },
+    }
+}
+
 // What tells the columns.
 fn known_columns<'a, T: Copy>(
     alloc: Global,
     columns: &[KeyedColumn<'a, T>],
-) -> Result<Vec<KnownColumn<'a>>, NoMemory>
-    ensures { IfOk result (λ v. map plain_known_column v.items ≡ map known_column (plain_columns columns.now)) }
+) -> Result<Vec<KnownColumns<'a>>, NoMemory>
+    ensures { IfOk result (λ v. flat_map plain_known_columns v.items ≡ map known_column (plain_columns columns.now)) }
 {
-    let mut all = Vec::with_capacity(alloc, columns.len())?;
+    let mut all = Vec::new(alloc);
     for column in columns {
-        all.push(KnownColumn {
-            place: column.place,
-            validity: column.validity,
-        })?;
+        add_column(&mut all, column)?;
     }
+    all.shrink_to_fit();
     Ok(all)
 }
 
