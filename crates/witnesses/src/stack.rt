@@ -7,7 +7,7 @@ ghost use Rattle.witnesses.specs.Views.{plain_witness, plain_names, plain_stack,
 ghost use Rattle.witnesses.specs.Rooms.{parts_of_witness, filled};
 
 use crate::Witness;
-use crate::witness::{anys, copy_all, fill, pop_top, room_for};
+use crate::witness::{anys, copy_all, pop_top, room_for};
 use no_memory::NoMemory;
 use pat_context::Ctor;
 use std::alloc::Global;
@@ -41,7 +41,7 @@ fn wrap_top(open: &mut Vec<Witness>, count: usize, room: Witness) -> Result<(), 
 {
     let base = open.len() - count;
     open.insert(base, Witness::Any)?;
-    let new = fill(room, open);
+    let new = room.fill(open);
     put_above(open, base, new);
     Ok(())
 }

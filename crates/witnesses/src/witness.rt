@@ -1,10 +1,12 @@
 // Witnesses.
-ghost use Rattle.std.specs.Prelude.{◌≡◌, ◌∷◌, ◌+◌, ◌<◌, ◌≤◌, map, take, drop, replicate, length, IfOk};
+ghost use Rattle.std.specs.Prelude.{◌≡◌, ◌∷◌, ◌+◌, ◌<◌, ◌≤◌, true, map, take, drop, replicate, length, IfOk};
 ghost use Rattle.match_model.specs.Witness.{AnyOf, NodeOf, witnesses_of};
 ghost use Rattle.slice_split.specs.Shapes.{plain_shape};
 ghost use Rattle.pat_context.specs.Views.{plain_ctor};
 ghost use Rattle.witnesses.specs.Views.{plain_witness, plain_strings, plain_names, tops};
 ghost use Rattle.witnesses.specs.Rooms.{row_room, room_for, parts_of_witness, filled};
+ghost use Rattle.witnesses.specs.Points.{begins_with_point, behind_points, put_behind};
+ghost use Rattle.witnesses.specs.declared.witness.Witness.{size-Witness};
 
 use no_memory::NoMemory;
 use pat_context::Ctor;
@@ -13,8 +15,9 @@ use slice_split::Shape;
 use std::alloc::Global;
 
 /// What values that no arm takes may look like. It is as deep as the patterns of its match: 64 levels at most in a
-/// source file, so that copying and dropping one, which go down level by level, stay as shallow.
-#[derive(Debug, Drop)]
+/// source file, each behind sixty references at most. Copying and dropping one go down level by level, and through
+/// references that follow one another in loops.
+#[derive(Debug)]
 pub enum Witness {
     /// Any value.
     Any,
@@ -43,6 +46,32 @@ pub enum Witness {
     Later,
 }
 
+impl Drop for Witness {
+    // A loop over references, so that many of them take no stack.
+    fn drop(mut self) {
+        loop {
+            match self {
+                Witness::Point(inner) => self = Box::into_inner(inner),
+                Witness::Node {
+                    variant: _,
+                    parts: _,
+                } => return,
+                Witness::Row {
+                    front: _,
+                    longer: _,
+                    back: _,
+                } => return,
+                Witness::Text(_) => return,
+                Witness::Else(_) => return,
+                Witness::Any => return,
+                Witness::Flag(_) => return,
+                Witness::Span(_) => return,
+                Witness::Later => return,
+            }
+        }
+    }
+}
+
 // The same texts again.
 fn copy_strings(alloc: Global, texts: &[String]) -> Result<Vec<String>, NoMemory>
     ensures { IfOk result (λ v. plain_strings v.items ≡ plain_strings texts.now) }
@@ -67,7 +96,32 @@ fn own_texts(alloc: Global, texts: &[&str]) -> Result<Vec<String>, NoMemory>
     Ok(all)
 }
 
-// The same witness again.
+// What stands behind the references that the witness begins with.
+fn behind_points(w: &Witness) -> &Witness
+    ensures behind { plain_witness result.now ≡ behind_points (plain_witness w.now) }
+    ensures size { size-Witness result.now ≤ size-Witness w.now }
+{
+    let mut here = w;
+    while let Witness::Point(inner) = here {
+        here = inner;
+    }
+    here
+}
+
+// The witness `last` with as many references around it as `w` begins with.
+fn put_behind(alloc: Global, w: &Witness, last: Witness) -> Result<Witness, NoMemory>
+    ensures { IfOk result (λ r. plain_witness r ≡ put_behind (plain_witness w.now) (plain_witness last)) }
+{
+    let mut here = w;
+    let mut all = last;
+    while let Witness::Point(inner) = here {
+        all = Witness::Point(Box::new(alloc, all)?);
+        here = inner;
+    }
+    Ok(all)
+}
+
+// The same witness again. References that follow one another are gone through in loops.
 #[cycle(copying)]
 pub(crate) fn copy_witness(alloc: Global, w: &Witness) -> Result<Witness, NoMemory>
     ensures { IfOk result (λ r. plain_witness r ≡ plain_witness w.now) }
@@ -85,10 +139,7 @@ pub(crate) fn copy_witness(alloc: Global, w: &Witness) -> Result<Witness, NoMemo
                 parts,
             })
         }
-        Witness::Point(inner) => {
-            let new = copy_witness(alloc, inner)?;
-            Ok(Witness::Point(Box::new(alloc, new)?))
-        }
+        Witness::Point(_) => copy_points(alloc, w),
         Witness::Row {
             front,
             longer,
@@ -104,6 +155,20 @@ pub(crate) fn copy_witness(alloc: Global, w: &Witness) -> Result<Witness, NoMemo
         }
         Witness::Later => Ok(Witness::Later),
     }
+}
+
+// The same witness again, which begins with a reference.
+#[cycle(copying)]
+fn copy_points(alloc: Global, w: &Witness) -> Result<Witness, NoMemory>
+    requires { begins_with_point (plain_witness w.now) ≡ true }
+    ensures { IfOk result (λ r. plain_witness r ≡ plain_witness w.now) }
+{
+    let Witness::Point(inner) = w else {
+        unreachable!();
+    };
+    let last = copy_witness(alloc, behind_points(inner))?;
+    let all = put_behind(alloc, w, last)?;
+    Ok(all)
 }
 
 // The same witnesses again.
@@ -215,34 +280,36 @@ fn take_into(mut places: Vec<Witness>, open: &mut Vec<Witness>) -> Vec<Witness>
     places
 }
 
-// The witness with the top ones of a stack, whose top stands last, in the places of its parts, the topmost first.
-pub(crate) fn fill(room: Witness, open: &mut Vec<Witness>) -> Witness
-    requires { parts_of_witness (plain_witness room) ≤ length open.old.items }
-    ensures filled { plain_witness result ≡ filled (plain_witness room) (tops open.old.items) }
-    ensures left { tops open.new.items ≡ drop (parts_of_witness (plain_witness room)) (tops open.old.items) }
-{
-    match room {
-        Witness::Node { variant, parts } => {
-            let parts = take_into(parts, open);
-            Witness::Node { variant, parts }
-        }
-        Witness::Point(mut inner) => {
-            *inner = pop_top(open);
-            Witness::Point(inner)
-        }
-        Witness::Row {
-            front,
-            longer,
-            back,
-        } => {
-            let front = take_into(front, open);
-            let back = take_into(back, open);
+impl Witness {
+    // The witness with the top ones of a stack, whose top stands last, in the places of its parts, the topmost first.
+    pub(crate) fn fill(self, open: &mut Vec<Witness>) -> Witness
+        requires { parts_of_witness (plain_witness self) ≤ length open.old.items }
+        ensures filled { plain_witness result ≡ filled (plain_witness self) (tops open.old.items) }
+        ensures left { tops open.new.items ≡ drop (parts_of_witness (plain_witness self)) (tops open.old.items) }
+    {
+        match self {
+            Witness::Node { variant, parts } => {
+                let parts = take_into(parts, open);
+                Witness::Node { variant, parts }
+            }
+            Witness::Point(mut inner) => {
+                *inner = pop_top(open);
+                Witness::Point(inner)
+            }
             Witness::Row {
                 front,
                 longer,
                 back,
+            } => {
+                let front = take_into(front, open);
+                let back = take_into(back, open);
+                Witness::Row {
+                    front,
+                    longer,
+                    back,
+                }
             }
+            bare => bare,
         }
-        bare => bare,
     }
 }
