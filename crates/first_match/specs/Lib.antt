@@ -1,0 +1,5 @@
+pub mod Selections
+pub mod Parts
+pub mod Bound
+pub mod Names
+pub mod Asking
