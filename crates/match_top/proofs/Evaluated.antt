@@ -6,9 +6,9 @@ use Rattle.decl_syntax.specs.Items.{ItemTree, file_view, item_view}
 use Rattle.decl_syntax.specs.declared.items.File.{File}
 use Rattle.decl_syntax.specs.declared.items.Item.{Item}
 use Rattle.match_model.specs.ArenaPatterns.{MDeMatch}
+use Rattle.match_model.specs.ArenaWays.{match_arms}
 use Rattle.match_model.specs.Declarations.{MProgram}
 use Rattle.match_model.specs.Select.{Selected, select}
-use Rattle.match_model.specs.Trees.{Means, MNode}
 use Rattle.match_model.specs.Types.{MType}
 use Rattle.match_model.specs.Typing.{is_value}
 use Rattle.match_model.specs.Values.{MValue}
@@ -32,6 +32,7 @@ use Rattle.match_top.specs.Reports.{NumberedFunction, functions_of, refusal_of}
 use Rattle.match_top.specs.Selections.{numbered_view, IsReady}
 use Rattle.match_top.specs.Telling.{told_outcome}
 use Rattle.match_top.specs.Words.{EvaluationForm}
+use Rattle.match_top.proofs.ArmsSelected.{selected_on}
 use Rattle.match_top.proofs.Told.{outcome_shown}
 
 -- what was looked for is the function that is meant
@@ -121,14 +122,14 @@ pub unread_is_named : (p : MProgram) (b : Bool) (t : MType) (text : List ℕ) (r
 unread_is_named p b t text rule (is_unwritten none) = refl
 unread_is_named p b t text rule (is_no_value w there nothing) = refl
 
--- what is told of what a tree means for a value of the domain is what the function's arms do
-pub outcome_told : (x : Source) (items : List ItemTree) (f : FunctionTree) (m : MDeMatch TyId) (nodes : List MNode) (v : MValue) (answers : List Bool) (s : Selected)
-    (text : List ℕ) (status : Status) → IsReady x items f m nodes v
-    → ((t : Selected) → Means nodes v answers t → s ≡ t) → text ≡ outcome_text (told_outcome x.table.now m s) → status ≡ status_of_outcome s.outcome
+-- what is told of what the match's arms do with a value of the domain is what the function's do
+pub outcome_told : (x : Source) (items : List ItemTree) (f : FunctionTree) (m : MDeMatch TyId) (v : MValue) (answers : List Bool) (s : Selected)
+    (text : List ℕ) (status : Status) → IsReady x items f m v → s ≡ select (match_arms m) v answers
+    → text ≡ outcome_text (told_outcome x.table.now m s) → status ≡ status_of_outcome s.outcome
     → IsShownOutcome (setting_in x items) f (select (written_arms (setting_in x items) f) v answers) text status
-outcome_told x items f m nodes v answers s text status ready means text_is status_is =
-    let chosen : Selected = select (written_arms (setting_in x items) f) v answers in
-    let same : s ≡ chosen = means chosen (ready.tree_is.good.means v ready.inside answers) in (
+outcome_told x items f m v answers s text status ready is text_is status_is =
+    let same : s ≡ select (written_arms (setting_in x items) f) v answers =
+    is ∙ selected_on x.table.now (setting_in x items) f m ready.match_is v answers ready.inside in (
       text_is
           ∙ ap outcome_text (outcome_shown x items f m ready.match_is s)
           ∙ ap (λ (t : Selected). outcome_text (shown_outcome (setting_in x items) f t)) same,

@@ -11,7 +11,7 @@ pub mod Named
 pub mod OneAnswer
 pub mod OneOutcome
 pub mod RuleNames
-pub mod Selected
+pub mod ArmsSelected
 pub mod SomeReport
 pub mod Told
 pub mod WithoutTrees

@@ -6,13 +6,13 @@ ghost use Rattle.decl_syntax.specs.Items.{ItemTree, file_view};
 ghost use Rattle.match_model.specs.Select.{select};
 ghost use Rattle.pattern_arena.specs.Trees.{plain_match};
 ghost use Rattle.pattern_rules.specs.Verdicts.{written_arms};
-ghost use Rattle.tree_eval.specs.Nodes.{tree_nodes};
+ghost use Rattle.first_match.specs.Selections.{ending_view};
 ghost use Rattle.tree_eval.specs.Views.{plain_value};
 ghost use Rattle.match_top.specs.Asked.{evaluation_view};
 ghost use Rattle.match_top.specs.Outcomes.{IsEvaluated, IsEvaluatedOf, IsShownOutcome, status_of_outcome};
 ghost use Rattle.match_top.specs.Reporting.{IsSound, StandsAt, IsFineFunction, setting_in};
 ghost use Rattle.match_top.specs.Reports.{numbered};
-ghost use Rattle.match_top.specs.Selections.{IsReady, ending_view};
+ghost use Rattle.match_top.specs.Selections.{IsReady};
 ghost use Rattle.match_top.specs.Statuses.{IsVerdict};
 ghost use Rattle.match_top.specs.Words.{accepts};
 
@@ -21,19 +21,18 @@ use crate::answering::Answer;
 use crate::finding::function_named;
 use crate::judging::match_of;
 use crate::refusals::{refusal_of, refused, refused_at};
-use crate::selecting::{Ending, selected};
 use crate::source::Source;
 use crate::telling::told;
-use crate::trees::tree_of_match;
 use crate::words::Evaluation;
 use bumpalo::Bump;
 use decl_lexer::name_form;
 use decl_syntax::{File, FnItem};
+use first_match::{Ending, select};
 use no_memory::NoMemory;
 use pattern_arena::{CheckedMatch, Placer};
 use pattern_check::function::first_fault;
 use std::alloc::Global;
-use tree_eval::{Tree, Value};
+use tree_eval::Value;
 use type_table::TyId;
 use value_text::{ValueFault, read_value};
 use verdict_json::outcome_bytes;
@@ -103,27 +102,26 @@ fn evaluated_fine(
         Err(ValueFault::NoMemory) => return Err(NoMemory),
     };
     let answers = given_answers(alloc, evaluation.answers)?;
-    let tree = tree_of_match(alloc, source, &arena, &m)?;
-    outcome_of(alloc, source, &m, &tree, &value, &answers)
+    outcome_of(alloc, source, &m, &value, &answers)
 }
 
-// What the match does with a value of its domain, told by its tree.
+// What the match does with a value of its domain, by its arms.
 fn outcome_of<'a>(
     alloc: Global,
     source: &Source<'_>,
     m: &CheckedMatch<'a, TyId>,
-    tree: &Tree,
     value: &Value,
     answers: &[bool],
 ) -> Result<Answer, NoMemory>
+    requires few { length m.now.arms.now < 2 ^ 32 }
     requires ready { (whole : List ItemTree) × (f : FunctionTree) × IsReady source.now whole f (plain_match m.now)
-        (tree_nodes tree.now) (plain_value value.now) }
+        (plain_value value.now) }
     ensures answers { (whole : List ItemTree) → (f : FunctionTree) → IsReady source.now whole f (plain_match m.now)
-        (tree_nodes tree.now) (plain_value value.now) → IfOk result (λ a. IsShownOutcome (setting_in source.now whole) f
+        (plain_value value.now) → IfOk result (λ a. IsShownOutcome (setting_in source.now whole) f
         (select (written_arms (setting_in source.now whole) f) (plain_value value.now) answers.now) a.text.items a.status) }
     ensures verdict { IfOk result (λ a. IsVerdict a.status) }
 {
-    let selection = selected(alloc, tree, value, answers)?;
+    let selection = select(alloc, m, value, answers)?;
     let shown = told(alloc, source.table, m, &selection)?;
     let text = outcome_bytes(alloc, &shown)?;
     let status = status_of_ending(&selection.ending);

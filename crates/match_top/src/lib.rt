@@ -9,8 +9,8 @@
 //! Words that name no file, but a number (`demo_words`), ask for the counts in the report on a generated file.
 //! For a report: `reporting` (the entries of the functions), `judging` (the match of a function, the engine's verdict on
 //! it, and which of its ranges overlap), `trees` (its decision tree, where it is asked for). For the outcome of one value: `evaluating` (the function, its
-//! first fault, the value), `finding` (the function by its name), `selecting` (what the tree of its match means for the
-//! value), `telling` (the values of names as they are shown). `refusals` has what both refuse.
+//! first fault, the value), `finding` (the function by its name), `telling` (the values of names as they are shown); what
+//! the arms of its match do with the value is told by `first_match`. `refusals` has what both refuse.
 //! `laws` says that a file has one answer, and that no function is left out of a report.
 #![tactic(auto)]
 
@@ -24,7 +24,6 @@ mod option_words;
 mod reading;
 mod refusals;
 mod reporting;
-mod selecting;
 mod source;
 mod statuses;
 mod telling;

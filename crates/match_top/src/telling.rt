@@ -1,24 +1,22 @@
 // What a match does with a value, as it is shown: each value is written at the type that its name has in the arm.
 ghost use Rattle.std.specs.Prelude.{◌≡◌, IfOk, map, string_bytes};
+ghost use Rattle.first_match.specs.Selections.{arm_view, ending_view as selected_ending, plain_held, selection_view};
 ghost use Rattle.pattern_arena.specs.Trees.{plain_match};
 ghost use Rattle.tree_eval.specs.Views.{plain_value};
-ghost use Rattle.tree_runs.specs.Held.{plain_held};
 ghost use Rattle.type_table.specs.Tables.{IsOf, table_program, table_type};
 ghost use Rattle.value_syntax.specs.Texts.{written_text};
 ghost use Rattle.verdict_json.specs.OutcomeTrees.{asked_view, ending_view, held_view, outcome_view};
 ghost use Rattle.witness_names.specs.Named.{IsOfFile};
 ghost use Rattle.witness_names.specs.NamedValues.{written_value};
-ghost use Rattle.match_top.specs.Selections.{arm_view, ending_view as selected_ending, selection_view};
 ghost use Rattle.match_top.specs.Telling.{AreNumbered, AreTypesIn, type_noted, told_binding};
 ghost use Rattle.match_top.specs.Telling.{told_bindings, told_asked, told_ending, told_outcome};
 
-use crate::selecting::{Ending, HeldArm, Selection};
 use bound_types::BoundTypes;
+use first_match::{Ending, Held, HeldArm, Selection};
 use no_memory::NoMemory;
 use pattern_arena::CheckedMatch;
 use std::alloc::Global;
 use tree_eval::Value;
-use tree_runs::Held;
 use type_table::{TyId, TypeTable};
 use value_syntax::push_written;
 use verdict_json::{AskedText, EndingText, HeldText, OutcomeText};

@@ -36,31 +36,22 @@ returns-in-Err-Rule-clause-answers c = λ whole fine.
     unread_answer x whole f (plain_match m) (c.in_ok-m.ensures whole fine) c.args.number (evaluation_view c.args.evaluation.now) c.in-Err-Rule.rule _ fine.fine unread
     (rw c.in-Err-Rule.rule-is at c.refused_at.ensures.answers)
 
-pub tree_of_match-requires-clause-few : goal.tree_of_match-requires-clause-few
-tree_of_match-requires-clause-few c =
+pub outcome_of-requires-clause-few : goal.outcome_of-requires-clause-few
+outcome_of-requires-clause-few c =
     few_arms c.args.source.now c.requires.fine.0 (function_view c.args.f.now) c.in_ok-m.m (2 ^ 32) (c.in_ok-m.ensures c.requires.fine.0 c.requires.fine.1)
     (few_held c.args.f.now.arms.items (2 ^ 32) c.requires.few)
 
-pub tree_of_match-requires-clause-shown : goal.tree_of_match-requires-clause-shown
-tree_of_match-requires-clause-shown c = (c.requires.fine.0, function_view c.args.f.now, c.in_ok-m.ensures c.requires.fine.0 c.requires.fine.1)
-
-pub outcome_of-requires : goal.outcome_of-requires
-outcome_of-requires c =
+pub outcome_of-requires-clause-ready : goal.outcome_of-requires-clause-ready
+outcome_of-requires-clause-ready c =
     let x = c.args.source.now in
     let whole = c.requires.fine.0 in
     let f = function_view c.args.f.now in
     let m = plain_match c.in_ok-m.m in
-    let made = c.in_ok-m.ensures whole c.requires.fine.1 in record {
-      ready = (
-        whole,
-        f,
-        record {
-          match_is = made;
-          tree_is = c.in_ok-tree.ensures whole f made;
-          inside = in_domain x whole f m made (plain_value c.in-Ok.value) c.in-Ok.ensures.value;
-        },
-      );
-    }
+    let made = c.in_ok-m.ensures whole c.requires.fine.1 in (
+      whole,
+      f,
+      record { match_is = made; inside = in_domain x whole f m made (plain_value c.in-Ok.value) c.in-Ok.ensures.value },
+    )
 
 pub returns-clause-answers : goal.returns-clause-answers
 returns-clause-answers c = λ whole fine.
@@ -71,7 +62,6 @@ returns-clause-answers c = λ whole fine.
     let made = c.in_ok-m.ensures whole fine in
     let told = c.outcome_of.ensures.answers whole f (record {
       match_is = made;
-      tree_is = c.in_ok-tree.ensures whole f made;
       inside = in_domain x whole f m made v c.in-Ok.ensures.value;
     }) in
     read_answer x whole f m made c.args.number (evaluation_view c.args.evaluation.now) v _ fine.fine c.in-Ok.ensures.read

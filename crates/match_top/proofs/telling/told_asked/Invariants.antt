@@ -1,7 +1,7 @@
 use Rattle.std.proofs.Common.{◌≡◌, map, take}
+use Rattle.first_match.specs.Selections.{arm_view}
 use Rattle.pattern_arena.specs.Trees.{plain_match}
 use Rattle.verdict_json.specs.OutcomeTrees.{asked_view}
-use Rattle.match_top.specs.Selections.{arm_view}
 use Rattle.match_top.specs.Telling.{AreTypesIn, told_asked}
 use Rattle.match_top.proofs.telling.told_asked.Given as goal
 

@@ -1,6 +1,6 @@
 use Rattle.std.proofs.Common.{◌≡◌, map, take}
+use Rattle.first_match.specs.Selections.{plain_held}
 use Rattle.pattern_arena.specs.Trees.{plain_match}
-use Rattle.tree_runs.specs.Held.{plain_held}
 use Rattle.verdict_json.specs.OutcomeTrees.{held_view}
 use Rattle.match_top.specs.Telling.{told_binding, type_told}
 use Rattle.match_top.proofs.telling.told_bindings.Given as goal
