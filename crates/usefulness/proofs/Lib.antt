@@ -44,4 +44,5 @@ pub mod Openings
 pub mod Repeated
 pub mod FirstRows
 pub mod FirstFrames
+pub mod Covering
 mod TwoArms

@@ -12,14 +12,11 @@ use Rattle.pattern_matrix.specs.Sparse.{head_at, heads_at}
 use Rattle.pattern_matrix.specs.Counting.{Question}
 use Rattle.pattern_matrix.specs.Searching.{heads_in, weight_of, IsFit, Comes}
 use Rattle.usefulness.specs.declared.marks.Marks.{Marks}
+use Rattle.usefulness.specs.Compact.{AreAllUsed}
 use Rattle.usefulness.specs.Marking.{is_marked}
 use Rattle.usefulness.specs.Frames.{SparseAsked, asked_views, numbers, places, sub_view}
 use Rattle.usefulness.specs.Words.{AreNumbered, bit, words}
 use Rattle.usefulness.proofs.SameWords.{cons_same, split_same, bit_same, rows_same, AreSameRows, AreAligned, all_aligned, alike_counts, alike_weighs, all_alike, partner, same_at}
-
--- each column has a head in some row
-abbrev pub AreAllUsed : {T : Type 0} → (cs : List ℕ) → List (SparseAsked T) → Type 0
-AreAllUsed {T} cs xs = (c : ℕ) → Contains cs c → (x : SparseAsked T) × Contains xs x × ((p : MDePat T) × (head_at x.row.heads c ≡ Some p))
 
 -- a row's head has its column's type
 typed_at : {T : Type 0} (cx : Context T) (heads : List (ℕ × MDePat T)) (shown : List (ℕ × Open T)) (o : ℕ × Open T) → AreHeadsTyped cx (cols (places shown)) (heads_at heads (numbers shown)) → Contains shown o →

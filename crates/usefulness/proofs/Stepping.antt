@@ -17,7 +17,7 @@ use Rattle.pattern_matrix.proofs.HandingOn.{here, there, in_cons}
 use Rattle.usefulness.specs.declared.frames.Frame.{Frame}
 use Rattle.usefulness.specs.declared.marks.Marks.{Marks}
 use Rattle.usefulness.specs.Frames.{SparseAsked, numbers, sub_view, IsHeadIn, IsRowIn, AreOpen, has_start}
-use Rattle.usefulness.specs.Compact.{lists_at, some_lists, used_of, IsCompact}
+use Rattle.usefulness.specs.Compact.{lists_at, some_lists, used_of, AreAllUsed, IsCompact}
 use Rattle.usefulness.specs.Marking.{is_marked}
 use Rattle.usefulness.specs.Scope.{Scope, patterns_of}
 use Rattle.usefulness.specs.States.{plain_opens, plain_askeds, frame_view, IsGood}
@@ -26,7 +26,7 @@ use Rattle.usefulness.specs.Words.{AreNumbered, words}
 use Rattle.usefulness.proofs.Choosing.{same_got}
 use Rattle.usefulness.proofs.RowFacts.{heads_below, numbers_below}
 use Rattle.usefulness.proofs.Replacing.{stands_in, repeats}
-use Rattle.usefulness.proofs.SameSubs.{AreAllUsed, all_got, same_comes, same_weighs}
+use Rattle.usefulness.proofs.SameSubs.{all_got, same_comes, same_weighs}
 use Rattle.usefulness.proofs.Unused.{AreUsed, AreRowsUsed, comes_used, comes_unused, fit_used, weight_used}
 
 -- ---- columns where some row lists a head

@@ -1,8 +1,9 @@
 -- Columns where some row lists a head.
-use Rattle.std.specs.Prelude.{◌≡◌, ℕ, Bool, cond, nat_eq, List, [], ◌∷◌}
-use Rattle.std.specs.List.{list_any}
+use Rattle.std.specs.Prelude.{◌≡◌, ℕ, Bool, cond, nat_eq, List, [], ◌∷◌, Some}
+use Rattle.std.specs.List.{Contains, list_any}
 use Rattle.match_model.specs.ArenaPatterns.{MDePat}
 use Rattle.match_model.specs.Contexts.{Open}
+use Rattle.pattern_matrix.specs.Sparse.{head_at}
 use Rattle.usefulness.specs.declared.frames.Frame.{Frame}
 use Rattle.usefulness.specs.Frames.{SparseAsked}
 use Rattle.usefulness.specs.States.{plain_opens, plain_askeds}
@@ -25,3 +26,7 @@ pub record IsCompact {T : Type 0} (f g : Frame T) : Type 0 where
   pub rows : plain_askeds g.rows.items ≡ plain_askeds f.rows.items
   pub next : g.next ≡ f.next
   pub columns : plain_opens g.columns.items ≡ used_of (some_lists (plain_askeds f.rows.items)) (plain_opens f.columns.items)
+
+-- each column has a head in some row
+abbrev pub AreAllUsed : {T : Type 0} → (columns : List ℕ) → List (SparseAsked T) → Type 0
+AreAllUsed {T} columns xs = (c : ℕ) → Contains columns c → (x : SparseAsked T) × Contains xs x × ((p : MDePat T) × (head_at x.row.heads c ≡ Some p))

@@ -12,3 +12,4 @@ pub mod Keys
 pub mod Starting
 pub mod Cutting
 pub mod Stack
+pub mod Covering

@@ -1,9 +1,11 @@
 //! Which arms and alternatives of a match are reached.
 #![tactic(auto)]
 
+mod asking;
 mod children;
 mod choice;
 mod compact;
+mod covered;
 mod cutting;
 mod done;
 mod entering;
@@ -18,5 +20,7 @@ mod telling;
 mod told;
 mod wild;
 
+pub use asking::Asking;
+pub use covered::{Covered, is_covered, none_covered};
 pub use marks::{Alternative, Marks};
 pub use search::reach;

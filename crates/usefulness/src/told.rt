@@ -15,6 +15,9 @@ const UNTOLD: usize = 128;
 // only looked at again.
 const MOST_WORDS: usize = 1 << 24;
 
+// How many words are noted at most of what is only worth little.
+const FEW_WORDS: usize = 1 << 20;
+
 // What one list of words takes beside them, in words.
 const LIST_WORDS: usize = 8;
 
@@ -40,6 +43,18 @@ pub(crate) fn none_told(alloc: Global) -> Told
         untold: UNTOLD,
         alone: false,
         room: MOST_WORDS,
+    }
+}
+
+// No words yet, and room for fewer.
+pub(crate) fn few_told(alloc: Global) -> Told
+    ensures { told_keys result ≡ [] }
+{
+    Told {
+        lists: IndexSet::new(alloc),
+        untold: UNTOLD,
+        alone: false,
+        room: FEW_WORDS,
     }
 }
 
