@@ -132,7 +132,7 @@ module _ {T : Type 0} (IsType : T → Type 0) (IsValue : T → Bool → MValue �
           (search_next first (is_noted old) (is_noted mid) (todo_views cx before) (todo_view cx entry) (todo_views cx t.back) new seen
           (subst (λ ys. IsSearch IsType IsValue cx first (is_noted old) ys seen) (views_last before entry) search) t.next)
 
-      after_less : (b : ℕ) (new others : List (Submatrix T)) (t : IsTaken IsType IsValue cx scope (is_noted old) (is_noted mid) entry before after new) → length others < b → AreMadeOf others new →
+      pub after_less : (b : ℕ) (new others : List (Submatrix T)) (t : IsTaken IsType IsValue cx scope (is_noted old) (is_noted mid) entry before after new) → length others < b → AreMadeOf others new →
           work b (todo_views cx after ++ others) < work b (todo_views cx (before ++ entry ∷ []))
       after_less b new others t l made =
           subst (λ n. work b (todo_views cx after ++ others) < n) (ap (work b) (sym (views_last before entry)))

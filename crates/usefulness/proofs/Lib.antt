@@ -45,4 +45,11 @@ pub mod Repeated
 pub mod FirstRows
 pub mod FirstFrames
 pub mod Covering
+pub mod Passing
+pub mod AskedRows
+pub mod Known
+pub mod Nested
+pub mod AskedSteps
+pub mod AskedFirst
+pub mod AskedLooks
 mod TwoArms

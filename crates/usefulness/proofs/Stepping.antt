@@ -135,7 +135,7 @@ module _ {T : Type 0} (scope : Scope T) where
       heads_below scope f.next (numbers (plain_opens f.columns.items)) x.row.heads (numbers_below f.next (numbers (plain_opens f.columns.items)) r.columns)
       (all_got (IsRowIn scope (numbers (plain_opens f.columns.items))) (plain_askeds f.rows.items) x r.heads i).heads)
 
-  compact_used : (f g : Frame T) → IsCompact f g → IsGood scope f → AreAllUsed (numbers (plain_opens g.columns.items)) (plain_askeds g.rows.items)
+  pub compact_used : (f g : Frame T) → IsCompact f g → IsGood scope f → AreAllUsed (numbers (plain_opens g.columns.items)) (plain_askeds g.rows.items)
   compact_used f g c r =
       subst (λ os. AreAllUsed (numbers os) (plain_askeds g.rows.items)) (sym c.columns)
       (subst (AreAllUsed (numbers (used_of (some_lists (plain_askeds f.rows.items)) (plain_opens f.columns.items)))) (sym c.rows) (all_used (plain_opens f.columns.items) (plain_askeds f.rows.items) r.heads))
@@ -153,13 +153,18 @@ module _ {T : Type 0} (scope : Scope T) where
     pub compact_weighs : weight_of (frame_view g) ≡ weight_of (frame_view f)
     compact_weighs = ap weight_of (compact_view f g c) ∙ sym (weight_used test (plain_opens f.columns.items) (plain_askeds f.rows.items) (rows_used (plain_askeds f.rows.items)))
 
+    -- values come to the same
+    pub compact_on : (q : Question) → Comes IsValue q (frame_view f) → Comes IsValue q (frame_view g)
+    compact_on q k = subst (Comes IsValue q) (sym (compact_view f g c)) (comes_used test IsValue (plain_opens f.columns.items) (plain_askeds f.rows.items) (rows_used (plain_askeds f.rows.items)) q k)
+
+    pub compact_back : (q : Question) → Comes IsValue q (frame_view g) → Comes IsValue q (frame_view f)
+    compact_back q k = comes_unused test IsValue (plain_opens f.columns.items) (plain_askeds f.rows.items) (rows_used (plain_askeds f.rows.items)) fit.some q (subst (Comes IsValue q) (compact_view f g c) k)
+
     pub compact_search : (first : Submatrix T) (now : Question → Bool) (todo seen : List (Submatrix T)) → IsSearch IsType IsValue cx first now (todo ++ frame_view f ∷ []) seen →
         IsSearch IsType IsValue cx first now (todo ++ frame_view g ∷ []) seen
     compact_search first now todo seen s =
         let w = compact_weighs in
-        stands_in IsType IsValue cx first now now todo seen (frame_view f) s (λ q m. m) (λ q m. inl m) (frame_view g) compact_fit (omega (arith, w))
-        (λ q k. inr (subst (Comes IsValue q) (sym (compact_view f g c)) (comes_used test IsValue (plain_opens f.columns.items) (plain_askeds f.rows.items) (rows_used (plain_askeds f.rows.items)) q k)))
-        (λ q k. comes_unused test IsValue (plain_opens f.columns.items) (plain_askeds f.rows.items) (rows_used (plain_askeds f.rows.items)) fit.some q (subst (Comes IsValue q) (compact_view f g c) k))
+        stands_in IsType IsValue cx first now now todo seen (frame_view f) s (λ q m. m) (λ q m. inl m) (frame_view g) compact_fit (omega (arith, w)) (λ q k. inr (compact_on q k)) compact_back
 
 -- ---- what was looked at
 

@@ -13,3 +13,4 @@ pub mod Starting
 pub mod Cutting
 pub mod Stack
 pub mod Covering
+pub mod Behind

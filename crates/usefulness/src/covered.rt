@@ -1,9 +1,18 @@
 // Whether rows over open columns cover all values, asked many times for rows of one match.
+//
+// A question is a search like that for what is reached. A row of wildcards stands behind the rows and is the only one that
+// is wanted. Some value comes to it exactly where no row takes that value, so the question ends once it is marked.
+// Of each submatrix that is looked at, its words and the height of the stack are kept until all that is left of it was looked
+// at. Its rows then cover all values, and its words are noted in one table. Where a question ends early, the words of all
+// submatrices that were begun are noted in the other. No word depends on a mark, since none is made while a question goes on.
+// So words that one question notes serve all later ones.
 ghost use Rattle.std.specs.Prelude.{◌≡◌, true, false, map, IfOk};
 ghost use Rattle.pattern_arena.specs.Trees.{plain_arm};
 ghost use Rattle.usefulness.specs.Covering.{asking_columns, asking_rows, covered_arms, AreAllTaken, AreCovered, AreSomeLeft, IsAsking, IsNew};
 
 use crate::asking::Asking;
+use crate::begun::note_ended;
+use crate::behind::{begin, is_behind, step};
 use crate::told::{Told, few_told, none_told};
 use no_memory::NoMemory;
 use pat_context::PatCx;
@@ -47,5 +56,18 @@ pub fn is_covered<'a, C: PatCx>(
     ensures covered { IfOk result (λ b. b ≡ true → AreAllTaken (C.is_value cx.now) (asking_columns asking.entry) (asking_rows asking.entry)) }
     ensures left { IfOk result (λ b. b ≡ false → AreSomeLeft (C.is_value cx.now) (asking_columns asking.entry) (asking_rows asking.entry)) }
 {
-    Err(NoMemory)
+    let mut search = begin(alloc, cx, covered.arms, asking)?;
+    if is_behind(&search) {
+        return Ok(false);
+    }
+    while let Some(entry) = search.todo.pop() {
+        step(alloc, cx, covered, &mut search, entry)?;
+        if is_behind(&search) {
+            note_ended(&mut covered.left, &mut search.begun, 0)?;
+            return Ok(false);
+        }
+        let left = search.todo.len();
+        note_ended(&mut covered.full, &mut search.begun, left)?;
+    }
+    Ok(true)
 }

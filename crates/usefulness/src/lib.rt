@@ -1,7 +1,9 @@
-//! Which arms and alternatives of a match are reached.
+//! Which arms and alternatives of a match are reached, and whether rows over open columns cover all values.
 #![tactic(auto)]
 
 mod asking;
+mod begun;
+mod behind;
 mod children;
 mod choice;
 mod compact;

@@ -77,7 +77,7 @@ fn take_column<'a, T: Copy>(
 }
 
 // What is left of the rows where one of their columns is taken apart.
-fn split<'a, C: PatCx>(
+pub(crate) fn split<'a, C: PatCx>(
     alloc: Global,
     cx: &C,
     reached: &mut Reached<'a, C::Ty>,

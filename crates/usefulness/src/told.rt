@@ -1,5 +1,5 @@
 // The submatrices that were looked at, by the words that tell them.
-ghost use Rattle.std.specs.Prelude.{◌≡◌, ◌⊎◌, [], true, List, ℕ, OnOk};
+ghost use Rattle.std.specs.Prelude.{◌≡◌, ◌⊎◌, [], true, List, ℕ};
 ghost use Rattle.std.specs.List.{Contains};
 ghost use Rattle.usefulness.specs.Keys.{told_keys};
 
@@ -90,7 +90,7 @@ pub(crate) fn is_told(told: &Told, words: &Vec<u64>) -> bool
 
 // Notes the words, where there is room.
 pub(crate) fn note_told(told: &mut Told, words: Vec<u64>) -> Result<(), NoMemory>
-    ensures { OnOk result ((v : List ℕ) → Contains (told_keys told.new) v → Contains (told_keys told.old) v ⊎ (v ≡ words.items)) }
+    ensures { (v : List ℕ) → Contains (told_keys told.new) v → Contains (told_keys told.old) v ⊎ (v ≡ words.items) }
 {
     let needed = words.len().saturating_add(LIST_WORDS);
     if needed > told.room {

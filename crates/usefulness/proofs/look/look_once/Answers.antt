@@ -55,7 +55,7 @@ returns-clause-stepped g c =
     let (at, numbered, are) = c.in_ok-words.ensures in
     step_in (g.C.PatCx.is_type cx) (g.C.PatCx.is_value cx) (g.C.PatCx.context cx) (scope_of c.args.reached.now) c.requires.pinned c.args.frame c.in_ok-rest.rest c.in_ok-rest.ensures
     c.requires.good c.requires.fit c.args.reached.now.marks at numbered c.in_ok-words.words.items are (told_keys c.args.told.now)
-    (is_noted c.split.new.reached) (opened_views (g.C.PatCx.context cx) c.in_ok-new.new) (told_keys c.note_told.new.told) c.in_ok-new.ensures.looked c.in_ok-note_told.ensures
+    (is_noted c.split.new.reached) (opened_views (g.C.PatCx.context cx) c.in_ok-new.new) (told_keys c.note_told.new.told) c.in_ok-new.ensures.looked c.note_told.ensures
 
 pub returns-clause-lighter : goal.returns-clause-lighter
 returns-clause-lighter g c =
