@@ -21,6 +21,7 @@ use Rattle.pattern_matrix.specs.HeadRows.{cols, AllTyped}
 use Rattle.pattern_matrix.proofs.Places.{length-below}
 use Rattle.pattern_matrix.specs.Halving.{AreLeafSpans}
 use Rattle.pattern_matrix.specs.Sparse.{SparseLeaf, columns_from}
+use Rattle.witness_search.specs.Askable.{IsValued}
 use Rattle.witness_search.specs.Bares.{wild_rests}
 use Rattle.witness_search.specs.Cuts.{IsCutOf, wrapped_behind}
 use Rattle.witness_search.specs.Found.{AreWrapped, AreOfPieces, IsEnterable, AreNumbered, as_present}
@@ -168,6 +169,25 @@ module _ {T : Type 0} (cx : Context T) (IsValue : T → Bool → MValue → Type
       let e = one_pieces (cx.set_of o.type) heads (firsts ps) (firsts qs) h.are.listed k.are.listed in
       one_list (named_in (firsts ps)) heads ps qs e h.states (subst (λ cs. States (named_in cs) heads qs) (sym e) k.states)
 
+  -- each piece that is present has a value
+  valued_states : (named : List (List ℕ)) (heads : List MCtor) (ps : List (MCtor × PieceState)) → States named heads ps →
+      All (λ (p : MCtor × PieceState). p.1 ≡ Present → IsValued IsValue o p.0) ps
+  valued_states named heads [] s = All-nil (λ (p : MCtor × PieceState). p.1 ≡ Present → IsValued IsValue o p.0)
+  valued_states named heads ((c, x) ∷ ps) s =
+      All-cons (λ (p : MCtor × PieceState). p.1 ≡ Present → IsValued IsValue o p.0) (c, x) ps
+      (λ e. (named, (subst (IsState IsValue o named heads c) e (All-head (λ (p : MCtor × PieceState). IsState IsValue o named heads p.0 p.1) (c, x) ps s)).0))
+      (valued_states named heads ps (All-tail (λ (p : MCtor × PieceState). IsState IsValue o named heads p.0 p.1) (c, x) ps s))
+
+  valued_present : (named : List (List ℕ)) (heads : List MCtor) (ps : List (MCtor × PieceState)) → States named heads ps →
+      All (λ (p : MCtor × PieceState). p.1 ≡ Present → IsValued IsValue o p.0) (as_present (filter_map present_piece ps))
+  valued_present named heads [] s = All-nil (λ (p : MCtor × PieceState). p.1 ≡ Present → IsValued IsValue o p.0)
+  valued_present named heads ((c, Present) ∷ ps) s =
+      All-cons (λ (p : MCtor × PieceState). p.1 ≡ Present → IsValued IsValue o p.0) (c, Present) (as_present (filter_map present_piece ps))
+      (λ e. (named, (All-head (λ (p : MCtor × PieceState). IsState IsValue o named heads p.0 p.1) (c, Present) ps s).0))
+      (valued_present named heads ps (All-tail (λ (p : MCtor × PieceState). IsState IsValue o named heads p.0 p.1) (c, Present) ps s))
+  valued_present named heads ((c, Missing) ∷ ps) s = valued_present named heads ps (All-tail (λ (p : MCtor × PieceState). IsState IsValue o named heads p.0 p.1) (c, Missing) ps s)
+  valued_present named heads ((c, Empty) ∷ ps) s = valued_present named heads ps (All-tail (λ (p : MCtor × PieceState). IsState IsValue o named heads p.0 p.1) (c, Empty) ps s)
+
   -- each piece can be entered
   enterable : (heads : List MCtor) (ps : List (MCtor × PieceState)) → IsColumnSplit IsValue cx o heads ps → All (IsEnterable cx o) (firsts ps)
   enterable heads ps h = both_each (λ c. IsTrue (belongs (cx.set_of o.type) c)) HasFewItems (firsts ps) h.are.belong h.are.held
@@ -259,6 +279,8 @@ module _ {T : Type 0} (cx : Context T) (IsValue : T → Bool → MValue → Type
               (subst (λ (x : List (MCtor × PieceState)). AreOfPieces cx IsValue named o places rows x ws) same h),
         );
         enterable = subst (All (λ (p : MCtor × PieceState). IsEnterable cx o p.0)) (sym same) (of_present (IsEnterable cx o) f.pieces (enterable cx IsValue o (column_of rows) f.pieces split));
+        valued = subst (All (λ (p : MCtor × PieceState). p.1 ≡ Present → IsValued IsValue o p.0)) (sym same)
+            (valued_present cx IsValue o (named_in (firsts cx IsValue o f.pieces)) (column_of rows) f.pieces split.states);
         spans_are = s;
         numbered = subst (AreNumbered ctors (columns_from 0 (length ctors))) (sym (ap (filter_map present_piece) e ∙ present_back ctors)) (all_numbered ctors);
         missing = subst (All (λ (p : MCtor × PieceState). p.1 ≡ Missing → AreWrapped cx IsValue named o places rows p.0 (wrapped_behind cx named o behind p.0))) (sym e) (no_missing named behind ctors);
@@ -280,6 +302,7 @@ module _ {T : Type 0} (cx : Context T) (IsValue : T → Bool → MValue → Type
           subst (λ x. PieceWitnesses cx IsValue x o places rows (map (λ (p : MCtor × PieceState). p.0) pieces) ws) n (all_pieces named (column_of rows) pieces states ws g),
         );
         enterable = of_each (IsEnterable cx o) pieces (enterable cx IsValue o (column_of rows) pieces split);
+        valued = valued_states cx IsValue o (named_in (firsts cx IsValue o pieces)) (column_of rows) pieces split.states;
         spans_are = s;
         numbered = subst (AreNumbered ctors (columns_from 0 (length ctors))) (f.present ∙ ap (filter_map present_piece) same) (all_numbered ctors);
         missing = missing_states columns named behind pieces t states h;

@@ -6,6 +6,10 @@ pub mod Heads
 pub mod Stepping
 pub mod Leaves
 pub mod Ends
+pub mod Askable
+pub mod MadeHeads
+pub mod TakingRows
+pub mod Questions
 pub mod Steps
 pub mod Starting
 pub mod Going

@@ -12,10 +12,17 @@ use Rattle.match_model.specs.Witness.{MWitness}
 use Rattle.match_model.specs.WitnessList.{Witnesses, IsWitnessList, by_rows, row_of}
 use Rattle.match_model.proofs.Basics.{nat_itself}
 use Rattle.pattern_matrix.specs.HeadRows.{cols, AllTyped}
+use Rattle.pattern_matrix.proofs.HandingOn.{here}
 use Rattle.pattern_matrix.proofs.Exact.{AreLong, long_stacks}
 use Rattle.pattern_matrix.specs.Sparse.{SparseRow, bare_head, head_at, AreBelow, AreHeadsBelow}
 use Rattle.witnesses.specs.declared.stack.Stack.{Stack}
 use Rattle.witnesses.specs.Views.{plain_stack}
+use Rattle.usefulness.specs.Covering.{scope_asked}
+use Rattle.usefulness.specs.Frames.{IsHeadIn, IsRowIn}
+use Rattle.usefulness.specs.Scope.{patterns_in, patterns_of}
+use Rattle.usefulness.proofs.Inside.{itself_in}
+use Rattle.usefulness.proofs.Looking.{in_left, in_right}
+use Rattle.witness_search.specs.Askable.{unwanted_all, AreRowsOf, AreAskable}
 use Rattle.witness_search.specs.Bares.{bares}
 use Rattle.witness_search.specs.Starts.{starting_heads, starting_row, starting_rows}
 use Rattle.witness_search.specs.Wells.{heads_over, IsWell}
@@ -88,6 +95,34 @@ first_well IsType cx m numbers places rows w en ep er =
       apart = (All-nil (λ d. d ≢ 0), tt);
       as_many = refl;
     })))
+
+-- ---- they may be asked for
+
+starts_of : {T : Type 0} (all : List (MDeArm T)) (p : MDePat T) (b : Bool) → is_wild (Some p) ≡ b → Contains (patterns_of all) p →
+    All (IsHeadIn (scope_asked all) (0 ∷ [])) (cond b [] ((0, p) ∷ []))
+starts_of all p true e k = All-nil (IsHeadIn (scope_asked all) (0 ∷ []))
+starts_of all p false e k =
+    All-cons (IsHeadIn (scope_asked all) (0 ∷ [])) (0, p) [] (record { column = here 0 []; sharp = e; known = k }) (All-nil (IsHeadIn (scope_asked all) (0 ∷ [])))
+
+starting_of : {T : Type 0} (all arms : List (MDeArm T)) → ((p : MDePat T) → Contains (patterns_of arms) p → Contains (patterns_of all) p) → AreRowsOf all (0 ∷ []) (starting_rows arms)
+starting_of all [] f = All-nil (IsRowIn (scope_asked all) (0 ∷ []))
+starting_of {T = T} all (a ∷ arms) f =
+    go a.guarded (f a.pat (in_left (patterns_in a.pat) (patterns_of arms) a.pat (itself_in a.pat))) (starting_of all arms (λ p i. f p (in_right (patterns_in a.pat) (patterns_of arms) p i)))
+  where
+    go : (g : Bool) → Contains (patterns_of all) a.pat → AreRowsOf all (0 ∷ []) (starting_rows arms) → AreRowsOf all (0 ∷ []) (starting_row (record { pat = a.pat; guarded = g }) ++ starting_rows arms)
+    go true k r = r
+    go false k r =
+        All-cons (IsRowIn (scope_asked all) (0 ∷ [])) (record { row = record { heads = starting_heads a.pat; arm = 0; guarded = false; chosen = [] }; wanted = false }) (unwanted_all (starting_rows arms))
+        (record { arm = omega arith; heads = starts_of all a.pat (is_wild (Some a.pat)) refl k }) r
+
+pub first_askable : {T : Type 0} (IsValue : T → Bool → MValue → Type 0) (m : MDeMatch T) (numbers : List ℕ) (places : List (Open T)) → numbers ≡ 0 ∷ [] → places ≡ first_open m ∷ [] →
+    (v : MValue) → IsValue m.type m.sure v → AreAskable IsValue m.arms numbers places (starting_rows m.arms)
+first_askable IsValue m numbers places en ep v k =
+    subst (λ ns. AreAskable IsValue m.arms ns places (starting_rows m.arms)) (sym en)
+    (subst (λ ps. AreAskable IsValue m.arms (0 ∷ []) ps (starting_rows m.arms)) (sym ep)
+    (record { some = (v ∷ [], (k, tt)); known = starting_of m.arms m.arms (λ p i. i) }))
+
+-- ---- what is found of them
 
 pub first_back : {T : Type 0} (cx : Context T) (IsValue : T → Bool → MValue → Type 0) (m : MDeMatch T) (numbers : List ℕ) (places : List (Open T)) (rows : List (SparseRow T)) →
     numbers ≡ 0 ∷ [] → places ≡ first_open m ∷ [] → rows ≡ starting_rows m.arms → (ws : List (List MWitness)) → Witnesses cx IsValue places (heads_over numbers rows) ws →

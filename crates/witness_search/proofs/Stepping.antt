@@ -26,7 +26,7 @@ use Rattle.witness_search.proofs.Heads.{bare_typed, bare_none, wild_typed, none_
 
 -- ---- numbers
 
-both_apart : (c next : ℕ) (cs : List ℕ) → All (λ d. d < next) cs → All (λ d. d ≢ c) cs → AreOthers c next cs
+pub both_apart : (c next : ℕ) (cs : List ℕ) → All (λ d. d < next) cs → All (λ d. d ≢ c) cs → AreOthers c next cs
 both_apart c next [] a b = All-nil (λ d. (d < next) × (d ≢ c))
 both_apart c next (d ∷ cs) a b =
     All-cons (λ x. (x < next) × (x ≢ c)) d cs (All-head (λ x. x < next) d cs a, All-head (λ x. x ≢ c) d cs b)

@@ -5,7 +5,8 @@ use Rattle.std.proofs.lemmas.List.{length-map}
 use Rattle.match_model.specs.Values.{MValue}
 use Rattle.match_model.specs.Constructors.{MCtor}
 use Rattle.match_model.specs.Contexts.{Context, Open}
-use Rattle.match_model.specs.ContextLaws.{PartsLaw}
+use Rattle.match_model.specs.ContextLaws.{PartsLaw, ValuesLaw}
+use Rattle.match_model.specs.ArenaPatterns.{MDeArm}
 use Rattle.match_model.specs.Matrices.{specialised_rows}
 use Rattle.match_model.specs.Places.{MStep}
 use Rattle.match_model.specs.WellTyped.{IsHeadTyped}
@@ -19,6 +20,7 @@ use Rattle.pattern_matrix.specs.Sparse.{SparseRow, bare_head, bare_row, row_view
 use Rattle.pattern_matrix.specs.Views.{plain_row, plain_rows, plain_leaf, plain_leaves}
 use Rattle.pattern_matrix.specs.declared.rows.Leaf.{Leaf}
 use Rattle.pattern_matrix.specs.declared.rows.Row.{Row}
+use Rattle.witness_search.specs.Askable.{AreAskable, IsAskable, IsValued}
 use Rattle.witness_search.specs.Bares.{wild_rests}
 use Rattle.witness_search.specs.Found.{AreSplitWitnesses, IsEnterable, IsOfPiece, ArePieceLeaves}
 use Rattle.witness_search.specs.Opened.{places_of, numbers_of}
@@ -27,6 +29,7 @@ use Rattle.witness_search.specs.Wells.{heads_over, apart_heads, IsWell, IsTakenA
 use Rattle.witness_search.specs.declared.apart.Apart.{Apart}
 use Rattle.witness_search.specs.declared.opened.Opened.{Opened}
 use Rattle.pattern_matrix.proofs.Opened.{opened_views}
+use Rattle.witness_search.proofs.Askable.{entered_askable}
 use Rattle.witness_search.proofs.Ends.{bare_found}
 use Rattle.witness_search.proofs.Leaves.{leaves_typed, parts_fit, listed_fit, rows_of_piece}
 use Rattle.witness_search.proofs.Plain.{within_code}
@@ -131,6 +134,21 @@ module _ {T : Type 0} (IsType : T → Type 0) (cx : Context T) (IsValue : T → 
       rows_of_piece piece n (numbers_of others) (columns_from e.next n ++ numbers_of others) (plain_rows e.rows.items) new (plain_leaves e.leaves.items) found f
       (subst (λ (rs : List (Row T)). row_views (columns_from e.next n ++ numbers_of others) new ≡ map bare_row (specialised_rows [] piece n (leaf_views (numbers_of others) (plain_rows rs) (leaves_listed (plain_leaves e.leaves.items) found)))) er
       (subst (λ (ls : List (Leaf T)). row_views (columns_from e.next n ++ numbers_of others) new ≡ map bare_row (specialised_rows [] piece n (leaf_views (numbers_of others) (plain_rows lent) (leaves_listed (plain_leaves ls) found)))) el here))
+
+  -- rows of a piece may be asked for where those of the place may be
+  pub entered_ready : ValuesLaw IsType IsValue cx → PartsLaw IsType IsValue cx → (arms : List (MDeArm T)) (others : List (Opened T)) (e : Apart T) (piece : MCtor) (new : List (SparseRow T)) (n : ℕ) (numbers : List ℕ) (places : List (Open T)) (found : List ℕ) →
+      IsTakenApart IsType cx others e → IsEnterable cx (plain_column e.place.column) piece → ArePieceLeaves piece (plain_leaves e.leaves.items) found → n ≡ cx.arity piece e.place.column.ty →
+      numbers ≡ columns_from e.next n ++ numbers_of others → places ≡ parts_open cx (plain_column e.place.column) piece ++ places_of others →
+      new ≡ opened_rows e.place.number e.next n (plain_rows e.rows.items) (leaves_listed (plain_leaves e.leaves.items) found) →
+      IsValued IsValue (plain_column e.place.column) piece → IsAskable IsValue arms others e → AreAskable IsValue arms numbers places new
+  entered_ready values law arms others e piece new n numbers places found a b f en ens eps er v k =
+      let o = plain_column e.place.column in
+      let fit = listed_fit IsType IsValue cx law e.place.column.ty piece a.type b.0 (plain_leaves e.leaves.items) found (apart_typed others e a) f in
+      let here = entered_askable arms IsValue IsType cx values law e.next e.place.number o (numbers_of others) (places_of others) piece (plain_rows e.rows.items) new (plain_leaves e.leaves.items) found a.type b.0 f fit
+      (subst (λ m. new ≡ opened_rows e.place.number e.next m (plain_rows e.rows.items) (leaves_listed (plain_leaves e.leaves.items) found)) en er) v k in
+      subst (λ ps. AreAskable IsValue arms numbers ps new) (sym eps)
+      (subst (λ ns. AreAskable IsValue arms ns (parts_open cx o piece ++ places_of others) new) (sym ens)
+      (subst (λ m. AreAskable IsValue arms (columns_from e.next m ++ numbers_of others) (parts_open cx o piece ++ places_of others) new) (sym en) here))
 
   -- a row that lists no head leaves nothing of the piece
   pub covered_piece : PartsLaw IsType IsValue cx → (others : List (Opened T)) (e : Apart T) (piece : MCtor) (found : List ℕ) → IsTakenApart IsType cx others e →

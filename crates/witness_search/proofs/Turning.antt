@@ -1,7 +1,7 @@
 -- What waits takes what the search finds.
-use Rattle.std.proofs.Common.{◌≡◌, ◌≢◌, ◌<◌, ◌≤◌, ℕ, suc, ◌+◌, Bool, true, List, [], ◌∷◌, ◌++◌, map, filter_map, drop, take, length, get_or, reverse, refl, sym, ap, subst, ◌∙◌, arith, append-nil, Vec, Global}
+use Rattle.std.proofs.Common.{◌≡◌, ◌≢◌, ◌<◌, ◌≤◌, ℕ, suc, ◌+◌, Bool, true, List, [], ◌∷◌, ◌++◌, map, take, length, get_or, reverse, refl, sym, ap, subst, ◌∙◌, arith, append-nil, Vec, Global}
 use Rattle.std.specs.List.{All}
-use Rattle.std.proofs.lemmas.List.{drop_all, reverse-append, length-map}
+use Rattle.std.proofs.lemmas.List.{drop_all, reverse-append}
 use Rattle.match_model.specs.Values.{MValue}
 use Rattle.match_model.specs.Constructors.{MCtor}
 use Rattle.match_model.specs.Contexts.{Context, Open}
@@ -9,7 +9,7 @@ use Rattle.match_model.specs.Witness.{MWitness, AnyOf}
 use Rattle.match_model.specs.WitnessList.{Witnesses, wrapped}
 use Rattle.pat_context.specs.Views.{plain_ctor}
 use Rattle.constructor_sets.specs.Columns.{plain_ctors, plain_piece}
-use Rattle.constructor_sets.specs.Present.{ArePresent, present_piece}
+use Rattle.constructor_sets.specs.Present.{ArePresent}
 use Rattle.constructor_sets.specs.Spans.{plain_span}
 use Rattle.constructor_sets.specs.declared.piece.Piece.{Piece}
 use Rattle.constructor_sets.specs.declared.piece.PieceState.{PieceState}
@@ -18,16 +18,17 @@ use Rattle.constructor_sets.specs.declared.piece.PresentPieces.{PresentPieces}
 use Rattle.pattern_matrix.specs.Columns.{plain_column}
 use Rattle.pattern_matrix.specs.Halving.{leaf_ctors}
 use Rattle.pattern_matrix.specs.Parts.{IsFull, pieces_left}
-use Rattle.pattern_matrix.specs.Sparse.{SparseRow, columns_from}
+use Rattle.pattern_matrix.specs.Sparse.{SparseRow}
 use Rattle.pattern_matrix.specs.Views.{plain_rows, plain_leaves}
 use Rattle.pattern_matrix.specs.declared.halving.Part.{Part}
 use Rattle.pattern_matrix.specs.declared.rows.Row.{Row}
 use Rattle.witnesses.specs.Views.{plain_stack, plain_names}
+use Rattle.witness_search.specs.Askable.{IsAskable}
 use Rattle.witness_search.specs.Bares.{wild_rests}
 use Rattle.witness_search.specs.Cuts.{IsCut, IsLeft, IsLeftBehind, wrapped_behind}
 use Rattle.witness_search.specs.Found.{AreOfPiece, AreOfPieces, AreSplitWitnesses, AreWrapped, IsOfPiece}
 use Rattle.witness_search.specs.Opened.{places_of, numbers_of}
-use Rattle.witness_search.specs.Turns.{Root, IsPut, AreLeftFrom, GoesOn, IsMissing, IsWalked, IsGoneThrough, Accepts, Ends, IsWanted, IsWantedAt, IsTurn, Takes}
+use Rattle.witness_search.specs.Turns.{Root, IsPut, AreLeftFrom, GoesOn, IsWalked, IsGoneThrough, Accepts, Ends, IsWanted, IsWantedAt, IsTurn, Takes}
 use Rattle.witness_search.specs.Wells.{heads_over, apart_heads, IsTakenApart}
 use Rattle.witness_search.specs.declared.apart.Apart.{Apart}
 use Rattle.witness_search.specs.declared.cut.Cut.{Cut}
@@ -115,11 +116,11 @@ module _ {T : Type 0} (IsType : T → Type 0) (cx : Context T) (IsValue : T → 
 
   module _ (root : Root T) where
     on_top : (old new : List (Frame T)) (e : Apart T) (stage : Stage) (opened : List (Opened T)) (ws : List (List MWitness)) → IsPut old new e stage →
-        Takes IsType cx IsValue (Accepts IsType cx IsValue root (reverse old)) e stage opened ws → Accepts IsType cx IsValue root (reverse new) opened ws
+        Takes IsType cx IsValue root.arms (Accepts IsType cx IsValue root (reverse old)) e stage opened ws → Accepts IsType cx IsValue root (reverse new) opened ws
     on_top old new e stage opened ws (f, pushed, ee, es) h =
         subst (λ fs. Accepts IsType cx IsValue root fs opened ws) (sym (ap reverse pushed ∙ reverse-append old (f ∷ [])))
-        (subst (λ (x : Apart T). Takes IsType cx IsValue (Accepts IsType cx IsValue root (reverse old)) x f.stage opened ws) (sym ee)
-        (subst (λ (s : Stage). Takes IsType cx IsValue (Accepts IsType cx IsValue root (reverse old)) e s opened ws) (sym es) h))
+        (subst (λ (x : Apart T). Takes IsType cx IsValue root.arms (Accepts IsType cx IsValue root (reverse old)) x f.stage opened ws) (sym ee)
+        (subst (λ (s : Stage). Takes IsType cx IsValue root.arms (Accepts IsType cx IsValue root (reverse old)) e s opened ws) (sym es) h))
 
     pub popped : (old new : List (Frame T)) (f : Frame T) (opened : List (Opened T)) (ws : List (List MWitness)) → old ≡ new ++ f ∷ [] →
         Accepts IsType cx IsValue root (reverse old) opened ws → Accepts IsType cx IsValue root (f ∷ reverse new) opened ws
@@ -155,11 +156,11 @@ module _ {T : Type 0} (IsType : T → Type 0) (cx : Context T) (IsValue : T → 
     pub missing_look : (old new : List (Frame T)) (opened : List (Opened T)) (e : Apart T) (found : PresentPieces) (behind : List (SparseRow T)) → IsPut old new e (Missing found) →
         IsTakenApart IsType cx opened e →
         ArePresent IsValue cx (plain_column e.place.column) (leaf_ctors (plain_leaves e.leaves.items)) (plain_ctors found.ctors.items) found.missing (plain_ctors found.gaps.items) (map plain_span found.spans.items) →
-        found.missing ≡ true → Ends IsType cx IsValue root (reverse old) opened e →
+        found.missing ≡ true → IsAskable IsValue root.arms opened e → Ends IsType cx IsValue root (reverse old) opened e →
         ((ws : List (List MWitness)) → Witnesses cx IsValue (places_of opened) (heads_over (numbers_of opened) behind) ws → Witnesses cx IsValue (places_of opened) (wild_rests (apart_heads opened e)) ws) →
         IsWanted IsType cx IsValue root (reverse new) opened behind
-    missing_look old new opened e found behind pushed a p m ends b = λ ws h.
-        on_top old new e (Missing found) opened ws pushed (record { apart = a; found = p; missing = m; behind = b ws h }, ends)
+    missing_look old new opened e found behind pushed a p m known ends b = λ ws h.
+        on_top old new e (Missing found) opened ws pushed (record { apart = a; found = p; missing = m; behind = b ws h }, known, ends)
 
     -- a piece waits
     pub piece_look : (old new : List (Frame T)) (opened now : List (Opened T)) (e : Apart T) (p : Within) (piece : Piece) (i : ℕ) (left : List ℕ) (rows : List (SparseRow T)) →
@@ -168,13 +169,16 @@ module _ {T : Type 0} (IsType : T → Type 0) (cx : Context T) (IsValue : T → 
         p.done ≡ suc i → i < length p.cut.pieces.items → piece ≡ get_or p.cut.pieces.items i piece → piece.ctor ≡ p.ctor → piece.state ≡ state.Present →
         p.count ≡ cx.arity (plain_ctor p.ctor) e.place.column.ty →
         AreLeftFrom (plain_ctors p.cut.ctors.items) left p.cut.pieces.items i → IsLeft left (pieces_left p.todo.items) → All (IsFull p.cut.spans.items) p.todo.items →
-        Ends IsType cx IsValue root (reverse old) opened e →
+        IsAskable IsValue root.arms opened e → Ends IsType cx IsValue root (reverse old) opened e →
         ((ws : List (List MWitness)) → Witnesses cx IsValue (places_of now) (heads_over (numbers_of now) rows) ws →
         IsOfPiece cx IsValue (plain_column e.place.column) (places_of opened) (apart_heads opened e) (plain_ctor p.ctor) ws) →
         IsWanted IsType cx IsValue root (reverse new) now rows
-    piece_look old new opened now e p piece i left rows pushed kept a c g done l is ec es en from behind full ends b = λ ws h.
-        on_top old new e (InPiece p) now ws pushed
-        (subst (λ os. IsWalked IsType cx IsValue os e p.cut p.todo.items p.done (map plain_stack p.all.items ++ map (wrapped (plain_ctor p.ctor) (plain_names p.cut.names.items) p.count) ws)) (sym kept) (walked ws h), subst (λ os. Ends IsType cx IsValue root (reverse old) os e) (sym kept) ends)
+    piece_look old new opened now e p piece i left rows pushed kept a c g done l is ec es en from behind full known ends b = λ ws h.
+        on_top old new e (InPiece p) now ws pushed (
+          subst (λ os. IsWalked IsType cx IsValue os e p.cut p.todo.items p.done (map plain_stack p.all.items ++ map (wrapped (plain_ctor p.ctor) (plain_names p.cut.names.items) p.count) ws)) (sym kept) (walked ws h),
+          subst (λ os. IsAskable IsValue root.arms os e) (sym kept) known,
+          subst (λ os. Ends IsType cx IsValue root (reverse old) os e) (sym kept) ends,
+        )
       where
         here : (ws : List (List MWitness)) → Witnesses cx IsValue (places_of now) (heads_over (numbers_of now) rows) ws →
             AreOfPiece cx IsValue (plain_names p.cut.names.items) (plain_column e.place.column) (places_of opened) (apart_heads opened e) (plain_piece piece)
@@ -205,7 +209,7 @@ module _ {T : Type 0} (IsType : T → Type 0) (cx : Context T) (IsValue : T → 
     pub piece_resumed : (fs : List (Frame T)) (opened now : List (Opened T)) (e : Apart T) (p : Within) (w : Walk T) (ws : List (List MWitness)) → now ≡ take p.before opened → w.e ≡ e →
         w.cut ≡ p.cut → w.todo ≡ p.todo → w.done ≡ p.done →
         map plain_stack w.all.items ≡ map plain_stack p.all.items ++ map (wrapped (plain_ctor p.ctor) (plain_names p.cut.names.items) p.count) ws →
-        Takes IsType cx IsValue (Accepts IsType cx IsValue root fs) e (InPiece p) opened ws → IsTurn IsType cx IsValue root fs now (Go w)
+        Takes IsType cx IsValue root.arms (Accepts IsType cx IsValue root fs) e (InPiece p) opened ws → IsTurn IsType cx IsValue root fs now (Go w)
     piece_resumed fs opened now e p w ws en ee ec et ed ea h =
         let us = map plain_stack p.all.items ++ map (wrapped (plain_ctor p.ctor) (plain_names p.cut.names.items) p.count) ws in (
           subst (λ os. IsWalked IsType cx IsValue os w.e w.cut w.todo.items w.done (map plain_stack w.all.items)) (sym en)
@@ -214,5 +218,6 @@ module _ {T : Type 0} (IsType : T → Type 0) (cx : Context T) (IsValue : T → 
               (subst (λ (x : Vec Part Global). IsWalked IsType cx IsValue (take p.before opened) w.e w.cut x.items p.done us) (sym et)
               (subst (λ (x : Cut). IsWalked IsType cx IsValue (take p.before opened) w.e x p.todo.items p.done us) (sym ec)
               (subst (λ (x : Apart T). IsWalked IsType cx IsValue (take p.before opened) x p.cut p.todo.items p.done us) (sym ee) h.0))))),
-          subst (λ os. Ends IsType cx IsValue root fs os w.e) (sym en) (subst (λ (x : Apart T). Ends IsType cx IsValue root fs (take p.before opened) x) (sym ee) h.1),
+          subst (λ os. IsAskable IsValue root.arms os w.e) (sym en) (subst (λ (x : Apart T). IsAskable IsValue root.arms (take p.before opened) x) (sym ee) h.1),
+          subst (λ os. Ends IsType cx IsValue root fs os w.e) (sym en) (subst (λ (x : Apart T). Ends IsType cx IsValue root fs (take p.before opened) x) (sym ee) h.2),
         )

@@ -17,6 +17,7 @@ use Rattle.pattern_matrix.specs.Parts.{plain_spans}
 use Rattle.pattern_matrix.specs.Sparse.{SparseLeaf, columns_from}
 use Rattle.pattern_matrix.specs.Views.{plain_leaves}
 use Rattle.witnesses.specs.Views.{plain_stack, plain_names}
+use Rattle.witness_search.specs.Askable.{IsValued}
 use Rattle.witness_search.specs.Found.{AreWrapped, AreOfPieces, AreSplitWitnesses, IsEnterable, AreNumbered}
 use Rattle.witness_search.specs.Opened.{places_of}
 use Rattle.witness_search.specs.Wells.{apart_heads}
@@ -30,11 +31,13 @@ wrapped_behind cx named o behind c =
     map (wrapped c named (cx.arity c o.type)) (map (λ w. replicate (cx.arity c o.type) AnyOf ++ w) behind)
 
 -- what is found of these pieces, one after the other, is found of all pieces of the place; each can be entered; those that are
--- present are these constructors, in order, and it is known which leaf has which; of one that is missing the stacks are known
+-- present have values and are these constructors, in order, and it is known which leaf has which; of one that is missing the
+-- stacks are known
 pub record IsCutOf {T : Type 0} (cx : Context T) (IsValue : T → Bool → MValue → Type 0) (o : Open T) (places : List (Open T)) (rows : List (List (Head T)))
     (leaves : List (SparseLeaf T)) (ctors : List MCtor) (spans : List (ℕ × ℕ)) (pieces : List (MCtor × PieceState)) (named : List (List ℕ)) (behind : List (List MWitness)) : Type 0 where
   pub back : (ws : List (List MWitness)) → AreOfPieces cx IsValue named o places rows pieces ws → AreSplitWitnesses cx IsValue o places rows ws
   pub enterable : All (λ p. IsEnterable cx o p.0) pieces
+  pub valued : All (λ p. p.1 ≡ Present → IsValued IsValue o p.0) pieces
   pub spans_are : AreLeafSpans ctors leaves spans
   pub numbered : AreNumbered ctors (columns_from 0 (length ctors)) (filter_map present_piece pieces)
   pub missing : All (λ p. p.1 ≡ Missing → AreWrapped cx IsValue named o places rows p.0 (wrapped_behind cx named o behind p.0)) pieces

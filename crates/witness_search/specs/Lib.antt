@@ -1,6 +1,8 @@
 pub mod Bares
 pub mod Opened
 pub mod Wells
+pub mod Askable
+pub mod Asks
 pub mod Found
 pub mod Cuts
 pub mod Turns

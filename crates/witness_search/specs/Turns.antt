@@ -1,9 +1,10 @@
 -- What the search does next, and what waits for the stacks that it finds.
-use Rattle.std.specs.Prelude.{box_value, ◌≡◌, ◌<◌, ℕ, Bool, true, List, [], ◌∷◌, ◌++◌, map, filter_map, drop, take}
+use Rattle.std.specs.Prelude.{box_value, ◌≡◌, ℕ, Bool, true, List, [], ◌∷◌, ◌++◌, map, filter_map, drop, take}
 use Rattle.std.specs.List.{All}
 use Rattle.match_model.specs.Values.{MValue}
 use Rattle.match_model.specs.Constructors.{MCtor}
 use Rattle.match_model.specs.Contexts.{Context, Open}
+use Rattle.match_model.specs.ArenaPatterns.{MDeArm}
 use Rattle.match_model.specs.Rows.{Head}
 use Rattle.match_model.specs.Witness.{MWitness, AnyOf}
 use Rattle.match_model.specs.WitnessList.{Witnesses, wrapped}
@@ -20,6 +21,7 @@ use Rattle.pattern_matrix.specs.Sparse.{SparseRow}
 use Rattle.pattern_matrix.specs.Views.{plain_rows, plain_leaves}
 use Rattle.pattern_matrix.specs.declared.halving.Part.{Part}
 use Rattle.witnesses.specs.Views.{plain_stack, plain_names}
+use Rattle.witness_search.specs.Askable.{AreAskable, IsAskable}
 use Rattle.witness_search.specs.Bares.{wild_rests}
 use Rattle.witness_search.specs.Cuts.{IsCut}
 use Rattle.witness_search.specs.Found.{AreOfPieces, AreNumbered, AreSplitWitnesses}
@@ -35,9 +37,11 @@ use Rattle.witness_search.specs.declared.frames.Turn.TheVariants.{Look, Go, Foun
 use Rattle.witness_search.specs.declared.frames.Walk.{Walk}
 use Rattle.witness_search.specs.declared.opened.Opened.{Opened}
 
--- the places and the rows whose witnesses are searched
-abbrev pub Root : Type 0 → Type 0
-Root T = List (Open T) × List (List (Head T))
+-- the places and the rows of heads whose witnesses are searched, and the arms whose patterns the rows may hold
+pub record Root (T : Type 0) : Type 0 where
+  pub places : List (Open T)
+  pub rows : List (List (Head T))
+  pub arms : List (MDeArm T)
 
 -- the numbers that are left are those of the pieces from here on
 abbrev pub AreLeftFrom : (ctors : List MCtor) → (numbers : List ℕ) → (pieces : List Piece) → (from : ℕ) → Type 0
@@ -77,21 +81,22 @@ abbrev pub IsPut : {T : Type 0} → (old new : List (Frame T)) → Apart T → S
 IsPut {T} old new e stage = (f : Frame T) × (new ≡ old ++ f ∷ []) × (waiting f ≡ e) × (f.stage ≡ stage)
 
 -- these stacks for the open places are what a place waits for, at this stage, where what it makes of them is what waits behind
-abbrev pub Takes : {T : Type 0} → (T → Type 0) → Context T → (T → Bool → MValue → Type 0) → (Behind : List (Opened T) → List (List MWitness) → Type 0) → Apart T → Stage → List (Opened T) → List (List MWitness) → Type 0
-Takes IsType cx IsValue Behind e Wild opened ws = Behind (opened ++ e.place ∷ []) (map (λ w. AnyOf ∷ w) ws)
-Takes IsType cx IsValue Behind e (Missing p) opened ws =
-    IsMissing IsType cx IsValue opened e p ws
+abbrev pub Takes : {T : Type 0} → (T → Type 0) → Context T → (T → Bool → MValue → Type 0) → List (MDeArm T) → (Behind : List (Opened T) → List (List MWitness) → Type 0) → Apart T → Stage → List (Opened T) → List (List MWitness) → Type 0
+Takes IsType cx IsValue arms Behind e Wild opened ws = Behind (opened ++ e.place ∷ []) (map (λ w. AnyOf ∷ w) ws)
+Takes IsType cx IsValue arms Behind e (Missing p) opened ws =
+    IsMissing IsType cx IsValue opened e p ws × IsAskable IsValue arms opened e
     × ((us : List (List MWitness)) → AreSplitWitnesses cx IsValue (plain_column e.place.column) (places_of opened) (apart_heads opened e) us → Behind (opened ++ e.place ∷ []) us)
-Takes IsType cx IsValue Behind e (InPiece p) opened ws =
+Takes IsType cx IsValue arms Behind e (InPiece p) opened ws =
     IsWalked IsType cx IsValue (take p.before opened) e p.cut p.todo.items p.done (map plain_stack p.all.items ++ map (wrapped (plain_ctor p.ctor) (plain_names p.cut.names.items) p.count) ws)
+    × IsAskable IsValue arms (take p.before opened) e
     × ((us : List (List MWitness)) → AreSplitWitnesses cx IsValue (plain_column e.place.column) (places_of (take p.before opened)) (apart_heads (take p.before opened) e) us →
     Behind (take p.before opened ++ e.place ∷ []) us)
 
 -- these stacks for the open places are what waits for them, the last place that waits first; in the end they are the witnesses
 -- that are searched
 abbrev pub Accepts : {T : Type 0} → (T → Type 0) → Context T → (T → Bool → MValue → Type 0) → Root T → List (Frame T) → List (Opened T) → List (List MWitness) → Type 0
-Accepts IsType cx IsValue root [] opened ws = Witnesses cx IsValue root.0 root.1 ws
-Accepts IsType cx IsValue root (f ∷ frames) opened ws = Takes IsType cx IsValue (Accepts IsType cx IsValue root frames) (waiting f) f.stage opened ws
+Accepts IsType cx IsValue root [] opened ws = Witnesses cx IsValue root.places root.rows ws
+Accepts IsType cx IsValue root (f ∷ frames) opened ws = Takes IsType cx IsValue root.arms (Accepts IsType cx IsValue root frames) (waiting f) f.stage opened ws
 
 -- what is found of all pieces of the place is what waits for it
 abbrev pub Ends : {T : Type 0} → (T → Type 0) → Context T → (T → Bool → MValue → Type 0) → Root T → List (Frame T) → List (Opened T) → Apart T → Type 0
@@ -112,7 +117,8 @@ IsWantedAt IsType cx IsValue root frames opened place rows =
 -- what is done next leads to the witnesses that are searched
 abbrev pub IsTurn : {T : Type 0} → (T → Type 0) → Context T → (T → Bool → MValue → Type 0) → Root T → List (Frame T) → List (Opened T) → Turn T → Type 0
 IsTurn IsType cx IsValue root frames opened (Look rows next) =
-    IsWell IsType cx next (numbers_of opened) (places_of opened) (plain_rows rows.items) × IsWanted IsType cx IsValue root frames opened (plain_rows rows.items)
-IsTurn IsType cx IsValue root frames opened (Go w) = IsGoneThrough IsType cx IsValue opened w × Ends IsType cx IsValue root frames opened w.e
+    IsWell IsType cx next (numbers_of opened) (places_of opened) (plain_rows rows.items) × AreAskable IsValue root.arms (numbers_of opened) (places_of opened) (plain_rows rows.items)
+    × IsWanted IsType cx IsValue root frames opened (plain_rows rows.items)
+IsTurn IsType cx IsValue root frames opened (Go w) = IsGoneThrough IsType cx IsValue opened w × IsAskable IsValue root.arms opened w.e × Ends IsType cx IsValue root frames opened w.e
 IsTurn IsType cx IsValue root frames opened (Found stacks) = Accepts IsType cx IsValue root frames opened (map plain_stack stacks.items)
-IsTurn IsType cx IsValue root frames opened (Done stacks) = Witnesses cx IsValue root.0 root.1 (map plain_stack stacks.items)
+IsTurn IsType cx IsValue root frames opened (Done stacks) = Witnesses cx IsValue root.places root.rows (map plain_stack stacks.items)

@@ -1,11 +1,13 @@
 // The first open place taken apart.
 ghost use Rattle.std.specs.Prelude.{◌≡◌, ◌<◌, ◌≤◌, ◌+◌, ◌^◌, ◌∷◌, List, length, take, IfOk, OnOk};
+ghost use Rattle.match_model.specs.ArenaPatterns.{MDeArm};
 ghost use Rattle.match_model.specs.Witness.{MWitness};
 ghost use Rattle.match_model.specs.WitnessList.{Witnesses};
 ghost use Rattle.pat_context.specs.Views.{plain_ctor};
 ghost use Rattle.pattern_matrix.specs.Columns.{plain_column};
 ghost use Rattle.witness_search.specs.Found.{IsEnterable, ArePieceLeaves, IsOfPiece};
 ghost use Rattle.pattern_matrix.specs.Views.{plain_rows, plain_leaves};
+ghost use Rattle.witness_search.specs.Askable.{AreAskable, IsAskable, IsValued};
 ghost use Rattle.witness_search.specs.Bares.{wild_rests};
 ghost use Rattle.witness_search.specs.Opened.{places_of, numbers_of};
 ghost use Rattle.witness_search.specs.Wells.{heads_over, apart_heads, IsWell, IsTakenApart};
@@ -40,6 +42,8 @@ pub(crate) fn take_apart<'a, C: PatCx>(
     ensures place { IfOk result (λ e. e.place ≡ place) }
     ensures next { IfOk result (λ e. e.next ≡ next) }
     ensures apart { IfOk result (λ e. IsTakenApart (C.is_type cx.now) (C.context cx.now) others.now.items e) }
+    ensures askable { IfOk result (λ e. (arms : List (MDeArm C.Ty)) → AreAskable (C.is_value cx.now) arms (place.number ∷ numbers_of others.now.items) (plain_column place.column ∷ places_of others.now.items) (plain_rows rows.entry.items)
+        → IsAskable (C.is_value cx.now) arms others.now.items e) }
 {
     let leaves = leaves_at(alloc, &rows, place.number)?;
     Ok(Apart {
@@ -59,6 +63,8 @@ pub(crate) fn rows_behind<'a, C: PatCx>(
 ) -> Result<Vec<Row<'a, C::Ty>>, NoMemory>
     requires { IsTakenApart (C.is_type cx.now) (C.context cx.now) others.now.items e.now }
     ensures well { IfOk result (λ v. IsWell (C.is_type cx.now) (C.context cx.now) e.now.next (numbers_of others.now.items) (places_of others.now.items) (plain_rows v.items)) }
+    ensures askable { IfOk result (λ v. (arms : List (MDeArm C.Ty)) → IsAskable (C.is_value cx.now) arms others.now.items e.now
+        → AreAskable (C.is_value cx.now) arms (numbers_of others.now.items) (places_of others.now.items) (plain_rows v.items)) }
     ensures behind { IfOk result (λ v. (ws : List (List MWitness)) → Witnesses (C.context cx.now) (C.is_value cx.now) (places_of others.now.items) (heads_over (numbers_of others.now.items) (plain_rows v.items)) ws
         → Witnesses (C.context cx.now) (C.is_value cx.now) (places_of others.now.items) (wild_rests (apart_heads others.now.items e.now)) ws) }
 {
@@ -89,6 +95,8 @@ pub(crate) fn enter_piece<'a, C: PatCx>(
     ensures count { IfOk result (λ n. n.count ≡ (C.context cx.now).arity (plain_ctor ctor.now) e.now.place.column.ty) }
     ensures few { IfOk result (λ n. n.count ≤ 8589934592) }
     ensures well { IfOk result (λ n. IsWell (C.is_type cx.now) (C.context cx.now) (e.now.next + n.count) (numbers_of opened.new.items) (places_of opened.new.items) (plain_rows n.rows.items)) }
+    ensures askable { IfOk result (λ n. (arms : List (MDeArm C.Ty)) → IsValued (C.is_value cx.now) (plain_column e.now.place.column) (plain_ctor ctor.now) → IsAskable (C.is_value cx.now) arms opened.old.items e.now
+        → AreAskable (C.is_value cx.now) arms (numbers_of opened.new.items) (places_of opened.new.items) (plain_rows n.rows.items)) }
     ensures back { IfOk result (λ n. (ws : List (List MWitness)) → Witnesses (C.context cx.now) (C.is_value cx.now) (places_of opened.new.items) (heads_over (numbers_of opened.new.items) (plain_rows n.rows.items)) ws
         → IsOfPiece (C.context cx.now) (C.is_value cx.now) (plain_column e.now.place.column) (places_of opened.old.items) (apart_heads opened.old.items e.now) (plain_ctor ctor.now) ws) }
     ensures kept { OnOk result (take (length opened.old.items) opened.new.items ≡ opened.old.items) }

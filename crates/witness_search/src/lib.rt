@@ -2,6 +2,7 @@
 #![tactic(auto)]
 
 mod apart;
+mod asking;
 mod covered;
 mod cut;
 mod frames;

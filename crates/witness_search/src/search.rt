@@ -1,7 +1,9 @@
 // The search for the witnesses of rows. What waits for the stacks of rows stands in a list, so that the search does not call
 // itself.
-ghost use Rattle.std.specs.Prelude.{◌≡◌, ◌≢◌, ◌<◌, ◌++◌, ◌∷◌, [], List, map, length, reverse, take, get_or, true, false, IsTrue, IfOk, OnOk};
-ghost use Rattle.std.specs.List.{All};
+ghost use Rattle.std.specs.Prelude.{◌≡◌, ◌≢◌, ◌<◌, ◌++◌, ◌∷◌, [], List, map, length, reverse, take, get_or, nat_eq, true, false, IsTrue, IfOk, OnOk};
+ghost use Rattle.std.specs.List.{All, IsDistinct, flat_map};
+ghost use Rattle.match_model.specs.Made.{AreArmsMade};
+ghost use Rattle.match_model.specs.WellTyped.{uids_in};
 ghost use Rattle.match_model.specs.WitnessList.{Witnesses, wrapped};
 ghost use Rattle.pat_context.specs.Views.{plain_ctor};
 ghost use Rattle.constructor_sets.specs.Columns.{plain_ctors};
@@ -13,6 +15,8 @@ ghost use Rattle.pattern_matrix.specs.Columns.{plain_column};
 ghost use Rattle.pattern_matrix.specs.Halving.{leaf_ctors};
 ghost use Rattle.pattern_matrix.specs.Views.{plain_rows, plain_leaves};
 ghost use Rattle.witnesses.specs.Views.{plain_stack, plain_names};
+ghost use Rattle.witness_search.specs.Askable.{AreAskable, IsAskable};
+ghost use Rattle.witness_search.specs.Asks.{AreAsks};
 ghost use Rattle.witness_search.specs.Bares.{wild_rests};
 ghost use Rattle.witness_search.specs.Cuts.{wrapped_behind};
 ghost use Rattle.witness_search.specs.Found.{IsEnterable};
@@ -23,11 +27,12 @@ ghost use Rattle.witness_search.specs.Wells.{apart_heads, IsWell, IsTakenApart};
 ghost use Rattle.witness_search.specs.declared.opened.Opened.{Opened};
 
 use crate::apart::{Apart, enter_piece, rows_behind, take_apart};
+use crate::asking::{Asks, leave_none};
 use crate::covered::is_covered;
 use crate::cut::{Cut, cut_pieces, leaves_of_next};
 use crate::frames::{Frame, Stage, Turn, Walk, Within};
 use crate::opened::{Opened, put_back, take_first};
-use crate::rows::{has_bare, unguarded_rows};
+use crate::rows::unguarded_rows;
 use crate::stacks::{add_stacks, one_of_any, with_anys, wrap_all, wrapped_copies};
 use constructor_sets::{Piece, PieceState, PresentPieces};
 use no_memory::NoMemory;
@@ -121,6 +126,7 @@ fn split_place<'a, C: PatCx>(
 ) -> Result<Turn<'a, C::Ty>, NoMemory>
     ghost root: { Root C.Ty }
     requires apart { IsTakenApart (C.is_type cx.now) (C.context cx.now) opened.now.items e }
+    requires askable { IsAskable (C.is_value cx.now) root.arms opened.now.items e }
     requires ends { Ends (C.is_type cx.now) (C.context cx.now) (C.is_value cx.now) root (reverse frames.old.items) opened.now.items e }
     ensures { IfOk result (λ t. IsTurn (C.is_type cx.now) (C.context cx.now) (C.is_value cx.now) root (reverse frames.new.items) opened.now.items t) }
 {
@@ -160,6 +166,7 @@ fn open_place<'a, C: PatCx>(
 ) -> Result<Turn<'a, C::Ty>, NoMemory>
     ghost root: { Root C.Ty }
     requires well { IsWell (C.is_type cx.now) (C.context cx.now) next (place.number ∷ numbers_of opened.now.items) (plain_column place.column ∷ places_of opened.now.items) (plain_rows rows.items) }
+    requires askable { AreAskable (C.is_value cx.now) root.arms (place.number ∷ numbers_of opened.now.items) (plain_column place.column ∷ places_of opened.now.items) (plain_rows rows.items) }
     requires some { 0 < length rows.items }
     requires wanted { IsWantedAt (C.is_type cx.now) (C.context cx.now) (C.is_value cx.now) root (reverse frames.old.items) opened.now.items place (plain_rows rows.items) }
     ensures { IfOk result (λ t. IsTurn (C.is_type cx.now) (C.context cx.now) (C.is_value cx.now) root (reverse frames.new.items) opened.now.items t) }
@@ -176,7 +183,7 @@ fn open_place<'a, C: PatCx>(
     }
 }
 
-// Looks at rows over the open places.
+// Looks at rows over the open places, of which it is not known that they leave nothing.
 fn look<'a, C: PatCx>(
     alloc: Global,
     cx: &C,
@@ -187,12 +194,10 @@ fn look<'a, C: PatCx>(
 ) -> Result<Turn<'a, C::Ty>, NoMemory>
     ghost root: { Root C.Ty }
     requires well { IsWell (C.is_type cx.now) (C.context cx.now) next (numbers_of opened.old.items) (places_of opened.old.items) (plain_rows rows.items) }
+    requires askable { AreAskable (C.is_value cx.now) root.arms (numbers_of opened.old.items) (places_of opened.old.items) (plain_rows rows.items) }
     requires wanted { IsWanted (C.is_type cx.now) (C.context cx.now) (C.is_value cx.now) root (reverse frames.old.items) opened.old.items (plain_rows rows.items) }
     ensures { IfOk result (λ t. IsTurn (C.is_type cx.now) (C.context cx.now) (C.is_value cx.now) root (reverse frames.new.items) opened.new.items t) }
 {
-    if has_bare(&rows) {
-        return Ok(Turn::Found(Vec::new(alloc)));
-    }
     if rows.is_empty() {
         let one = one_of_any(alloc, opened.len())?;
         return Ok(Turn::Found(one));
@@ -266,6 +271,7 @@ fn open_piece<'a, C: PatCx>(
 ) -> Result<Turn<'a, C::Ty>, NoMemory>
     ghost root: { Root C.Ty }
     requires gone { IsGoneThrough (C.is_type cx.now) (C.context cx.now) (C.is_value cx.now) opened.old.items walk }
+    requires askable { IsAskable (C.is_value cx.now) root.arms opened.old.items walk.e }
     requires ends { Ends (C.is_type cx.now) (C.context cx.now) (C.is_value cx.now) root (reverse frames.old.items) opened.old.items walk.e }
     requires within { walk.done < length walk.cut.pieces.items }
     requires piece { piece ≡ get_or walk.cut.pieces.items walk.done piece }
@@ -338,6 +344,7 @@ fn go_on<'a, C: PatCx>(
 ) -> Result<Turn<'a, C::Ty>, NoMemory>
     ghost root: { Root C.Ty }
     requires gone { IsGoneThrough (C.is_type cx.now) (C.context cx.now) (C.is_value cx.now) opened.old.items walk }
+    requires askable { IsAskable (C.is_value cx.now) root.arms opened.old.items walk.e }
     requires ends { Ends (C.is_type cx.now) (C.context cx.now) (C.is_value cx.now) root (reverse frames.old.items) opened.old.items walk.e }
     ensures { IfOk result (λ t. IsTurn (C.is_type cx.now) (C.context cx.now) (C.is_value cx.now) root (reverse frames.new.items) opened.new.items t) }
 {
@@ -450,14 +457,21 @@ fn step<'a, C: PatCx>(
     cx: &C,
     opened: &mut Vec<Opened<C::Ty>>,
     frames: &mut Vec<Frame<'a, C::Ty>>,
+    asks: &mut Asks<'a, C::Ty>,
     turn: Turn<'a, C::Ty>,
 ) -> Result<Turn<'a, C::Ty>, NoMemory>
     ghost root: { Root C.Ty }
-    requires { IsTurn (C.is_type cx.now) (C.context cx.now) (C.is_value cx.now) root (reverse frames.old.items) opened.old.items turn }
-    ensures { IfOk result (λ t. IsTurn (C.is_type cx.now) (C.context cx.now) (C.is_value cx.now) root (reverse frames.new.items) opened.new.items t) }
+    requires turn { IsTurn (C.is_type cx.now) (C.context cx.now) (C.is_value cx.now) root (reverse frames.old.items) opened.old.items turn }
+    requires asks { AreAsks (C.is_type cx.now) (C.is_value cx.now) (C.context cx.now) root.arms asks.old }
+    ensures asks { AreAsks (C.is_type cx.now) (C.is_value cx.now) (C.context cx.now) root.arms asks.new }
+    ensures turn { IfOk result (λ t. IsTurn (C.is_type cx.now) (C.context cx.now) (C.is_value cx.now) root (reverse frames.new.items) opened.new.items t) }
 {
     match turn {
         Turn::Look(rows, next) => {
+            let none = leave_none(alloc, cx, asks, opened, &rows, next)?;
+            if none {
+                return Ok(Turn::Found(Vec::new(alloc)));
+            }
             let new = look(alloc, cx, opened, frames, rows, next)?;
             Ok(new)
         }
@@ -474,7 +488,7 @@ fn step<'a, C: PatCx>(
 }
 
 // The witnesses that are searched, where they are those of the rows of the arms without a guard: each stack has one for each
-// open place. These have numbers below 1.
+// open place. These have numbers below 1. No two patterns of the arms have one uid.
 pub(crate) fn stacks_of<'a, C: PatCx>(
     alloc: Global,
     cx: &C,
@@ -483,16 +497,21 @@ pub(crate) fn stacks_of<'a, C: PatCx>(
 ) -> Result<Vec<Stack>, NoMemory>
     ghost root: { Root C.Ty }
     requires well { IsWell (C.is_type cx.now) (C.context cx.now) 1 (numbers_of opened.items) (places_of opened.items) (starting_rows (map plain_arm arms.now)) }
+    requires askable { AreAskable (C.is_value cx.now) root.arms (numbers_of opened.items) (places_of opened.items) (starting_rows (map plain_arm arms.now)) }
     requires wanted { IsWanted (C.is_type cx.now) (C.context cx.now) (C.is_value cx.now) root [] opened.items (starting_rows (map plain_arm arms.now)) }
-    ensures { IfOk result (λ v. Witnesses (C.context cx.now) (C.is_value cx.now) root.0 root.1 (map plain_stack v.items)) }
+    requires arms { root.arms ≡ map plain_arm arms.now }
+    requires made { AreArmsMade root.arms }
+    requires uids { IsDistinct nat_eq (flat_map (λ a. uids_in a.pat) root.arms) }
+    ensures { IfOk result (λ v. Witnesses (C.context cx.now) (C.is_value cx.now) root.places root.rows (map plain_stack v.items)) }
 {
     let rows = unguarded_rows(alloc, arms)?;
     let mut frames = Vec::new(alloc);
+    let mut asks = Asks::none(alloc, arms);
     let mut turn = Turn::Look(rows, 1);
     for _step in 0..usize::MAX {
         match turn {
             Turn::Done(found) => return Ok(found),
-            other => turn = step(alloc, cx, &mut opened, &mut frames, other)?,
+            other => turn = step(alloc, cx, &mut opened, &mut frames, &mut asks, other)?,
         }
     }
     Err(NoMemory)

@@ -13,6 +13,7 @@ use crate::search::stacks_of;
 use no_memory::NoMemory;
 use pat_context::{CtorSet, PatCx, Validity, has_value};
 use pattern_arena::CheckedMatch;
+use pattern_arena::laws::matches_are_made;
 use pattern_matrix::Column;
 use std::alloc::Global;
 use witnesses::{Stack, Witness};
@@ -56,10 +57,12 @@ fn stacks_of_match<'a, C: PatCx>(
     cx: &C,
     m: &CheckedMatch<'a, C::Ty>,
 ) -> Result<Vec<Stack>, NoMemory>
-    requires { IsWellTyped (C.is_type cx.now) (C.context cx.now) (plain_match m.now) }
+    requires typed { IsWellTyped (C.is_type cx.now) (C.context cx.now) (plain_match m.now) }
+    requires value { (v : MValue) × C.is_value cx.now m.now.ty (is_sure m.now.validity) v }
     ensures { IfOk result (λ v. Witnesses (C.context cx.now) (C.is_value cx.now) (record { type = m.now.ty; sure = is_sure m.now.validity } ∷ [])
         (flat_map row_of (plain_match m.now).arms) (map plain_stack v.items)) }
 {
+    matches_are_made(m);
     let mut opened = Vec::new(alloc);
     let column = Column {
         ty: m.ty,

@@ -1,10 +1,12 @@
-use Rattle.std.proofs.Common.{List, arith, subst, sym}
+use Rattle.std.proofs.Common.{◌≡◌, List, arith, subst, sym}
 use Rattle.pat_context.specs.Views.{plain_ctor}
-use Rattle.pattern_matrix.specs.Sparse.{AreBelow}
-use Rattle.pattern_matrix.specs.Views.{plain_rows}
+use Rattle.pattern_matrix.specs.Opening.{opened_rows}
+use Rattle.pattern_matrix.specs.Sparse.{AreBelow, leaves_listed}
+use Rattle.pattern_matrix.specs.Views.{plain_rows, plain_leaves}
+use Rattle.pattern_matrix.specs.declared.rows.Leaf.{Leaf}
 use Rattle.pattern_matrix.specs.declared.rows.Row.{Row}
 use Rattle.witness_search.specs.Opened.{places_of, numbers_of}
-use Rattle.witness_search.proofs.Steps.{entered_well, entered_back, parts_ready, numbers_ready, rows_ready, rows_given}
+use Rattle.witness_search.proofs.Steps.{entered_well, entered_ready, entered_back, parts_ready, numbers_ready, rows_ready, rows_given}
 use Rattle.witness_search.proofs.apart.enter_piece.Goals as goal
 
 pub piece_rows-requires : goal.piece_rows-requires
@@ -36,6 +38,19 @@ returns-clause-well g c =
     (rows_given (g.C.PatCx.is_type cx) (g.C.PatCx.context cx) (g.C.PatCx.is_value cx) (g.met.C.PatCx.parts cx) others e piece n c.args.leaves.now c.deref.result.now c.deref-2.result.now new c.deref.ensures.value c.deref-2.ensures.value
     c.requires.apart c.requires.ctor c.in_ok-count.ensures.count c.requires.leaves c.in_ok-rows.ensures.rows)
     (c.in_ok-rows.ensures.within (subst (λ (rs : List (Row g.row.C-Ty.Denot)). AreBelow e.next (plain_rows rs)) (sym c.deref.ensures.value) c.requires.apart.below))
+
+pub returns-clause-askable : goal.returns-clause-askable
+returns-clause-askable g c =
+    let cx = c.args.cx.now in
+    let e = c.args.e.now in
+    let now = c.open_parts.new.opened.items in
+    let new = plain_rows c.in_ok-rows.rows.items in
+    let here : List (Row g.row.C-Ty.Denot) → List (Leaf g.row.C-Ty.Denot) → Type 0 =
+    λ rs ls. new ≡ opened_rows e.place.number e.next c.in_ok-count.count (plain_rows rs) (leaves_listed (plain_leaves ls) c.args.leaves.now) in
+    λ arms valued known. entered_ready (g.C.PatCx.is_type cx) (g.C.PatCx.context cx) (g.C.PatCx.is_value cx) (g.met.C.PatCx.values cx) (g.met.C.PatCx.parts cx) arms
+    c.args.opened.now.items e (plain_ctor c.args.ctor.now) new c.in_ok-count.count (numbers_of now) (places_of now) c.args.leaves.now c.requires.apart c.requires.ctor c.requires.leaves
+    c.in_ok-count.ensures.count c.in_ok-count.ensures.numbers c.in_ok-count.ensures.places
+    (subst (here e.rows.items) c.deref-2.ensures.value (subst (λ (rs : List (Row g.row.C-Ty.Denot)). here rs c.deref-2.result.now) c.deref.ensures.value c.in_ok-rows.ensures.opened)) valued known
 
 pub returns-clause-back : goal.returns-clause-back
 returns-clause-back g c =

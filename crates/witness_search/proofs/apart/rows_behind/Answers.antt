@@ -3,11 +3,13 @@ use Rattle.std.specs.List.{All}
 use Rattle.match_model.specs.Matrices.{default_rows}
 use Rattle.pattern_matrix.specs.Columns.{plain_column}
 use Rattle.pattern_matrix.specs.Halving.{leaf_ctors}
+use Rattle.pattern_matrix.specs.Opening.{dropped_rows}
 use Rattle.pattern_matrix.specs.Sparse.{SparseRow, bare_row, row_views, leaf_views, AreBelow}
 use Rattle.pattern_matrix.specs.Views.{plain_rows, plain_leaves}
 use Rattle.pattern_matrix.specs.declared.rows.Leaf.{Leaf}
 use Rattle.pattern_matrix.specs.declared.rows.Row.{Row}
 use Rattle.witness_search.specs.Opened.{places_of, numbers_of}
+use Rattle.witness_search.proofs.Askable.{behind_askable}
 use Rattle.witness_search.proofs.Plain.{within_code}
 use Rattle.witness_search.proofs.Stepping.{others_lack, behind_well, behind_back}
 use Rattle.witness_search.proofs.apart.rows_behind.Goals as goal
@@ -40,6 +42,16 @@ returns-clause-well g c =
     (as_default numbers c.deref.result.now e.rows.items c.deref-2.result.now e.leaves.items new c.deref.ensures.value c.deref-2.ensures.value
     (c.in_ok-rows.ensures.rows [] numbers (others_lack e.place.number e.next numbers c.requires.others)))
     (c.in_ok-rows.ensures.within e.next (subst (λ (rs : List (Row g.row.C-Ty.Denot)). AreBelow e.next (plain_rows rs)) (sym c.deref.ensures.value) c.requires.below))
+
+pub returns-clause-askable : goal.returns-clause-askable
+returns-clause-askable g c =
+    let cx = c.args.cx.now in
+    let e = c.args.e.now in
+    let others = c.args.others.now.items in
+    let new = plain_rows c.in_ok-rows.rows.items in
+    λ arms. behind_askable arms (g.C.PatCx.is_value cx) e.place.number (numbers_of others) (places_of others) (plain_rows e.rows.items) new (plain_leaves e.leaves.items)
+    (subst (λ (ls : List (Leaf g.row.C-Ty.Denot)). new ≡ dropped_rows e.place.number (plain_rows e.rows.items) (plain_leaves ls)) c.deref-2.ensures.value
+    (subst (λ (rs : List (Row g.row.C-Ty.Denot)). new ≡ dropped_rows e.place.number (plain_rows rs) (plain_leaves c.deref-2.result.now)) c.deref.ensures.value c.in_ok-rows.ensures.dropped))
 
 pub returns-clause-behind : goal.returns-clause-behind
 returns-clause-behind g c =

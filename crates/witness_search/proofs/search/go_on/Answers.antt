@@ -2,6 +2,7 @@ use Rattle.std.proofs.Common.{◌++◌, ◌∷◌, ◌≤◌, [], List, map, len
 use Rattle.witnesses.specs.declared.stack.Stack.{Stack}
 use Rattle.witnesses.specs.Views.{plain_stack}
 use Rattle.pattern_matrix.specs.Columns.{plain_column}
+use Rattle.witness_search.specs.Askable.{IsAskable}
 use Rattle.witness_search.specs.Found.{IsEnterable}
 use Rattle.witness_search.specs.Turns.{Accepts, Ends}
 use Rattle.witness_search.specs.declared.apart.Apart.{Apart}
@@ -19,7 +20,7 @@ returns-then-walk-len g c =
     let done : length w.cut.pieces.items ≤ w.done = omega (arith, c.len.ensures, c.if-walk-len.true, w.cut.pieces.ok.0) in
     subst (λ (os : List (Opened g.row.C-Ty.Denot)). Accepts (g.C.PatCx.is_type cx) (g.C.PatCx.context cx) (g.C.PatCx.is_value cx) g.root fs os (map plain_stack c.in_ok-all.all.items)) (sym c.in_ok-all.ensures.opened)
     (subst (λ (ws : List Stack). Accepts (g.C.PatCx.is_type cx) (g.C.PatCx.context cx) (g.C.PatCx.is_value cx) g.root fs (opened ++ w.e.place ∷ []) (map plain_stack ws)) (sym c.in_ok-all.ensures.all)
-    (c.requires.1.1.1 (map plain_stack w.all.items) (walked_all (g.C.PatCx.is_type cx) (g.C.PatCx.context cx) (g.C.PatCx.is_value cx) opened w done c.requires.1.1.0)))
+    (c.requires.1.1.1.1 (map plain_stack w.all.items) (walked_all (g.C.PatCx.is_type cx) (g.C.PatCx.context cx) (g.C.PatCx.is_value cx) opened w done c.requires.1.1.0)))
 
 pub pass_piece-requires-clause-enterable : goal.pass_piece-requires-clause-enterable
 pass_piece-requires-clause-enterable g c =
@@ -32,5 +33,6 @@ pub returns-in_ok-passed-in_default : goal.returns-in_ok-passed-in_default
 returns-in_ok-passed-in_default g c =
     let cx = c.args.cx.now in (
       c.in_ok-passed-in_default.ensures.gone c.args.opened.now.items c.requires.1.1.0,
-      subst (λ (x : Apart g.row.C-Ty.Denot). Ends (g.C.PatCx.is_type cx) (g.C.PatCx.context cx) (g.C.PatCx.is_value cx) g.root (reverse c.args.frames.now.items) c.args.opened.now.items x) (sym c.in_ok-passed-in_default.ensures.e) c.requires.1.1.1,
+      subst (λ (x : Apart g.row.C-Ty.Denot). IsAskable (g.C.PatCx.is_value cx) g.root.arms c.args.opened.now.items x) (sym c.in_ok-passed-in_default.ensures.e) c.requires.1.1.1.0,
+      subst (λ (x : Apart g.row.C-Ty.Denot). Ends (g.C.PatCx.is_type cx) (g.C.PatCx.context cx) (g.C.PatCx.is_value cx) g.root (reverse c.args.frames.now.items) c.args.opened.now.items x) (sym c.in_ok-passed-in_default.ensures.e) c.requires.1.1.1.1,
     )

@@ -1,6 +1,6 @@
-use Rattle.std.proofs.Common.{◌≡◌, ◌++◌, ◌∷◌, ◌∙◌, [], List, Option, Some, map, length, true, false, refl, sym, subst, ap, reverse, arith, rules}
-use Rattle.std.specs.Option.{option_to_list}
+use Rattle.std.proofs.Common.{◌≡◌, ◌++◌, ◌∷◌, [], List, map, length, refl, sym, subst, ap, reverse, arith}
 use Rattle.witnesses.specs.Views.{plain_stack}
+use Rattle.witness_search.specs.Askable.{IsAskable}
 use Rattle.witness_search.specs.Turns.{Takes, Accepts, Ends}
 use Rattle.witness_search.specs.declared.apart.Apart.{Apart}
 use Rattle.witness_search.specs.declared.frames.Frame.{Frame}
@@ -28,7 +28,7 @@ returns-in-Wild g c =
     let frame = c.in-Some.frame in
     let with_place : Opened g.row.C-Ty.Denot → Apart g.row.C-Ty.Denot = λ p. record { rows = frame.rows; place = p; next = frame.next; leaves = frame.leaves } in
     let e = with_place c.deref-place.result.now in
-    let given = subst (λ (x : Apart g.row.C-Ty.Denot). Takes (g.C.PatCx.is_type cx) (g.C.PatCx.context cx) (g.C.PatCx.is_value cx) (Accepts (g.C.PatCx.is_type cx) (g.C.PatCx.context cx) (g.C.PatCx.is_value cx) g.root (reverse new)) x frame.stage opened ws) (ap with_place (sym c.deref-place.ensures))
+    let given = subst (λ (x : Apart g.row.C-Ty.Denot). Takes (g.C.PatCx.is_type cx) (g.C.PatCx.context cx) (g.C.PatCx.is_value cx) g.root.arms (Accepts (g.C.PatCx.is_type cx) (g.C.PatCx.context cx) (g.C.PatCx.is_value cx) g.root (reverse new)) x frame.stage opened ws) (ap with_place (sym c.deref-place.ensures))
     (popped (g.C.PatCx.is_type cx) (g.C.PatCx.context cx) (g.C.PatCx.is_value cx) g.root c.args.frames.now.items new frame opened ws c.in-Some.ensures.items c.requires.1.1) in
     let accepted = rw c.in-Wild.is at given in
     let all = map plain_stack c.in_ok-all-in-Wild.all.items in
@@ -44,11 +44,12 @@ returns-in-Missing g c =
     let frame = c.in-Some.frame in
     let with_place : Opened g.row.C-Ty.Denot → Apart g.row.C-Ty.Denot = λ p. record { rows = frame.rows; place = p; next = frame.next; leaves = frame.leaves } in
     let e = with_place c.deref-place.result.now in
-    let given = subst (λ (x : Apart g.row.C-Ty.Denot). Takes (g.C.PatCx.is_type cx) (g.C.PatCx.context cx) (g.C.PatCx.is_value cx) (Accepts (g.C.PatCx.is_type cx) (g.C.PatCx.context cx) (g.C.PatCx.is_value cx) g.root (reverse new)) x frame.stage opened ws) (ap with_place (sym c.deref-place.ensures))
+    let given = subst (λ (x : Apart g.row.C-Ty.Denot). Takes (g.C.PatCx.is_type cx) (g.C.PatCx.context cx) (g.C.PatCx.is_value cx) g.root.arms (Accepts (g.C.PatCx.is_type cx) (g.C.PatCx.context cx) (g.C.PatCx.is_value cx) g.root (reverse new)) x frame.stage opened ws) (ap with_place (sym c.deref-place.ensures))
     (popped (g.C.PatCx.is_type cx) (g.C.PatCx.context cx) (g.C.PatCx.is_value cx) g.root c.args.frames.now.items new frame opened ws c.in-Some.ensures.items c.requires.1.1) in
     let accepted = rw c.in-Missing.is at given in (
       c.in_ok-walk-in-Missing.ensures.gone,
-      subst (λ (x : Apart g.row.C-Ty.Denot). Ends (g.C.PatCx.is_type cx) (g.C.PatCx.context cx) (g.C.PatCx.is_value cx) g.root (reverse new) opened x) (sym c.in_ok-walk-in-Missing.ensures.e) accepted.1,
+      subst (λ (x : Apart g.row.C-Ty.Denot). IsAskable (g.C.PatCx.is_value cx) g.root.arms opened x) (sym c.in_ok-walk-in-Missing.ensures.e) accepted.1,
+      subst (λ (x : Apart g.row.C-Ty.Denot). Ends (g.C.PatCx.is_type cx) (g.C.PatCx.context cx) (g.C.PatCx.is_value cx) g.root (reverse new) opened x) (sym c.in_ok-walk-in-Missing.ensures.e) accepted.2,
     )
 
 pub returns : goal.returns
@@ -60,7 +61,7 @@ returns g c =
     let frame = c.in-Some.frame in
     let with_place : Opened g.row.C-Ty.Denot → Apart g.row.C-Ty.Denot = λ p. record { rows = frame.rows; place = p; next = frame.next; leaves = frame.leaves } in
     let e = with_place c.deref-place.result.now in
-    let given = subst (λ (x : Apart g.row.C-Ty.Denot). Takes (g.C.PatCx.is_type cx) (g.C.PatCx.context cx) (g.C.PatCx.is_value cx) (Accepts (g.C.PatCx.is_type cx) (g.C.PatCx.context cx) (g.C.PatCx.is_value cx) g.root (reverse new)) x frame.stage opened ws) (ap with_place (sym c.deref-place.ensures))
+    let given = subst (λ (x : Apart g.row.C-Ty.Denot). Takes (g.C.PatCx.is_type cx) (g.C.PatCx.context cx) (g.C.PatCx.is_value cx) g.root.arms (Accepts (g.C.PatCx.is_type cx) (g.C.PatCx.context cx) (g.C.PatCx.is_value cx) g.root (reverse new)) x frame.stage opened ws) (ap with_place (sym c.deref-place.ensures))
     (popped (g.C.PatCx.is_type cx) (g.C.PatCx.context cx) (g.C.PatCx.is_value cx) g.root c.args.frames.now.items new frame opened ws c.in-Some.ensures.items c.requires.1.1) in
     let accepted = rw c.in-Piece.is at given in
     let told = c.in_ok-walk-in-Piece.ensures in

@@ -8,3 +8,6 @@ ghost-go_on g a = g.root
 
 abbrev pub ghost-resume : goal.ghost-resume
 ghost-resume g a = g.root
+
+abbrev pub ghost-leave_none : goal.ghost-leave_none
+ghost-leave_none g a = g.root.arms
