@@ -1,7 +1,7 @@
 """Tries the edits of `control`, of which each stands for an answer that a run can give.
 
-A line of `control/expected` has an edit, what is said of it in one check with the others of its crate, and behind a
-comma what is said of it alone.
+A line of `control/expected` has an edit, what is said of it where the proofs are started, in one check with the others
+of its crate, and alone where another function decided there.
 """
 import os
 
@@ -18,18 +18,22 @@ def expected():
 
 
 def said_of(crate, names):
-    """What is said of each of these edits of a crate, tried in one check, and then alone where another function
-    decides."""
+    """What is said of each of these edits of a crate where proofs are started, in one check, and in a check alone."""
     edits = [planning.Edit(crate, os.path.join(FOLDER, f"{name}.edit")) for name in names]
     sources, check = planning.Sources(crate), trying.Check(crate)
-    found = {edit.name: trying.GONE for edit in edits if edit.gone}
+    found = {edit.name: [trying.GONE] for edit in edits if edit.gone}
     there = [edit for edit in edits if not edit.gone]
     for edit in there:
         edit.find(sources)
-    for edit, (word, _) in trying.judged(check, sources, there).items():
-        alone = trying.judged(check, sources, [edit])[edit][0] if word == trying.OTHER else ""
-        found[edit.name] = ", ".join(part for part in (word, alone) if part)
-    return found
+    together = trying.judged(check, sources, there)
+    read = [edit for edit in there if together[edit][0] != trying.UNREAD]
+    started = trying.judged(check, sources, read, "--start")
+    for edit in there:
+        found[edit.name] = [started[edit][0]] if edit in started else []
+        found[edit.name].append(together[edit][0])
+        if together[edit][0] == trying.OTHER:
+            found[edit.name].append(trying.judged(check, sources, [edit])[edit][0])
+    return {name: ", ".join(said) for name, said in found.items()}
 
 
 def shown():
