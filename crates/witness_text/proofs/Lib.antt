@@ -4,3 +4,4 @@ pub mod Digits
 pub mod Lists
 pub mod Written
 pub mod PlainTexts
+pub mod Points

@@ -5,3 +5,4 @@ pub mod Texts
 pub mod Trees
 pub mod Writing
 pub mod Plain
+pub mod Points

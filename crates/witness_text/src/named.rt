@@ -12,9 +12,10 @@ pub enum FormName<'a> {
 }
 
 /// What values that no arm takes look like, with all names that a report shows. It is as deep as the patterns of its
-/// match, 64 levels at most in a source file; its texts go down level by level, and so do `Debug` and what drops it.
+/// match, 64 levels at most in a source file, each behind sixty references at most. Its texts and what drops it go down
+/// level by level, and through references that follow one another in loops.
 #[cycle(named)]
-#[derive(Debug, Drop)]
+#[derive(Debug)]
 pub enum NamedWitness<'a> {
     /// Any value.
     Any,
@@ -61,6 +62,34 @@ pub enum NamedWitness<'a> {
     },
     /// A variant that is not declared yet.
     Later,
+}
+
+impl<'a> Drop for NamedWitness<'a> {
+    // A loop over references, so that many of them take no stack.
+    #[cycle(named)]
+    fn drop(mut self) {
+        loop {
+            match self {
+                NamedWitness::Point { mutable: _, inner } => self = Box::into_inner(inner),
+                NamedWitness::Tuple(_) => return,
+                NamedWitness::TupleForm { name: _, parts: _ } => return,
+                NamedWitness::BraceForm { name: _, fields: _ } => return,
+                NamedWitness::Row {
+                    front: _,
+                    longer: _,
+                    back: _,
+                } => return,
+                NamedWitness::Any => return,
+                NamedWitness::Flag(_) => return,
+                NamedWitness::Ints { kind: _, range: _ } => return,
+                NamedWitness::Chars { low: _, high: _ } => return,
+                NamedWitness::Text(_) => return,
+                NamedWitness::Else(_) => return,
+                NamedWitness::UnitForm(_) => return,
+                NamedWitness::Later => return,
+            }
+        }
+    }
 }
 
 /// A field by its name, without `r#`.

@@ -1,10 +1,12 @@
 // Witnesses as Rust writes patterns.
-ghost use Rattle.std.specs.Prelude.{◌≡◌, ◌++◌, false, IfOk, OnOk, chars, option_map, string_bytes};
-ghost use Rattle.witness_text.specs.Trees.{name_view, witness_view, witnesses_view, field_view, fields_view};
+ghost use Rattle.std.specs.Prelude.{◌≡◌, ◌++◌, ◌≤◌, false, true, IfOk, OnOk, chars, option_map, string_bytes};
+ghost use Rattle.witness_text.specs.Trees.{OfPoint, name_view, witness_view, witnesses_view, field_view, fields_view};
 ghost use Rattle.witness_text.specs.Texts.{name_text, flag_text, tuple_end, tuple_text, bracketed, braced};
-ghost use Rattle.witness_text.specs.Texts.{rest_texts, text_of, point_text, pattern_text, part_texts};
+ghost use Rattle.witness_text.specs.Texts.{rest_texts, text_of, pattern_text, part_texts};
 ghost use Rattle.witness_text.specs.Texts.{field_text, field_texts};
 ghost use Rattle.witness_text.specs.Writing.{comma_between, listed, is_behind};
+ghost use Rattle.witness_text.specs.Points.{begins_with_point, is_literal, behind_marks, mark_text, marks_text};
+ghost use Rattle.witness_text.specs.declared.named.NamedWitness.{size-NamedWitness};
 
 use crate::literals::{push_referred, push_string};
 use crate::names::push_form_name;
@@ -64,7 +66,51 @@ fn push_rest(text: &mut String, later: bool, longer: bool) -> Result<bool, Alloc
     Ok(true)
 }
 
-// Adds the witness. It goes down level by level.
+// What a reference begins with.
+fn point_mark(mutable: bool) -> &'static str
+    ensures { result.now ≡ mark_text mutable }
+{
+    if mutable { "&mut " } else { "&" }
+}
+
+// Whether a reference is shown as the literal of a text alone.
+fn is_literal(mutable: bool, inner: &NamedWitness<'_>) -> bool
+    ensures { result ≡ is_literal mutable (witness_view inner.now) }
+{
+    !mutable && literal_of(inner).is_some()
+}
+
+// What stands behind the marks of references that the witness begins with.
+fn behind_marks<'w, 'a>(witness: &'w NamedWitness<'a>) -> &'w NamedWitness<'a>
+    ensures behind { witness_view result.now ≡ behind_marks (witness_view witness.now) }
+    ensures size { size-NamedWitness result.now ≤ size-NamedWitness witness.now }
+{
+    let mut here = witness;
+    while let NamedWitness::Point { mutable, inner } = here {
+        if is_literal(*mutable, inner) {
+            return here;
+        }
+        here = inner;
+    }
+    here
+}
+
+// Adds the marks of references that the witness begins with.
+fn push_marks(text: &mut String, witness: &NamedWitness<'_>) -> Result<(), AllocError>
+    ensures { OnOk result (string_bytes text.new ≡ string_bytes text.old ++ marks_text (witness_view witness.now)) }
+{
+    let mut here = witness;
+    while let NamedWitness::Point { mutable, inner } = here {
+        if is_literal(*mutable, inner) {
+            return Ok(());
+        }
+        text.push_str(point_mark(*mutable))?;
+        here = inner;
+    }
+    Ok(())
+}
+
+// Adds the witness. It goes down level by level, and through references that follow one another in a loop.
 #[cycle(pattern)]
 pub fn push_pattern(text: &mut String, witness: &NamedWitness<'_>) -> Result<(), AllocError>
     ensures { OnOk result (string_bytes text.new ≡ string_bytes text.old ++ pattern_text (witness_view witness.now)) }
@@ -80,7 +126,7 @@ pub fn push_pattern(text: &mut String, witness: &NamedWitness<'_>) -> Result<(),
         NamedWitness::UnitForm(name) => push_form_name(text, name),
         NamedWitness::TupleForm { name, parts } => push_tuple_form(text, name, parts),
         NamedWitness::BraceForm { name, fields } => push_brace_form(text, name, fields),
-        NamedWitness::Point { mutable, inner } => push_point(text, *mutable, inner),
+        NamedWitness::Point { .. } => push_points(text, witness),
         NamedWitness::Row {
             front,
             longer,
@@ -205,22 +251,32 @@ fn push_braces(text: &mut String, fields: &[NamedField<'_>]) -> Result<(), Alloc
     Ok(())
 }
 
-// Adds a reference. Behind `&` a text is its literal alone.
-#[cycle(pattern)]
-fn push_point(text: &mut String, mutable: bool, inner: &NamedWitness<'_>) -> Result<(), AllocError>
-    ensures { OnOk result (string_bytes text.new ≡ string_bytes text.old
-        ++ point_text mutable (text_of (witness_view inner.now)) (pattern_text (witness_view inner.now))) }
+// Adds a reference to a text, which is the literal of the text alone.
+fn push_alone(text: &mut String, inner: &NamedWitness<'_>) -> Result<(), AllocError>
+    requires { is_literal false (witness_view inner.now) ≡ true }
+    ensures { OnOk result (string_bytes text.new
+        ≡ string_bytes text.old ++ pattern_text (OfPoint false (witness_view inner.now))) }
 {
-    if mutable {
-        text.push_str("&mut ")?;
-        return push_pattern(text, inner);
-    }
-    match literal_of(inner) {
-        Some(shown) => push_string(text, shown),
-        None => {
-            text.push('&')?;
-            push_pattern(text, inner)?;
-            Ok(())
-        }
+    let NamedWitness::Text(shown) = inner else {
+        unreachable!();
+    };
+    push_string(text, shown)
+}
+
+// Adds a witness that begins with a reference.
+#[cycle(pattern)]
+fn push_points(text: &mut String, witness: &NamedWitness<'_>) -> Result<(), AllocError>
+    requires { begins_with_point (witness_view witness.now) ≡ true }
+    ensures { OnOk result (string_bytes text.new ≡ string_bytes text.old ++ pattern_text (witness_view witness.now)) }
+{
+    let NamedWitness::Point { mutable, inner } = witness else {
+        unreachable!();
+    };
+    if is_literal(*mutable, inner) {
+        push_alone(text, inner)
+    } else {
+        push_marks(text, witness)?;
+        push_pattern(text, behind_marks(inner))?;
+        Ok(())
     }
 }

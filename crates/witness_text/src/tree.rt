@@ -1,5 +1,5 @@
 // Witnesses as trees in JSON.
-ghost use Rattle.std.specs.Prelude.{◌≡◌, ◌++◌, [], false, OnOk, codes, chars, decimal, map, string_bytes};
+ghost use Rattle.std.specs.Prelude.{◌≡◌, ◌++◌, ◌≤◌, [], false, true, OnOk, codes, chars, decimal, map, string_bytes};
 ghost use Rattle.serde_json.specs.Data.{boolean, string, no_items};
 ghost use Rattle.serde_json.specs.View.{items_of};
 ghost use Rattle.serde_json.specs.Written.{compact_text, items_text};
@@ -10,8 +10,10 @@ ghost use Rattle.witness_text.specs.Trees.{name_view, texts_view, witness_view, 
 ghost use Rattle.witness_text.specs.Texts.{name_text};
 ghost use Rattle.witness_text.specs.Reported.{headed, number_data, end_data, char_data, range_data};
 ghost use Rattle.witness_text.specs.Reported.{flag_data, text_data, one_text_data, others_data, node_data};
-ghost use Rattle.witness_text.specs.Reported.{point_mark, point_data};
+ghost use Rattle.witness_text.specs.Reported.{point_mark};
 ghost use Rattle.witness_text.specs.Reported.{tree_data, parts_data, fields_data};
+ghost use Rattle.witness_text.specs.Points.{begins_with_point, behind_points, starts_text, ends_text};
+ghost use Rattle.witness_text.specs.declared.named.NamedWitness.{size-NamedWitness};
 
 use crate::names::form_name;
 use crate::pattern::flag_word;
@@ -208,7 +210,45 @@ fn row_middle(longer: bool) -> &'static str
     if longer { ",true,[" } else { ",false,[" }
 }
 
-// Adds the witness as a tree. It goes down level by level.
+// What stands behind the references that the witness begins with.
+fn behind_points<'w, 'a>(witness: &'w NamedWitness<'a>) -> &'w NamedWitness<'a>
+    ensures behind { witness_view result.now ≡ behind_points (witness_view witness.now) }
+    ensures size { size-NamedWitness result.now ≤ size-NamedWitness witness.now }
+{
+    let mut here = witness;
+    while let NamedWitness::Point { inner, .. } = here {
+        here = inner;
+    }
+    here
+}
+
+// Adds what stands before the tree of the witness behind the references that this one begins with.
+fn push_starts(text: &mut String, witness: &NamedWitness<'_>) -> Result<(), AllocError>
+    ensures { OnOk result (string_bytes text.new
+        ≡ string_bytes text.old ++ starts_text (witness_view witness.now)) }
+{
+    let mut here = witness;
+    while let NamedWitness::Point { mutable, inner } = here {
+        text.push_str(point_start(*mutable))?;
+        here = inner;
+    }
+    Ok(())
+}
+
+// Adds a bracket for each reference that the witness begins with.
+fn push_ends(text: &mut String, witness: &NamedWitness<'_>) -> Result<(), AllocError>
+    ensures { OnOk result (string_bytes text.new
+        ≡ string_bytes text.old ++ ends_text (witness_view witness.now)) }
+{
+    let mut here = witness;
+    while let NamedWitness::Point { inner, .. } = here {
+        text.push(']')?;
+        here = inner;
+    }
+    Ok(())
+}
+
+// Adds the witness as a tree. It goes down level by level, and through references that follow one another in loops.
 #[cycle(tree)]
 pub fn push_tree(
     alloc: Global,
@@ -229,7 +269,7 @@ pub fn push_tree(
         NamedWitness::UnitForm(name) => push_unit(alloc, text, name),
         NamedWitness::TupleForm { name, parts } => push_tuple_form_node(alloc, text, name, parts),
         NamedWitness::BraceForm { name, fields } => push_brace_node(alloc, text, name, fields),
-        NamedWitness::Point { mutable, inner } => push_point_tree(alloc, text, *mutable, inner),
+        NamedWitness::Point { .. } => push_points(alloc, text, witness),
         NamedWitness::Row {
             front,
             longer,
@@ -336,19 +376,22 @@ fn push_brace_node(
     Ok(())
 }
 
-// Adds a reference.
+// Adds a witness that begins with a reference.
 #[cycle(tree)]
-fn push_point_tree(
+fn push_points(
     alloc: Global,
     text: &mut String,
-    mutable: bool,
-    inner: &NamedWitness<'_>,
+    witness: &NamedWitness<'_>,
 ) -> Result<(), AllocError>
-    ensures { OnOk result (string_bytes text.new ≡ string_bytes text.old
-        ++ compact_text (point_data mutable (tree_data (witness_view inner.now)))) }
+    requires { begins_with_point (witness_view witness.now) ≡ true }
+    ensures { OnOk result (string_bytes text.new
+        ≡ string_bytes text.old ++ compact_text (tree_data (witness_view witness.now))) }
 {
-    text.push_str(point_start(mutable))?;
-    push_tree(alloc, text, inner)?;
-    text.push(']')?;
+    let NamedWitness::Point { inner, .. } = witness else {
+        unreachable!();
+    };
+    push_starts(text, witness)?;
+    push_tree(alloc, text, behind_points(inner))?;
+    push_ends(text, witness)?;
     Ok(())
 }

@@ -1,15 +1,30 @@
-use Rattle.std.proofs.Common.{◌≡◌, ◌∙◌, ap, sym, ◌++◌, string_bytes, rules}
+use Rattle.std.proofs.Common.{◌≡◌, ◌∙◌, ap, sym, ◌++◌, false, string_bytes, rules}
 use Rattle.witness_text.specs.declared.named.NamedWitness.TheFolds.{the_lemmas}
-use Rattle.witness_text.specs.Trees.{OfRow, witness_view, witnesses_view, field_view}
-use Rattle.witness_text.specs.Texts.{rest_texts, part_texts, field_text}
-use Rattle.witness_text.proofs.Adding.{three_added, four_added}
+use Rattle.witness_text.specs.Trees.{OfRow, OfPoint, witness_view, witnesses_view, field_view}
+use Rattle.witness_text.specs.Texts.{rest_texts, pattern_text, part_texts, field_text}
+use Rattle.witness_text.specs.Points.{is_literal, behind_marks, marks_text}
+use Rattle.witness_text.proofs.Adding.{two_added, three_added, four_added}
 use Rattle.witness_text.proofs.Lists.{joined_listed, some_braced, row_added}
+use Rattle.witness_text.proofs.Points.{behind_marked, marks_behind}
 use Rattle.witness_text.proofs.pattern.+pattern.Goals as goal
 
 pub push_braces-returns : goal.push_braces-returns
 push_braces-returns t c =
     three_added _ _ _ _ _ _ _ c.in_ok-push_str.ensures.bytes c.in_ok-push_fields.ensures c.in_ok-push_str-2.ensures.bytes
     ∙ ap (λ z. string_bytes c.args.text.now ++ z) (sym (some_braced c.args.fields.now c.is_empty.result c.is_empty.ensures c.if-is_empty.false))
+
+pub push_points-returns-in_ok-push_pattern : goal.push_points-returns-in_ok-push_pattern
+push_points-returns-in_ok-push_pattern t c =
+    let first = witness_view c.deref.result.now in
+    let inner = witness_view c.deref-else-is_literal.result.now in
+    let seen : witness_view c.args.witness.now ≡ OfPoint c.in-Point.mutable first = search (rules, the_lemmas) in
+    let again : witness_view c.args.witness.now ≡ OfPoint c.in-Point.mutable inner = search (rules, the_lemmas) in
+    let same : inner ≡ first = cc in
+    let plain : is_literal c.in-Point.mutable first ≡ false = sym c.is_literal.ensures ∙ c.if-is_literal.false in
+    two_added _ _ _ _ _ c.in_ok-push_marks.ensures c.in_ok-push_pattern.ensures
+    ∙ ap (λ w. string_bytes c.args.text.now ++ (marks_text (witness_view c.args.witness.now) ++ pattern_text w))
+    (c.behind_marks.ensures.behind ∙ ap behind_marks same ∙ sym (ap behind_marks seen ∙ behind_marked c.in-Point.mutable first plain))
+    ∙ ap (λ z. string_bytes c.args.text.now ++ z) (sym (marks_behind (witness_view c.args.witness.now)))
 
 pub push_tuple-returns : goal.push_tuple-returns
 unfolding lib.Utf8.encode

@@ -1,0 +1,8 @@
+use Rattle.std.proofs.Common.{◌≡◌, ◌++◌, string_bytes}
+use Rattle.witness_text.specs.Trees.{witness_view}
+use Rattle.witness_text.specs.Points.{ends_text}
+use Rattle.witness_text.proofs.tree.push_ends.Given as goal
+
+abbrev pub invariant-loop-here : goal.invariant-loop-here
+invariant-loop-here l =
+    string_bytes l.text ++ ends_text (witness_view l.here) ≡ string_bytes l.initial.text ++ ends_text (witness_view l.fn.witness)
