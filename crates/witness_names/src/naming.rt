@@ -1,5 +1,5 @@
 // Witnesses with their names.
-ghost use Rattle.std.specs.Prelude.{◌≡◌, map, IfOk};
+ghost use Rattle.std.specs.Prelude.{◌≡◌, ◌≤◌, true, map, IfOk};
 ghost use Rattle.match_model.specs.Declarations.{node_types};
 ghost use Rattle.match_model.specs.RustTypes.{inner_type};
 ghost use Rattle.match_model.specs.Witness.{NodeOf, witnesses_of};
@@ -8,6 +8,9 @@ ghost use Rattle.witnesses.specs.Views.{plain_witness, plain_strings};
 ghost use Rattle.witness_text.specs.Trees.{witness_view, texts_view, field_view};
 ghost use Rattle.witness_names.specs.Named.{IsOfFile, named_witness, named_parts, named_items, row_tree, types_there};
 ghost use Rattle.witness_names.specs.Lookups.{fields_there, front_of, back_of};
+ghost use Rattle.witness_names.specs.Points.{named_behind, point_kinds, put_behind};
+ghost use Rattle.witnesses.specs.Points.{begins_with_point};
+ghost use Rattle.witnesses.specs.declared.witness.Witness.{size-Witness};
 
 use crate::forms::form_of;
 use crate::numbers::name_numbers;
@@ -39,9 +42,72 @@ pub fn name_witnesses<'t>(
     Ok(all)
 }
 
+// Whether each reference that the witness of this type begins with is mutable.
+fn point_kinds(
+    alloc: Global,
+    table: &TypeTable,
+    ty: TyId,
+    witness: &Witness,
+) -> Result<Vec<bool>, NoMemory>
+    requires { IsOf table.now ty }
+    ensures { IfOk result (λ v. v.items ≡ point_kinds (plain_witness witness.now) (table_type table.now ty)) }
+{
+    let mut kinds = Vec::new(alloc);
+    let mut behind = ty;
+    let mut here = witness;
+    while let Witness::Point(inner) = here {
+        let Some((mutable, next)) = pointed(table, behind) else {
+            return Ok(kinds);
+        };
+        kinds.push(mutable)?;
+        behind = next;
+        here = inner;
+    }
+    Ok(kinds)
+}
+
+// What stands behind the references that the witness of this type begins with, and its type.
+fn behind_points<'t>(table: &TypeTable, ty: TyId, witness: &'t Witness) -> (TyId, &'t Witness)
+    requires { IsOf table.now ty }
+    ensures of { IsOf table.now result.0 }
+    ensures named { named_witness (table_program table.now) (table_type table.now result.0) (plain_witness result.1.now)
+        ≡ named_behind (table_program table.now) (plain_witness witness.now) (table_type table.now ty) }
+    ensures size { size-Witness result.1.now ≤ size-Witness witness.now }
+{
+    let mut behind = ty;
+    let mut here = witness;
+    while let Witness::Point(inner) = here {
+        let Some((_mutable, next)) = pointed(table, behind) else {
+            return (behind, here);
+        };
+        behind = next;
+        here = inner;
+    }
+    (behind, here)
+}
+
+// The witness with these references around it, the first one outside.
+fn put_behind<'t>(
+    alloc: Global,
+    kinds: Vec<bool>,
+    last: NamedWitness<'t>,
+) -> Result<NamedWitness<'t>, NoMemory>
+    ensures { IfOk result (λ n. witness_view n ≡ put_behind kinds.items (witness_view last.entry)) }
+{
+    let mut kinds = kinds;
+    let mut all = last;
+    while let Some(mutable) = kinds.pop() {
+        all = NamedWitness::Point {
+            mutable,
+            inner: Box::new(alloc, all)?,
+        };
+    }
+    Ok(all)
+}
+
 /// The witness of this type of the table with the names that a report shows. Its texts are those of the witness and of
-/// the table. It goes down level by level, and a witness is as deep as the patterns of its match, 64 levels at most in
-/// a source file. The only error is want of memory.
+/// the table. It goes down level by level, and through references that follow one another in loops. The only error is
+/// want of memory.
 #[cycle(naming)]
 pub fn name_witness<'t>(
     alloc: Global,
@@ -61,16 +127,7 @@ pub fn name_witness<'t>(
         Witness::Text(text) => Ok(NamedWitness::Text(text.as_str())),
         Witness::Else(texts) => Ok(NamedWitness::Else(all_texts(alloc, texts)?)),
         Witness::Node { variant, parts } => name_node(alloc, table, ty, *variant, parts),
-        Witness::Point(inner) => {
-            let Some((mutable, behind)) = pointed(table, ty) else {
-                return Ok(NamedWitness::Any);
-            };
-            let named = name_witness(alloc, table, behind, inner)?;
-            Ok(NamedWitness::Point {
-                mutable,
-                inner: Box::new(alloc, named)?,
-            })
-        }
+        Witness::Point(_) => name_points(alloc, table, ty, witness),
         Witness::Row { longer, .. } => {
             let front = name_front(alloc, table, ty, witness)?;
             let back = name_back(alloc, table, ty, witness)?;
@@ -78,6 +135,33 @@ pub fn name_witness<'t>(
         }
         Witness::Later => Ok(NamedWitness::Later),
     }
+}
+
+// A witness of this type that begins with a reference, with its names.
+#[cycle(naming)]
+fn name_points<'t>(
+    alloc: Global,
+    table: &'t TypeTable,
+    ty: TyId,
+    witness: &'t Witness,
+) -> Result<NamedWitness<'t>, NoMemory>
+    requires of { IsOf table.now ty }
+    requires file { IsOfFile table.now }
+    requires point { begins_with_point (plain_witness witness.now) ≡ true }
+    ensures { IfOk result (λ n. witness_view n
+        ≡ named_witness (table_program table.now) (table_type table.now ty) (plain_witness witness.now)) }
+{
+    let Witness::Point(inner) = witness else {
+        unreachable!();
+    };
+    let Some((_mutable, next)) = pointed(table, ty) else {
+        return Ok(NamedWitness::Any);
+    };
+    let kinds = point_kinds(alloc, table, ty, witness)?;
+    let (behind, here) = behind_points(table, next, inner);
+    let last = name_witness(alloc, table, behind, here)?;
+    let all = put_behind(alloc, kinds, last)?;
+    Ok(all)
 }
 
 // The node of this variant, a tuple's being 0, with the names of its form and its parts.

@@ -1,4 +1,4 @@
-use Rattle.std.proofs.Common.{◌≡◌, ℕ, ◌+◌, ◌<◌, ◌≤◌, ◌++◌, Bor, Vec, List, [], ◌∷◌, Option, map, rules, ap, sym, subst, ◌∙◌, add-one}
+use Rattle.std.proofs.Common.{◌≡◌, ℕ, ◌+◌, ◌<◌, ◌≤◌, ◌++◌, Bool, Bor, Vec, List, [], ◌∷◌, Option, Some, map, rules, ap, sym, subst, ◌∙◌, add-one}
 use Rattle.std.specs.Global.{Global}
 use Rattle.std.specs.Prelude.{option_map}
 use Rattle.std.proofs.lemmas.List.{map-append}
@@ -9,6 +9,13 @@ use Rattle.witness_text.specs.declared.named.NamedWitness.{NamedWitness}
 use Rattle.witness_text.specs.declared.named.NamedWitness.TheFolds.{the_lemmas}
 use Rattle.witness_text.specs.Trees.{FieldTree, witness_view, field_view}
 use Rattle.witness_names.proofs.PartLists.{parts_from, trees_from, part_there, moved, ended, next_part, no_part, next_field, no_field, no_name, no_witness, stayed}
+use Rattle.match_model.specs.Witness.{PointOf}
+use Rattle.type_table.specs.declared.table.TyId.{TyId}
+use Rattle.witnesses.specs.Views.{plain_witness}
+use Rattle.witnesses.specs.declared.witness.Witness.TheFolds.{the_lemmas as plain_lemmas}
+use Rattle.witness_names.specs.Lookups.{pointed, pointed_view}
+use Rattle.witness_names.specs.Points.{point_kinds, put_behind}
+use Rattle.witness_names.proofs.Points.{behind_step, named_points}
 use Rattle.witness_names.proofs.naming.+naming.Goals as goal
 use Rattle.witness_names.proofs.naming.+naming.Goals.{name_fields-then-i-count+in-Some+in_ok-witness+in_ok-push, name_fields-else-i-count, name_parts-then-i-count+in_ok-witness+in_ok-push, name_parts-else-i-count}
 
@@ -73,6 +80,23 @@ name_fields-returns t c =
     let o = node_types program (table_type table c.args.ty) c.args.variant in
     ended _ _ _ (no_witness program v o c.args.parts.now c.loop-part.i c.loop-part.part-index c.loop-part-test.false)
     c.loop-part.invariant
+
+pub name_points-returns : goal.name_points-returns
+name_points-returns t c =
+    let table = c.args.table.now in
+    let program = table_program table in
+    let here = table_type table c.args.ty in
+    let u = table_type table c.in-Some.next in
+    let inner = plain_witness c.deref.result.now in
+    let is : plain_witness c.args.witness.now ≡ PointOf inner = search (rules, plain_lemmas) in
+    let there : pointed here ≡ Some (c.in-Some._mutable, u) = sym c.pointed.ensures.is
+    ∙ ap (λ (o : Option (Bool × TyId)). option_map (pointed_view table) o) c.in-Some.is in
+    c.in_ok-all.ensures
+    ∙ ap (λ (ks : List Bool). put_behind ks (witness_view c.in_ok-last.last)) c.in_ok-kinds.ensures
+    ∙ ap (put_behind (point_kinds (plain_witness c.args.witness.now) here))
+    (c.in_ok-last.ensures ∙ c.behind_points.ensures.named
+    ∙ behind_step program here u c.in-Some._mutable inner (plain_witness c.args.witness.now) there is)
+    ∙ named_points program (plain_witness c.args.witness.now) here
 
 pub name_parts-loop-part-preserved : goal.name_parts-loop-part-preserved
 name_parts-loop-part-preserved t c =
