@@ -31,8 +31,9 @@ def kit_sum():
     prover = os.path.join(os.path.dirname(os.path.realpath(shutil.which("rt"))), "rattle")
     told = os.stat(prover)
     scripts = []
-    for name in ("planning.py", "trying.py"):
-        with open(os.path.join(planning.HERE, name), encoding="utf-8") as file:
+    finder = os.path.join(planning.TOP, "tools", "functions.py")
+    for path in (*(os.path.join(planning.HERE, name) for name in ("planning.py", "trying.py")), finder):
+        with open(path, encoding="utf-8") as file:
             scripts.append(file.read())
     return sum_of(str(told.st_size), str(told.st_mtime_ns), *scripts)
 
