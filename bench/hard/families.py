@@ -419,6 +419,16 @@ def touching_beside_alternatives(count):
 
 
 @family(500, 1000, 2000, overlaps=True)
+def touching_beside_two_alternatives(count):
+    """Ranges that touch beside pairs of numbers in two columns, of which one column keeps rows apart."""
+    arms = []
+    for i in range(count):
+        first, second = f"{i} | {i + count}", f"{i + 1} | {i + count + 1}"
+        arms += [f"({first}, {first}, 0..=5)", f"({first}, {second}, 5..=9)"]
+    return function("(u32, u32, u8)", arms + ["_"])
+
+
+@family(500, 1000, 2000, overlaps=True)
 def touching_beside_wildcards(count):
     """Ranges that touch beside two numbers, of which one row has the first, the next the second, by turns."""
     arms = []

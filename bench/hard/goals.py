@@ -108,12 +108,14 @@ def of_growth(family, before, after, starts):
 def of_values(before, after, starts):
     """The goals of `eval`: polynomial, at most the square of the source."""
     own, first = after.runs["eval"], before.runs["eval"]
-    if own.answered() and own.seconds < JUDGED:
+    if not own.answered():
+        yield f"{after.size}: eval ends: {told(own)}", False
+    elif own.seconds < JUDGED:
         yield f"{after.size}: eval is polynomial", True
-    elif first.answered():
+    else:
         growth, square = after.growth("eval", before, starts), (after.source / before.source) ** 2
         text = f"{after.size}: eval takes the square of the source: growth {growth:.1f}, square {square:.1f}"
-        yield text, own.answered() and growth <= NOISE * square
+        yield text, growth <= NOISE * square
 
 
 def of_ten(family, points):

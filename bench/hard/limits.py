@@ -5,6 +5,8 @@ import signal
 from typing import NamedTuple
 
 MEGABYTE = 1 << 20
+# A run that waits in place of working ends after so many times its seconds, by the clock.
+PATIENCE = 30
 
 
 class Limits(NamedTuple):
@@ -25,7 +27,7 @@ class Run(NamedTuple):
 
     def cut(self):
         """Whether the limit of time ended it."""
-        return self.status in (-signal.SIGXCPU, -signal.SIGKILL)
+        return self.status in (-signal.SIGXCPU, -signal.SIGALRM, -signal.SIGKILL)
 
     def starved(self):
         """Whether it wanted more memory than it had."""
@@ -45,6 +47,7 @@ def limited(command, limits, wrote, environment=None):
         resource.setrlimit(resource.RLIMIT_STACK, (limits.stack, limits.stack))
         resource.setrlimit(resource.RLIMIT_AS, (limits.memory, limits.memory))
         resource.setrlimit(resource.RLIMIT_CPU, (limits.seconds, limits.seconds + 1))
+        signal.alarm(PATIENCE * limits.seconds)
         os.execvpe(command[0], command, os.environ | (environment or {}))
     _, status, usage = os.wait4(pid, 0)
     status = os.waitstatus_to_exitcode(status)

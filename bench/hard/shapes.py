@@ -65,6 +65,53 @@ def slices_of_two_kinds_around_a_rest(count):
     return function("&[bool]", arms + ["_"])
 
 
+def items_at_both_ends(count, first):
+    """Slices that begin with some items that hold and end with some that do not, from so many of each on."""
+    numbers = range(first, count)
+    return ["[" + "true, " * front + ".." + ", false" * back + "]" for front in numbers for back in numbers]
+
+
+@family(8, 12, 16, ten=100)
+def slices_by_both_ends(count):
+    """Slices by their first and last items at once, and a wildcard."""
+    return function("&[bool]", items_at_both_ends(count, 0) + ["_"])
+
+
+@family(6, 8, 10, ten=100)
+def slices_by_both_ends_open(count):
+    """Slices by their first and last items at once, one of each at least: the missing cases are many."""
+    return function("&[bool]", items_at_both_ends(count, 1))
+
+
+@family(25, 50, 100, ten=255)
+def array_by_both_ends_open(count):
+    """One item that holds, at each place from the front and from the back of a large array."""
+    arms = ["[" + "_, " * i + "true, ..]" for i in range(count)]
+    return function("[bool; 4294967295]", arms + ["[.., true" + ", _" * i + "]" for i in range(count)])
+
+
+def two_nests(depth, first, second):
+    """Two patterns of slices in slices, made by two forms, whose deepest ranges touch beside different flags."""
+    patterns = []
+    for form, leaf in ((first, "(0..=5, true)"), (second, "(5..=9, false)")):
+        for _ in range(depth):
+            leaf = form.replace("#", leaf)
+        patterns.append(leaf)
+    return function("&[" * depth + "(u8, bool)" + "]" * depth, patterns + ["_"])
+
+
+@family(8, 12, 16, ten=58)
+def first_items_in_slices(depth):
+    """Two patterns of first items in slices in slices, which have their rests at different places."""
+    return two_nests(depth, "[#, _, .., _]", "[#, .., _, _]")
+
+
+@family(3, 4, 5, ten=12)
+def both_items_in_slices(depth):
+    """Two patterns of two items in slices in slices, at both ends in one and at the back in the other."""
+    return two_nests(depth, "[#, .., #]", "[.., #, #]")
+
+
 @family(64, 128, 255, ten=255)
 def slices_by_length(count):
     """Slices of each length, and the longer ones."""
@@ -261,6 +308,14 @@ def all_true_first(count):
 def guarded_columns(count):
     """Guarded rows of one flag that holds."""
     return function(columns_of("bool", count), guarded(row(count, {i: "true"}) for i in range(count)) + ["_"])
+
+
+@family(8, 10, 12, ten=40, hard=TREES)
+def guarded_pairs_of_flags(count):
+    """Guarded rows of one flag that holds and another that does not: each value asks another set of guards."""
+    pairs = [(i, j) for i in range(count) for j in range(count) if i != j]
+    arms = guarded(row(count, {i: "true", j: "false"}) for i, j in pairs)
+    return function(columns_of("bool", count), arms + ["_"])
 
 
 @family(6, 8, 10, ten=120, hard=TREES)
