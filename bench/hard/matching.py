@@ -4,10 +4,12 @@
     bench/hard/matching.py [--count N] [--first SEED] [--limit SECONDS] [--show SEED] [--program PATH]
 
 Each of N matches (500) is made from its seed, from SEED (1) on: 3 to 12 columns of flags, enums, ranges, texts,
-options, XX programs have SECONDS (5) of processor time, and 2 GB. No source is kept; `--show` prints one.
+options, slices, tuples and references, and 10 to 80 rows with or-patterns and guards. Every second one has no
+wildcard at its end. `check` has SECONDS (5) of processor time and 2 GB, rustc as many seconds and 6 GB. No source is
+kept; `--show` prints one.
 
-The goal is met for each match on which `check` is no slower than rustc, or both need more than the limit. The table has
-the matches that missed it. The exit status is 1 if there is one.
+The goal is met for each match on which `check` is no slower than rustc, or rustc does not answer. The table has the
+matches that missed it. The exit status is 1 if there is one.
 """
 import argparse
 import os
