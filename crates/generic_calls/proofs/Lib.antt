@@ -1,1 +1,2 @@
 mod FlagMatch
+mod OneGuard
