@@ -13,11 +13,12 @@ makes code of what can be reached, and keeps the program. The tests that `rt try
 sum that overflows or an index out of bounds.
 
 One build of a program runs at a time: the others wait for its lock, which the system takes back when its owner dies.
+Each build has a folder of its own, since a linker may outlive its owner and write later.
 A build ends with a rename, so what was cut off is never taken for whole.
 
-Prints three lines: the program's path from the top, `proved` or `unproved`, and why it is unproved. Writes them to
-out/unproved/NAME.record too, and beside it lists of what the program was made from, so that ./matchcheck need not ask
-again.
+Prints three lines: the program's path from the top, `proved` or `unproved`, and why it is unproved. Where it can
+write, it writes them to out/unproved/NAME.record too, and beside it lists of what the program was made from, so that
+./matchcheck need not ask again.
 """
 import contextlib
 import ctypes
@@ -33,6 +34,7 @@ import shutil
 import signal
 import subprocess
 import sys
+import tempfile
 import time
 
 ROOT = pathlib.Path(__file__).resolve().parent.parent.parent
@@ -73,7 +75,8 @@ for word; do
         *) [ -n "$inside" ] || set -- "$@" "$word" ;;
     esac
 done
-"{tools}/ld.lld" --lto-newpm-passes='{passes}' --lto-CGO{level} "$@" && cp "{room}/made" "$output"
+"{tools}/ld.lld" --lto-newpm-passes='{passes}' --lto-CGO{level} "$@" && : > "{room}/linked" &&
+    cp "{room}/made" "$output"
 """
 
 
@@ -215,11 +218,17 @@ def first_fault(text):
     return next((line for line in lines if "error" in line), lines[0] if lines else "it said nothing")
 
 
-def build(kit, folder, room, target):
-    """Has `rt try` build the program of a crate's folder, in a room of its own, and keeps what was linked."""
+def room_of_build(name):
+    """A new folder for one build of a program. Those of builds that were cut off are removed: the lock is ours."""
+    for old in KEPT.glob(f"{name}.room*"):
+        shutil.rmtree(old, ignore_errors=True)
+    return pathlib.Path(tempfile.mkdtemp(prefix=f"{name}.room.", dir=KEPT))
+
+
+def build(kit, folder, target):
+    """Has `rt try` build the program of a crate's folder, and keeps what was linked."""
     name = folder.name
-    shutil.rmtree(room, ignore_errors=True)
-    room.mkdir()
+    room = room_of_build(name)
     rt = kit_that_keeps(kit, room)
     said = room / "said"
     with open(said, "wb") as out:
@@ -235,7 +244,7 @@ def build(kit, folder, room, target):
             fail(130, f"the build of {name} was interrupted; nothing of it is kept")
     made, log = room / "made", KEPT / f"{name}.log"
     log.unlink(missing_ok=True)
-    if not made.is_file():
+    if not (room / "linked").is_file():
         os.replace(said, log)
         shutil.rmtree(room, ignore_errors=True)
         fault = first_fault(log.read_text(errors="replace"))
@@ -268,7 +277,7 @@ def build_once(kit, name, top=ROOT):
             if target.is_file():
                 return target, now
             say(f"building {name} without its proof, once: about a minute of processor time")
-            build(kit, top / "crates" / name, KEPT / f"{name}.room", target)
+            build(kit, top / "crates" / name, target)
             if unproved_sum(kit, name, top) == total:
                 remove_old(name)
                 return target, now
@@ -312,6 +321,7 @@ def write_apart(path, text, when=None):
 def record(lines, name, lists, before):
     """Writes the record of a program, and before it the lists of what it was made from. Its time is that of a moment
     before the sources were read; what a clock of whole ticks might not tell apart counts as changed."""
+    KEPT.mkdir(parents=True, exist_ok=True)
     with open(KEPT / f"{name}.writing", "a") as lock:
         fcntl.flock(lock, fcntl.LOCK_EX)
         for ending, paths in zip(("code", "all"), lists):
@@ -341,10 +351,11 @@ def main(words):
     name = words[1]
     signal.signal(signal.SIGTERM, lambda *_: sys.exit(143))
     kit, rt = kit_of_path()
-    KEPT.mkdir(parents=True, exist_ok=True)
     program, state, why, has_stamp, before = found_program(kit, name, words[0] == "find")
     lines = [str(program.relative_to(ROOT)), state, why]
-    record([*lines, "yes" if has_stamp else "no", rt], name, watched(kit, rt, name, has_stamp), before)
+    # Where nothing can be written, the program runs all the same, and the next call asks again.
+    with contextlib.suppress(OSError):
+        record([*lines, "yes" if has_stamp else "no", rt], name, watched(kit, rt, name, has_stamp), before)
     print("\n".join(lines))
 
 
