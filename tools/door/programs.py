@@ -125,6 +125,13 @@ def unproved_sum(kit, name, top=ROOT):
     return total.hexdigest()[:32]
 
 
+def last_change(name, top):
+    """When a source of the program last changed, as the system counts it: also where it has its old text again."""
+    folders = [top / "crates" / crate / "src" for crate in crates_below(name, top)]
+    files = [top / "crates.txt", *(file for folder in folders for file in folder.rglob("*.rt"))]
+    return max(file.stat().st_ctime_ns for file in files)
+
+
 def loaded(name, path):
     """A file of the kit's own code, as a module."""
     loader = importlib.machinery.SourceFileLoader(name, str(path))
@@ -272,13 +279,14 @@ def build_once(kit, name, top=ROOT):
             say(f"another call builds {name} now: waiting for it")
             fcntl.flock(lock, fcntl.LOCK_EX)
         for _ in range(3):
-            now, total = time.time(), unproved_sum(kit, name, top)
+            now, changed = time.time(), last_change(name, top)
+            total = unproved_sum(kit, name, top)
             target = KEPT / f"{name}-{total}"
             if target.is_file():
                 return target, now
             say(f"building {name} without its proof, once: about a minute of processor time")
             build(kit, top / "crates" / name, target)
-            if unproved_sum(kit, name, top) == total:
+            if unproved_sum(kit, name, top) == total and last_change(name, top) == changed:
                 remove_old(name)
                 return target, now
             # A source changed meanwhile, so nobody knows which text was built.
