@@ -30,6 +30,7 @@ import io
 import os
 import pathlib
 import re
+import shlex
 import shutil
 import signal
 import subprocess
@@ -55,13 +56,13 @@ for word; do
     case $word in *.bc) input=$word ;; esac
     before=$word
 done
-cp "$input" "{room}/own.bc" &&
-    "{tools}/clang" --target=x86_64-unknown-linux-gnu -c -x assembler /dev/null -o "$output"
+cp "$input" {room}/own.bc &&
+    {tools}/clang --target=x86_64-unknown-linux-gnu -c -x assembler /dev/null -o "$output"
 """
 LINKER = """#!/bin/sh
 # Links the module in place of the empty object file, which is the first input, and without the archive of the
 # sanitizer, to a place of our own. `rt try` gets a copy.
-: > "{room}/compiling"
+: > {room}/compiling
 inside= output= before=
 for word; do
     shift
@@ -75,8 +76,8 @@ for word; do
         *) [ -n "$inside" ] || set -- "$@" "$word" ;;
     esac
 done
-"{tools}/ld.lld" --lto-newpm-passes='{passes}' --lto-CGO{level} "$@" && : > "{room}/linked" &&
-    cp "{room}/made" "$output"
+{tools}/ld.lld --lto-newpm-passes={passes} --lto-CGO{level} "$@" && : > {room}/linked &&
+    cp {room}/made "$output"
 """
 
 
@@ -175,7 +176,8 @@ def link_all(source, target, but=()):
 
 
 def write_tool(path, text, **words):
-    path.write_text(text.format(**words))
+    """A script for the shell, with these words in it: a folder's name may have any character."""
+    path.write_text(text.format(**{name: shlex.quote(str(word)) for name, word in words.items()}))
     path.chmod(0o755)
 
 
