@@ -3,9 +3,12 @@
 
     programs.py find NAME      finds the program, and builds it first where there is none
     programs.py look NAME      the same, but builds nothing; status 1 where there is none
+    programs.py sum NAME       the sum of what a proof of the program reads here
+    programs.py note NAME SUM  leaves the stamp of a program that was proved; status 1 where the sum is another one
 
-The proved program is crates/NAME/out/NAME where the stamp beside it, which `rt run` and `rt ci` leave, is the sum of
-the sources and the kit here, and ends with the sum of the program's own bytes. The kit's own code computes that sum.
+The proved program is crates/NAME/out/NAME where the stamp beside it is the sum of the sources and the kit here, and
+ends with the sum of the program's own bytes. The kit's own code computes that sum. `rt run` leaves the stamp. `rt ci`
+leaves the program alone, so `.ci/run` takes the sum before it, and notes the program where it passed.
 Else it is out/unproved/NAME-SUM, where SUM covers the kit, the lines of crates.txt and the `.rt` files of the crates
 that the program stands on. `rt try` builds such a program anew at each call, with the address sanitizer, and throws
 it away. Here `rt try` runs in a folder of links to the kit. Its compiler leaves the sanitizer out, and its linker
@@ -355,10 +358,26 @@ def found_program(kit, name, may_build):
     return kept, "unproved", why, has_stamp, before
 
 
+def note(kit, name, proved):
+    """Leaves the stamp of a program that was proved from the sources of this sum; tells whether they are those here."""
+    program = ROOT / "crates" / name / "out" / name
+    if not proved or stamp_here(kit, name) != proved or not program.is_file():
+        return False
+    write_apart(program.with_name(f"{name}.stamp"), proved + hashlib.sha256(program.read_bytes()).hexdigest())
+    return True
+
+
 def main(words):
-    if len(words) != 2 or words[0] not in ("find", "look"):
-        fail(2, "programs.py takes find or look, and the name of a program")
+    if len(words) != (3 if words[:1] == ["note"] else 2) or words[0] not in ("find", "look", "sum", "note"):
+        fail(2, "programs.py takes find, look, sum or note, and the name of a program; note takes a sum too")
     name = words[1]
+    if words[0] == "sum":
+        print(stamp_here(kit_of_path()[0], name) or "")
+        return
+    if words[0] == "note":
+        if not note(kit_of_path()[0], name, words[2]):
+            fail(1, f"{name} was not proved from the sources here")
+        return
     signal.signal(signal.SIGTERM, lambda *_: sys.exit(143))
     kit, rt = kit_of_path()
     program, state, why, has_stamp, before = found_program(kit, name, words[0] == "find")
