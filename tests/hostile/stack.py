@@ -52,7 +52,7 @@ def deep():
 
 
 def half():
-    """Half as deep, for a quarter of the stack."""
+    """Half as deep, for half of the stack."""
     for mark in ("&", "&mut "):
         yield f"structs behind {mark.strip()}", *chain(LEVELS // 2, REFERENCES, mark)
     yield "structs with names behind &", *chain(LEVELS // 2, REFERENCES, "&", True)
@@ -89,7 +89,7 @@ def one(tried, program, folder, kilobytes, name, source, ends):
 
 
 def try_all(tried, program, folder):
-    for kilobytes, rows in ((1024, deep()), (256, half())):
+    for kilobytes, rows in ((1024, deep()), (512, half())):
         for name, source, text, tree in rows:
             one(tried, program, folder, kilobytes, name, source, missing(text, tree))
     one(tried, program, folder, 256, f"{MANY:,} structs", many(), b"")
