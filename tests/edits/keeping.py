@@ -54,8 +54,8 @@ def folder():
 class Kept:
     """The edits that were refused: a file of the name of its sum for each."""
 
-    def __init__(self, is_anew):
-        self.folder, self.is_anew = folder(), is_anew
+    def __init__(self, is_anew, is_alone):
+        self.folder, self.is_anew = None if is_alone else folder(), is_anew
 
     def path(self, edit):
         return os.path.join(self.folder, sum_of(kit_sum(), crate_sum(edit.crate), edit.crate, edit.text))

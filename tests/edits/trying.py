@@ -179,14 +179,15 @@ def settled(check, sources, edits, flag):
         if found[edit][0] in (OTHER, UNSURE) or (flag == "--start" and found[edit][0] == THROUGH):
             found.update(judged(check, sources, [edit]))
         if found[edit][0] == UNSURE:
-            found[edit] = tried_alone(edit)
+            found.update(tried_alone([edit]))
     return found
 
 
-def tried_alone(edit):
-    """The verdict of `rt must-fail` on an edit, in a copy of its crate and of those below."""
+def tried_alone(edits):
+    """The verdicts of `rt must-fail` on edits of one crate, in a copy of it and of those below."""
+    crate = edits[0].crate
     with tempfile.TemporaryDirectory(prefix="edits-") as room:
-        for name in [edit.crate, *below(edit.crate)]:
+        for name in [crate, *below(crate)]:
             shutil.copytree(
                 os.path.join(planning.CRATES, name),
                 os.path.join(room, "crates", name),
@@ -196,11 +197,18 @@ def tried_alone(edit):
         with open(os.path.join(room, "crates.txt"), "w", encoding="utf-8") as file:
             file.write("\n".join(lines) + "\n")
         shutil.copy(os.path.join(planning.TOP, "HANDLES"), room)
-        folder = os.path.join(room, "crates", edit.crate, "must-fail")
+        folder = os.path.join(room, "crates", crate, "must-fail")
         os.mkdir(folder)
-        shutil.copy(edit.path, folder)
-        said = heard(["rt", "must-fail", edit.crate], room)
-    told = next((line for line in said.split("\n") if "must-fail " in line and edit.name in line), said[-300:])
+        for edit in edits:
+            shutil.copy(edit.path, folder)
+        said = heard(["rt", "must-fail", crate], room)
+    return {edit: verdict_alone(said, edit) for edit in edits}
+
+
+def verdict_alone(said, edit):
+    """What `rt must-fail` says of an edit."""
+    name = os.path.basename(edit.path)
+    told = next((it for it in said.split("\n") if "must-fail " in it and name in re.split(r"[ :/]", it)), said[-300:])
     if "refused, as it must be" in told:
         return REFUSED, told
     if "NOT REFUSED" in told:
