@@ -1,4 +1,4 @@
--- Which JSON value is which record (docs/use.md: "What it writes").
+-- Which JSON value is which record (docs/report.md, "The report").
 use Rattle.std.specs.Prelude.{◌≡◌, ℕ, List, [], ◌∷◌, Bool, Option, Some, None, option_map, option_and_then, Result, Ok, Err, ⊤, codes}
 use Rattle.serde_json.specs.Data.{Data, Items, no_items, item}
 use Rattle.serde_json.specs.Find.{get}

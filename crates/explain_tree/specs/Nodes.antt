@@ -1,4 +1,4 @@
--- Which JSON is which node of a decision tree (docs/use.md: "Decision trees").
+-- Which JSON is which node of a decision tree (docs/report.md, "Decision trees").
 use Rattle.std.specs.Prelude.{ℕ, List, Bool, true, map, nat_lt, Option, Some, None, option_map, option_and_then, codes, if◌then◌else◌}
 use Rattle.std.specs.List.{list_all}
 use Rattle.std.specs.Str.{bytes_eq}

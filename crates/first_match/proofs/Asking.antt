@@ -9,7 +9,7 @@ use Rattle.match_model.specs.Ways.{Way, Binding}
 use Rattle.pattern_arena.specs.declared.matches.CheckedArm.{CheckedArm}
 use Rattle.pattern_arena.specs.Trees.{plain_arm, tree}
 use Rattle.first_match.specs.declared.held.Ending.{Ending}
-use Rattle.first_match.specs.Asking.{tries_binding, after_asking, ended_or}
+use Rattle.first_match.specs.Asking.{tries_binding, ways_asked, after_asking, ended_or}
 use Rattle.first_match.specs.Bound.{bound_by}
 
 -- of a way the names alone count
@@ -30,15 +30,23 @@ pub first_counts : (j : ℕ) (bss : List (List Binding)) (rest : List Try) (answ
 first_counts j [] rest answers = refl
 first_counts j (bs ∷ bss) rest answers = refl
 
--- with a guard as many as there are answers, and one more
+-- with a guard those that it may be asked on
 pub asked_count : (j : ℕ) (bss : List (List Binding)) (rest : List Try) (answers : List Bool) →
-    select_from (tries_binding j true (take (suc (length answers)) bss) ++ rest) answers
+    select_from (tries_binding j true (take (ways_asked answers) bss) ++ rest) answers
     ≡ select_from (tries_binding j true bss ++ rest) answers
-asked_count j [] rest answers = refl
+asked_count j [] rest [] = refl
+asked_count j [] rest (true ∷ answers) = refl
+asked_count j [] rest (false ∷ answers) = refl
 asked_count j (bs ∷ bss) rest [] = refl
 asked_count j (bs ∷ bss) rest (true ∷ answers) = refl
 asked_count j (bs ∷ bss) rest (false ∷ answers) =
     ap (also_asked (record { arm = j; bindings = bs })) (asked_count j bss rest answers)
+
+-- at least one
+pub some_asked : (answers : List Bool) → 0 < ways_asked answers
+some_asked [] = omega arith
+some_asked (true ∷ answers) = omega arith
+some_asked (false ∷ answers) = omega arith
 
 -- a guard that is asked after others
 pub asked_after : (asked : List Asked) (a : Asked) (s : Selected) →
@@ -71,7 +79,7 @@ tried_first (Ok o) j guarded ws bss asked answers g e h = λ rest.
 
 -- an arm with a guard
 pub tried_guarded : {E : Type 0} (r : Result (Option Ending) E) (j : ℕ) (guarded : Bool) (ws : List Way) (bss : List (List Binding))
-    (most : ℕ) (old new : List Asked) (answers left : List Bool) → guarded ≡ true → most ≡ suc (length answers) →
+    (most : ℕ) (old new : List Asked) (answers left : List Bool) → guarded ≡ true → most ≡ ways_asked answers →
     bss ≡ take most (bound_by ws) →
     IfOk r (λ o. (rest : List Try) →
     ended_or o new (select_from rest left) ≡ after_asking old (select_from (tries_binding j true bss ++ rest) answers)) →

@@ -1,5 +1,5 @@
 -- No meaning: what is left to try, for the proofs of `selecting`.
-use Rattle.std.specs.Prelude.{ℕ, Bool, List, ◌++◌, map, Option, Some, None}
+use Rattle.std.specs.Prelude.{ℕ, suc, Bool, true, false, List, [], ◌∷◌, ◌++◌, map, Option, Some, None}
 use Rattle.match_model.specs.Select.{Asked, Selected, Try, try_of}
 use Rattle.match_model.specs.Ways.{Way, Binding, bare_way}
 use Rattle.first_match.specs.declared.held.Ending.{Ending}
@@ -12,6 +12,13 @@ way_binding bs = record bare_way { bindings = bs }
 -- the ways that bind so as things to try
 abbrev pub tries_binding : (arm : ℕ) → (guarded : Bool) → List (List Binding) → List Try
 tries_binding j guarded bss = map (λ bs. try_of j guarded (way_binding bs)) bss
+
+-- the ways of an arm that its guard may be asked on: one for each answer up to the first that takes it, or one more than
+-- there are answers
+abbrev pub ways_asked : (answers : List Bool) → ℕ
+ways_asked [] = 1
+ways_asked (true ∷ answers) = 1
+ways_asked (false ∷ answers) = suc (ways_asked answers)
 
 -- these guards are asked before all that
 abbrev pub after_asking : List Asked → Selected → Selected

@@ -6,9 +6,9 @@
 //! that it binds (`ways`), and asks the guard on them in order (`selecting`).
 //!
 //! A pattern of n places with two alternatives each may have 2^n ways, of which the first alone are asked. Of an arm
-//! without a guard that is one way. Of an arm with a guard it is one more than answers are left, and the last of them
-//! is that whose answer is missing. The first `most` combinations of two lists are those of the first `most` of each,
-//! so lists of ways are cut at each level.
+//! without a guard that is one way. Of an arm with a guard it is one for each answer up to the first that takes the arm.
+//! Where no answer takes it, the last of the ways is that whose answer is missing. The first `most` combinations of two
+//! lists are those of the first `most` of each, so lists of ways are cut at each level.
 //!
 //! No decision tree is made. `tree_laws` says that the tree of a match means what is selected here.
 #![tactic(auto)]

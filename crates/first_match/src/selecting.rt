@@ -5,7 +5,7 @@ ghost use Rattle.match_model.specs.Select.{Asked, Try, select_from, try_of};
 ghost use Rattle.pattern_arena.specs.Meaning.{select};
 ghost use Rattle.pattern_arena.specs.Trees.{tree};
 ghost use Rattle.tree_eval.specs.Views.{plain_value};
-ghost use Rattle.first_match.specs.Asking.{after_asking, ended_or, tries_binding};
+ghost use Rattle.first_match.specs.Asking.{after_asking, ended_or, tries_binding, ways_asked};
 ghost use Rattle.first_match.specs.Names.{names_held};
 ghost use Rattle.first_match.specs.Selections.{arm_view, selection_view};
 
@@ -67,9 +67,25 @@ fn tried<'a, T: Copy>(
         let ways = ways_of(alloc, &arm.pat, value, 1)?;
         return first_taken(alloc, number, &ways);
     }
-    let most = answers.len() - asked.len() + 1;
+    let most = ways_asked(&answers[asked.len()..]);
     let ways = ways_of(alloc, &arm.pat, value, most)?;
     guards_asked(alloc, number, &ways, answers, asked)
+}
+
+// The ways of an arm that its guard may be asked on with these answers: those up to the first that takes the arm, or one
+// more than there are.
+fn ways_asked(answers: &[bool]) -> usize
+    ensures count { result ≡ ways_asked answers.now }
+    ensures some { 0 < result }
+{
+    let mut number = 1;
+    for accepts in answers {
+        if *accepts {
+            return number;
+        }
+        number += 1;
+    }
+    number
 }
 
 // An arm without a guard is taken by the first of its ways.
