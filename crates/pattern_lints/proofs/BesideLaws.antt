@@ -1,13 +1,14 @@
 -- The number beside a range lies where the patterns of its row say.
-use Rattle.std.proofs.Common.{◌≡◌, ◌≢◌, inl, inr, ℕ, zero, suc, ℤ, pos, Bool, true, false, ◌&&◌, List, [], ◌∷◌, length, slice_get, Option, None, Some, refl, sym, ap, subst, ◌∙◌, arith, if◌then◌else◌}
+use Rattle.std.proofs.Common.{◌≡◌, ◌≢◌, inl, inr, ℕ, zero, suc, ℤ, pos, Bool, true, false, ◌&&◌, ◌+◌, ◌-◌, ◌<◌, ◌≤◌, List, [], ◌∷◌, ◌++◌, take, drop, length, slice_get, Option, None, Some, refl, sym, ap, subst, ◌∙◌, arith, if◌then◌else◌}
 use Rattle.std.specs.Prelude.{int_le}
 use Rattle.std.proofs.lemmas.Int.{ints}
 use Rattle.std.proofs.lemmas.Bool.Decides.{nat_tests}
-use Rattle.match_model.specs.Values.{MValue, Flag, Num, Node, Row, values_list, parts_of}
+use Rattle.match_model.specs.Values.{MValue, Flag, Num, Text, Node, Row, values_list, parts_of}
 use Rattle.match_model.specs.Numbers.{Free, MRange, in_range, is_from, is_up_to, closed}
-use Rattle.match_model.specs.Constructors.{MCtor, SingleCtor, PointCtor, OrCtor, VariantCtor, FlagCtor, NumbersCtor, RowCtor, FixedShape, builds, parts_met, least_held, greatest_held}
+use Rattle.match_model.specs.Constructors.{MCtor, SingleCtor, PointCtor, OrCtor, VariantCtor, FlagCtor, NumbersCtor, TextCtor, RowCtor, FixedShape, LongerShape, builds, parts_met, least_held, greatest_held}
 use Rattle.match_model.specs.ArenaPatterns.{MDePat, ctor_of, subs_of}
 use Rattle.match_model.specs.Rows.{Head}
+use Rattle.match_model.proofs.Basics.{text_equal}
 use Rattle.match_model.specs.ArenaWays.{NumberedPart, numbered_from, parts_built}
 use Rattle.range_split.specs.declared.range.EndKind.{EndKind}
 use Rattle.range_split.specs.declared.range.EndKind.TheVariants as ends
@@ -19,7 +20,7 @@ use Rattle.range_split.specs.Ranges.{plain_range}
 use Rattle.range_split.proofs.Held.{kept_held}
 use Rattle.pattern_lints.specs.Along.{matches, MeetsAlong}
 use Rattle.pattern_lints.specs.Meeting.{IsSharp}
-use Rattle.pattern_lints.specs.Beside.{own_number, own_range, number_below, number_beside, is_steady, MatchesPart, LiesBelow, LiesBeside, held_of, low_held, high_held}
+use Rattle.pattern_lints.specs.Beside.{text_number, own_number, own_range, number_below, number_beside, stands_first, MatchesPart, LiesBelow, LiesBeside, held_of, low_held, high_held}
 use Rattle.pattern_lints.proofs.HeadParts.{some_same}
 use Rattle.pattern_lints.proofs.Matched.{sharp_forth}
 use Rattle.pattern_lints.proofs.Numbered.{some-true, part-there}
@@ -31,29 +32,49 @@ numbered-at k [] j n e = cc
 numbered-at k (v ∷ vs) zero n e = let same : record { number = k; part = v } ≡ n = cc in ap (λ (m : NumberedPart). Some m.part) same
 numbered-at k (v ∷ vs) (suc j) n e = numbered-at (suc k) vs j n e
 
-steady-met : (c : MCtor) (ns : List NumberedPart) → is_steady c ≡ true → parts_met c ns ≡ ns
-steady-met SingleCtor ns s = refl
-steady-met PointCtor ns s = refl
-steady-met (VariantCtor k) ns s = refl
-steady-met (RowCtor r) ns s = cc
-steady-met _ ns s = cc
+length-numbered : (k : ℕ) (vs : List MValue) → length (numbered_from k vs) ≡ length vs
+length-numbered k [] = refl
+length-numbered k (v ∷ vs) = ap suc (length-numbered (suc k) vs)
 
-steady-sharp : (c : MCtor) → is_steady c ≡ true → IsSharp c
-steady-sharp SingleCtor s = tt
-steady-sharp PointCtor s = tt
-steady-sharp (VariantCtor k) s = tt
-steady-sharp _ s = cc
+-- the first items of a row are those in front of its patterns
+front-at : {X : Type 0} (f : ℕ) (xs ys : List X) (j : ℕ) → j < f → f ≤ length xs → slice_get (take f xs ++ ys) j ≡ slice_get xs j
+front-at zero xs ys j l h = absurd (omega (arith, l))
+front-at (suc f) [] ys j l h = absurd (omega (arith, h))
+front-at (suc f) (x ∷ xs) ys zero l h = refl
+front-at (suc f) (x ∷ xs) ys (suc j) l h = front-at f xs ys j (omega (arith, l)) (omega (arith, h))
+
+first-met : (c : MCtor) (v : MValue) (j : ℕ) → stands_first c j ≡ true → builds [] c v ≡ true →
+    slice_get (parts_met c (numbered_from 0 (parts_of v))) j ≡ slice_get (numbered_from 0 (parts_of v)) j
+first-met SingleCtor v j s b = refl
+first-met PointCtor v j s b = refl
+first-met (VariantCtor k) v j s b = refl
+first-met (RowCtor (FixedShape n)) v j s b = refl
+first-met (RowCtor (LongerShape f k)) (Row items) j s b =
+    let parts = numbered_from 0 (values_list items) in
+    let size = length-numbered 0 (values_list items) in
+    let less : j < f = grind (arith, nat_tests) in
+    let there : f + k ≤ length (values_list items) = grind (arith, nat_tests) in
+    front-at f parts (drop (length parts - k) parts) j less (omega (arith, there, size))
+first-met (RowCtor (LongerShape f k)) _ j s b = cc
+first-met _ v j s b = cc
+
+first-sharp : (c : MCtor) (j : ℕ) → stands_first c j ≡ true → IsSharp c
+first-sharp SingleCtor j s = tt
+first-sharp PointCtor j s = tt
+first-sharp (VariantCtor k) j s = tt
+first-sharp (RowCtor r) j s = tt
+first-sharp _ j s = cc
 
 -- the part that the pattern with the number meets
-met-at : (c : MCtor) (v : MValue) (j : ℕ) (n : NumberedPart) → is_steady c ≡ true → slice_get (parts_met c (numbered_from 0 (parts_of v))) j ≡ Some n →
+met-at : (c : MCtor) (v : MValue) (j : ℕ) (n : NumberedPart) → stands_first c j ≡ true → builds [] c v ≡ true → slice_get (parts_met c (numbered_from 0 (parts_of v))) j ≡ Some n →
     slice_get (parts_of v) j ≡ Some n.part
-met-at c v j n s e = numbered-at 0 (parts_of v) j n (ap (λ ns. slice_get ns j) (sym (steady-met c (numbered_from 0 (parts_of v)) s)) ∙ e)
+met-at c v j n s b e = numbered-at 0 (parts_of v) j n (sym (first-met c v j s b) ∙ e)
 
-built-at : (c : MCtor) (v : MValue) (parts : List NumberedPart) (j : ℕ) (n : NumberedPart) → is_steady c ≡ true → parts_built c v ≡ Some parts → slice_get parts j ≡ Some n →
+built-at : (c : MCtor) (v : MValue) (parts : List NumberedPart) (j : ℕ) (n : NumberedPart) → stands_first c j ≡ true → parts_built c v ≡ Some parts → slice_get parts j ≡ Some n →
     slice_get (parts_of v) j ≡ Some n.part
 built-at c v parts j n s e g =
     let h = some-true (builds [] c v) (parts_met c (numbered_from 0 (parts_of v))) parts e in
-    met-at c v j n s (ap (λ ns. slice_get ns j) h.1 ∙ g)
+    met-at c v j n s h.0 (ap (λ ns. slice_get ns j) h.1 ∙ g)
 
 -- where one of two lists of one length has something, the other one has something too
 beside-at : {X Y : Type 0} (xs : List X) (ys : List Y) (j : ℕ) (x : X) → length ys ≡ length xs → slice_get xs j ≡ Some x → (y : Y) × (slice_get ys j ≡ Some y)
@@ -62,15 +83,15 @@ beside-at (z ∷ xs) [] j x l e = let no : 0 ≡ suc (length xs) = l in absurd (
 beside-at (z ∷ xs) (y ∷ ys) zero x l e = (y, refl)
 beside-at (z ∷ xs) (y ∷ ys) (suc j) x l e = let less : suc (length ys) ≡ suc (length xs) = l in beside-at xs ys j x (omega (arith, less)) e
 
--- a pattern below a steady constructor
-pub matches-part : {T : Type 0} (p : MDePat T) (j : ℕ) (q : MDePat T) → is_steady (ctor_of p) ≡ true → slice_get (subs_of p) j ≡ Some q → MatchesPart p j (Some q)
+-- a pattern that stands at the part with its number
+pub matches-part : {T : Type 0} (p : MDePat T) (j : ℕ) (q : MDePat T) → stands_first (ctor_of p) j ≡ true → slice_get (subs_of p) j ≡ Some q → MatchesPart p j (Some q)
 matches-part p j q s e = λ v m.
-    let h = sharp_forth p v (steady-sharp (ctor_of p) s) m in
+    let h = sharp_forth p v (first-sharp (ctor_of p) j s) m in
     let n = beside-at (subs_of p) (parts_met (ctor_of p) (numbered_from 0 (parts_of v))) j q h.all.count e in
-    (n.0.part, met-at (ctor_of p) v j n.0 s n.1, h.all.each j q n.0 e n.1)
+    (n.0.part, met-at (ctor_of p) v j n.0 s h.build n.1, h.all.each j q n.0 e n.1)
 
--- what stands below a steady constructor at the number
-pub head-part : {T : Type 0} (p : MDePat T) (j : ℕ) (h : Head T) → is_steady (ctor_of p) ≡ true → h ≡ slice_get (subs_of p) j → MatchesPart p j h
+-- what stands there
+pub head-part : {T : Type 0} (p : MDePat T) (j : ℕ) (h : Head T) → stands_first (ctor_of p) j ≡ true → h ≡ slice_get (subs_of p) j → MatchesPart p j h
 head-part p j None s e = tt
 head-part p j (Some q) s e = matches-part p j q s (sym e)
 
@@ -96,6 +117,9 @@ built-number (RowCtor (FixedShape n)) (Row items) b =
     let same : length (values_list items) ≡ n = grind (arith, nat_tests) in
     subst (λ m. in_range (closed (pos m) (pos m)) (pos (length (values_list items))) ≡ true) same (in-itself (pos (length (values_list items))))
 built-number (RowCtor (FixedShape n)) _ b = cc
+built-number (TextCtor t) (Text u) b =
+    subst (λ s. in_range (closed (pos (text_number t)) (pos (text_number t))) (pos (text_number s)) ≡ true) (text_equal t u b) (in-itself (pos (text_number t)))
+built-number (TextCtor t) _ b = cc
 built-number _ v b = refl
 
 pub own-lies : {T : Type 0} (p : MDePat T) → LiesBelow p [] (own_range (ctor_of p))
@@ -109,6 +133,7 @@ own-lies {T} p = λ v m. go v m (ctor_of p) refl
     go v m (VariantCtor j) e = by v m (VariantCtor j) e tt
     go v m (FlagCtor f) e = by v m (FlagCtor f) e tt
     go v m (RowCtor s) e = by v m (RowCtor s) e tt
+    go v m (TextCtor t) e = by v m (TextCtor t) e tt
     go v m _ e = refl
 
 -- ---- steps
@@ -154,13 +179,13 @@ part-beside p i rest q depth steps r sharp there beside = λ v position at s m. 
 ]
 
 -- beside the path
-pub here-beside : {T : Type 0} (p : MDePat T) (i : ℕ) (rest : List ℕ) (j : ℕ) (behind : List ℕ) (q : MDePat T) (r : MRange) → is_steady (ctor_of p) ≡ true → i ≢ j →
+pub here-beside : {T : Type 0} (p : MDePat T) (i : ℕ) (rest : List ℕ) (j : ℕ) (behind : List ℕ) (q : MDePat T) (r : MRange) → stands_first (ctor_of p) j ≡ true → i ≢ j →
     slice_get (subs_of p) j ≡ Some q → LiesBelow q behind r → LiesBeside p (i ∷ rest) 0 (j ∷ behind) r
-here-beside p i rest j behind q r steady apart there below = λ v position at s m. elim m [
-  | inl a ↦ let no : is_steady OrCtor ≡ true = subst (λ c. is_steady c ≡ true) a.is_or steady in cc
+here-beside p i rest j behind q r first apart there below = λ v position at s m. elim m [
+  | inl a ↦ let no : stands_first OrCtor j ≡ true = subst (λ c. stands_first c j ≡ true) a.is_or first in cc
   | inr x ↦
       let n = beside-at (subs_of p) x.parts j q x.count there in
-      let here = built-at (ctor_of p) v x.parts j n.0 steady x.built n.1 in
+      let here = built-at (ctor_of p) v x.parts j n.0 first x.built n.1 in
       let matched = x.others j q n.0 (λ e. apart (sym e)) there n.1 in
       subst (λ (o : Option MValue). in_range r (elim o [ None ↦ pos 0 | Some u ↦ number_below behind u ]) ≡ true) (sym here) (below n.0.part matched)
 ]

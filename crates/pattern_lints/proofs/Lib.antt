@@ -18,8 +18,10 @@ pub mod OneSpan
 pub mod Middle
 pub mod Noting
 pub mod Walking
+pub mod Entering
 pub mod Arms
 pub mod BesideLaws
+pub mod TextNumbers
 pub mod EndList
 pub mod EndOrder
 pub mod OverlapOrder

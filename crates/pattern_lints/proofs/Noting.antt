@@ -143,7 +143,7 @@ noted-below table arm path above n c i (f ∷ fs) (s ∷ spots) leads h = (
   noted-below table arm path above n c i fs spots leads h.1,
 )
 
-all-but-last : (xs : List ℕ) (x : ℕ) → take (length (xs ++ x ∷ []) - 1) (xs ++ x ∷ []) ≡ xs
+pub all-but-last : (xs : List ℕ) (x : ℕ) → take (length (xs ++ x ∷ []) - 1) (xs ++ x ∷ []) ≡ xs
 all-but-last xs x =
     let e : length xs ≡ length (xs ++ x ∷ []) - 1 = omega (arith, length_push xs x) in
     take_at xs (x ∷ []) (length (xs ++ x ∷ []) - 1) e

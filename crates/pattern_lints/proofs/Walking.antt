@@ -64,6 +64,12 @@ walk-all {T} a b place p i l h =
     ap (λ (xs : List (DePat T)). own ++ spots_each (placed_ctor p) 0 (map tree xs)) (take_all i (placed_subs p) l) in
     subst (Notes a b place) (whole ∙ sym (spots-out p)) h
 
+-- a pattern that is no range, with one below, has the spots of that one
+pub spots_lone : {T : Type 0} (p q : DePat T) → placed_subs p ≡ q ∷ [] → several_of (placed_ctor p) ≡ None → spots_in (tree p) ≡ map (spot_below (placed_ctor p) 0) (spots_in (tree q))
+spots_lone {T} p q one single =
+    spots-out p ∙ ap (λ o. own_spot (out-DePat T p).at o ++ spots_each (placed_ctor p) 0 (map tree (placed_subs p))) single ∙ ap (λ xs. spots_each (placed_ctor p) 0 (map tree xs)) one
+    ∙ append-nil (map (spot_below (placed_ctor p) 0) (spots_in (tree q)))
+
 -- a pattern that is no range, with none below, has no spots
 pub spots_none : {T : Type 0} (p : DePat T) → length (placed_subs p) ≡ 0 → several_of (placed_ctor p) ≡ None → spots_in (tree p) ≡ []
 spots_none {T} p none single =

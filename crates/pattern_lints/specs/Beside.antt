@@ -1,18 +1,29 @@
 -- What stands beside a range: the number of another part of the value (our own choice).
-use Rattle.std.specs.Prelude.{⊤, ◌≡◌, ℕ, zero, suc, ℤ, pos, Bool, true, false, List, [], ◌∷◌, length, slice_get, None, Some, IsTrue, int_le, if◌then◌else◌}
-use Rattle.match_model.specs.Values.{MValue, Flag, Num, Node, Row, values_list, parts_of}
+use Rattle.std.specs.Prelude.{⊤, ◌≡◌, ℕ, zero, suc, ◌+◌, ◌*◌, ◌%◌, ℤ, pos, Bool, true, false, List, [], ◌∷◌, length, slice_get, None, Some, IsTrue, nat_lt, int_le, if◌then◌else◌}
+use Rattle.match_model.specs.Values.{MValue, Flag, Num, Text, Node, Row, values_list, parts_of}
 use Rattle.match_model.specs.Numbers.{MEnd, Free, At, MRange, in_range, closed}
-use Rattle.match_model.specs.Constructors.{MCtor, SingleCtor, PointCtor, VariantCtor, FlagCtor, NumbersCtor, RowCtor, FixedShape, least_held, greatest_held}
+use Rattle.match_model.specs.Constructors.{MCtor, SingleCtor, PointCtor, VariantCtor, FlagCtor, NumbersCtor, TextCtor, RowCtor, FixedShape, LongerShape, least_held, greatest_held}
 use Rattle.match_model.specs.ArenaPatterns.{MDePat}
 use Rattle.match_model.specs.Rows.{Head}
 use Rattle.pattern_lints.specs.Along.{matches, MeetsAlong}
 
--- the number of a value: of a flag 0 or 1, of a variant its number, of a row its length, of any other 0
+-- the number with the scalar values as further digits, in a base that spreads them
+abbrev pub with_digits : (number : ℕ) → List ℕ → ℕ
+with_digits n [] = n
+with_digits n (c ∷ cs) = with_digits (n * 1099511628211 + c) cs
+
+-- a number of the text, of 64 bits: others seldom have the same
+abbrev pub text_number : List ℕ → ℕ
+text_number t = with_digits 0 t % 18446744073709551616
+
+-- the number of a value: of a flag 0 or 1, of a variant its number, of a row its length, of a text that of its scalar
+-- values, of any other 0
 abbrev pub own_number : MValue → ℤ
 own_number (Flag true) = pos 1
 own_number (Num x) = x
 own_number (Node k parts) = pos k
 own_number (Row items) = pos (length (values_list items))
+own_number (Text t) = pos (text_number t)
 own_number _ = pos 0
 
 -- the numbers of the values that the constructor builds
@@ -21,6 +32,7 @@ own_range (NumbersCtor r) = r
 own_range (VariantCtor k) = closed (pos k) (pos k)
 own_range (FlagCtor b) = if b then closed (pos 1) (pos 1) else closed (pos 0) (pos 0)
 own_range (RowCtor (FixedShape n)) = closed (pos n) (pos n)
+own_range (TextCtor t) = closed (pos (text_number t)) (pos (text_number t))
 own_range _ = record { low = Free; high = Free }
 
 -- the number of the part to which the steps lead, each the number of a part; 0 where there is none
@@ -34,12 +46,14 @@ number_beside zero steps position v = number_below steps v
 number_beside (suc d) steps [] v = pos 0
 number_beside (suc d) steps (i ∷ position) v = elim (slice_get (parts_of v) i) [ None ↦ pos 0 | Some u ↦ number_beside d steps position u ]
 
--- the patterns below the constructor stand at the parts with their numbers, in every value
-abbrev pub is_steady : MCtor → Bool
-is_steady SingleCtor = true
-is_steady PointCtor = true
-is_steady (VariantCtor k) = true
-is_steady _ = false
+-- the pattern with the number below the constructor stands at the part with that number, in every value
+abbrev pub stands_first : MCtor → ℕ → Bool
+stands_first SingleCtor i = true
+stands_first PointCtor i = true
+stands_first (VariantCtor k) i = true
+stands_first (RowCtor (FixedShape n)) i = true
+stands_first (RowCtor (LongerShape f b)) i = nat_lt i f
+stands_first _ i = false
 
 -- each value that the pattern matches has the part with the number, and there the second pattern, where it is one, matches
 abbrev pub MatchesPart : {T : Type 0} → MDePat T → ℕ → Head T → Type 0

@@ -1,5 +1,5 @@
 -- What the search for ranges has found.
-use Rattle.std.specs.Prelude.{⊤, ◌≡◌, ◌<◌, ℕ, suc, Bool, ◌&&◌, nat_eq, List, [], ◌∷◌, ◌++◌, map, length, slice_get, Some}
+use Rattle.std.specs.Prelude.{⊤, ◌≡◌, ◌<◌, ◌≤◌, ℕ, suc, Bool, ◌&&◌, nat_eq, List, [], ◌∷◌, ◌++◌, map, length, take, slice_get, None, Some}
 use Rattle.std.specs.List.{Contains, position_or_len}
 use Rattle.match_model.specs.Numbers.{MRange}
 use Rattle.match_model.specs.Constructors.{MCtor}
@@ -8,7 +8,9 @@ use Rattle.range_split.specs.Ranges.{plain_range}
 use Rattle.pattern_lints.specs.declared.found.PlaceStep.{PlaceStep}
 use Rattle.pattern_lints.specs.declared.found.FoundRange.{FoundRange}
 use Rattle.pattern_lints.specs.declared.found.Finding.{Finding}
-use Rattle.pattern_lints.specs.Spots.{PartStep, Spot, spots_in, steps_below}
+use Rattle.pattern_lints.specs.Spots.{PartStep, Spot, several_of, spots_in, steps_below}
+use Rattle.pattern_arena.specs.declared.pattern.DePat.{DePat}
+use Rattle.pattern_arena.specs.Trees.{placed_ctor, placed_subs}
 
 -- a range that was found: its arm, the path to it, its offset, the range, and the number of its place
 pub record RangeView : Type 0 where
@@ -86,6 +88,28 @@ pub record Notes (old new : Finding) (above : ℕ) (spots : List Spot) : Type 0 
   pub table : new.places.keys ≡ old.places.keys ++ more
   pub found : range_views new ≡ range_views old ++ added
   pub noted : AreNoted new.places.keys old.arm old.path.items above added spots
+
+-- the second pattern is the only one below the first, which is no range of more than one number
+pub record IsLone {T : Type 0} (p q : DePat T) : Type 0 where
+  pub only : placed_subs p ≡ q ∷ []
+  pub plain : several_of (placed_ctor p) ≡ None
+
+-- the place of the first pattern below a constructor has the number `n`, and the path leads to it
+pub record GoesIn (old new : Finding) (above : ℕ) (c : MCtor) (n : ℕ) : Type 0 where
+  pub opened : Finding
+  pub opens : Opens old opened above c 0 n
+  pub table : new.places.keys ≡ opened.places.keys
+  pub found : new.found.items ≡ opened.found.items
+  pub arm : new.arm ≡ opened.arm
+  pub path : new.path.items ≡ opened.path.items ++ 0 ∷ []
+
+-- what is found of a pattern further in, with the spots `inner` and the place `at`, is found of one with the spots `spots`,
+-- once the path to it is as long again as it was
+pub record Enters (old mid : Finding) (above : ℕ) (spots : List Spot) (at : ℕ) (inner : List Spot) : Type 0 where
+  pub longer : length old.path.items ≤ length mid.path.items
+  pub found : (new last : Finding) → Notes mid new at inner → last.places.keys ≡ new.places.keys →
+      last.found.items ≡ new.found.items → last.arm ≡ new.arm →
+      last.path.items ≡ take (length old.path.items) new.path.items → Notes old last above spots
 
 -- of the arms before the number `j` all spots are found, and nothing else is
 pub record AreFound {T : Type 0} (arms : List (MDeArm T)) (j : ℕ) (table : List PlaceStep) (fs : List RangeView) : Type 0 where

@@ -2,7 +2,7 @@
 //
 // Two ranges that end and begin at one number cannot meet where their rows differ in another part, as `(0, 0..=5)` and
 // `(1, 5..=9)` do. A column is such a part, and the number of a value there is its own, or that of its variant.
-ghost use Rattle.std.specs.Prelude.{◌≡◌, ◌∷◌, ℤ, pos, IsTrue, int_le};
+ghost use Rattle.std.specs.Prelude.{◌≡◌, ◌∷◌, ℤ, pos, IsTrue, int_le, chars};
 ghost use Rattle.match_model.specs.Numbers.{Free, closed, in_range};
 ghost use Rattle.pat_context.specs.Views.{plain_ctor};
 ghost use Rattle.pattern_arena.specs.Trees.{tree};
@@ -10,7 +10,7 @@ ghost use Rattle.range_split.specs.Ranges.{plain_range};
 ghost use Rattle.range_split.specs.Numbers.{num_value};
 ghost use Rattle.range_split.specs.Ends.{plain_end};
 ghost use Rattle.pattern_lints.specs.Meeting.{plain_head};
-ghost use Rattle.pattern_lints.specs.Beside.{is_steady, own_range, held_of, low_held, high_held};
+ghost use Rattle.pattern_lints.specs.Beside.{stands_first, text_number, own_range, held_of, low_held, high_held};
 ghost use Rattle.pattern_lints.specs.Beside.{MatchesPart, LiesBelow, LiesBeside};
 
 use crate::places::{is_or, nth};
@@ -43,6 +43,24 @@ fn one_number(number: u128) -> Range
     Range::between(&at, &at)
 }
 
+// The scalar value of the character.
+fn scalar_value(c: char) -> u128
+    ensures { result ≡ c }
+{
+    u128::from(u32::from(c))
+}
+
+// A number of the text, of 64 bits: its scalar values are digits, in a base that spreads them.
+fn text_number(text: &str) -> u128
+    ensures { result ≡ text_number (chars text.now) }
+{
+    let mut number: u128 = 0;
+    for c in text.chars() {
+        number = (number * 1_099_511_628_211 + scalar_value(c)) % 18_446_744_073_709_551_616;
+    }
+    number
+}
+
 // The numbers of the values that the constructor builds.
 fn own_numbers(ctor: &Ctor) -> Range
     ensures { plain_range result ≡ own_range (plain_ctor ctor.now) }
@@ -52,16 +70,19 @@ fn own_numbers(ctor: &Ctor) -> Range
         Ctor::Variant(variant) => one_number(variant as u128),
         Ctor::Flag(flag) => { if flag { one_number(1) } else { one_number(0) } }
         Ctor::Row(Shape::Fixed(len)) => one_number(len as u128),
+        Ctor::Text(text) => one_number(text_number(text)),
         _ => all_numbers(),
     }
 }
 
-/// Tells whether the patterns below the constructor stand at the parts with their numbers, in every value.
-pub(crate) fn is_steady(ctor: &Ctor) -> bool
-    ensures { result ≡ is_steady (plain_ctor ctor.now) }
+/// Tells whether the pattern with the number below the constructor stands at the part with that number, in every value.
+pub(crate) fn stands_first(ctor: &Ctor, i: usize) -> bool
+    ensures { result ≡ stands_first (plain_ctor ctor.now) i }
 {
-    match ctor {
+    match *ctor {
         Ctor::Single | Ctor::Point | Ctor::Variant(_) => true,
+        Ctor::Row(Shape::Fixed(_)) => true,
+        Ctor::Row(Shape::Longer { front, .. }) => (i as u64) < front,
         _ => false,
     }
 }
@@ -70,7 +91,7 @@ pub(crate) fn is_steady(ctor: &Ctor) -> bool
 fn part_pattern<'a, T: Copy>(p: &'a DePat<'a, T>, i: usize) -> Option<&'a DePat<'a, T>>
     ensures { MatchesPart (tree p.entry.now) i (plain_head result) }
 {
-    if is_steady(&p.form.ctor) {
+    if stands_first(&p.form.ctor, i) {
         nth(p, i)
     } else {
         None
@@ -101,7 +122,7 @@ fn numbers_at_step<'a, T: Copy>(
 {
     match steps.split_first() {
         Some((j, behind)) => {
-            if i == *j || !is_steady(&p.form.ctor) {
+            if i == *j || !stands_first(&p.form.ctor, *j) {
                 return all_numbers();
             }
             match nth(p, *j) {

@@ -3,7 +3,7 @@
 // Whichever column is taken, the same overlaps are found: it says only how many pairs of ranges are asked. One is looked
 // for only at places where more pairs touch than there are ranges. Some ranges of a place, spread over all of them, are
 // compared, and the column is taken in which most neighbours have no common number.
-use crate::beside::{Column, is_steady, numbers_beside};
+use crate::beside::{Column, numbers_beside, stands_first};
 use crate::ends::RangeEnd;
 use crate::found::FoundRange;
 use crate::places::{is_or, nth};
@@ -162,7 +162,8 @@ fn take_compared(crowds: &mut [Crowd], found: &[FoundRange]) -> Result<(), NoMem
 // Tells whether the constructor's values have a number of their own.
 fn has_own_number(ctor: &Ctor) -> bool {
     match ctor {
-        Ctor::Variant(_) | Ctor::Flag(_) | Ctor::Numbers(_) | Ctor::Row(Shape::Fixed(_)) => true,
+        Ctor::Variant(_) | Ctor::Flag(_) | Ctor::Numbers(_) => true,
+        Ctor::Text(_) | Ctor::Row(Shape::Fixed(_)) => true,
         _ => false,
     }
 }
@@ -180,13 +181,12 @@ fn add_columns<'a, T: Copy>(
         let steps = Vec::from_slice(trying.alloc, &trying.steps)?;
         trying.columns.push(Column { depth, steps })?;
     }
-    if !is_steady(&p.form.ctor) {
-        return Ok(());
-    }
     for j in 0..p.form.subs.len() {
-        trying.steps.push(j)?;
-        add_columns(trying, &p.form.subs[j], depth)?;
-        trying.steps.pop();
+        if stands_first(&p.form.ctor, j) {
+            trying.steps.push(j)?;
+            add_columns(trying, &p.form.subs[j], depth)?;
+            trying.steps.pop();
+        }
     }
     Ok(())
 }
@@ -198,11 +198,8 @@ fn add_others<'a, T: Copy>(
     i: usize,
     depth: usize,
 ) -> Result<(), NoMemory> {
-    if !is_steady(&p.form.ctor) {
-        return Ok(());
-    }
     for j in 0..p.form.subs.len() {
-        if j != i {
+        if j != i && stands_first(&p.form.ctor, j) {
             trying.steps.push(j)?;
             add_columns(trying, &p.form.subs[j], depth)?;
             trying.steps.pop();

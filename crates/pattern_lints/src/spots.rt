@@ -1,10 +1,11 @@
 // The search for ranges of more than one number in the arms of a match.
-ghost use Rattle.std.specs.Prelude.{◌≡◌, ◌<◌, [], true, map, option_map, IfOk, OnOk};
+ghost use Rattle.std.specs.Prelude.{◌≡◌, ◌<◌, ◌≤◌, [], true, map, option_map, IfOk, IfSome, OnOk};
 ghost use Rattle.pat_context.specs.Views.{plain_ctor};
 ghost use Rattle.range_split.specs.Ranges.{plain_range};
-ghost use Rattle.pattern_arena.specs.Trees.{tree, plain_arm};
+ghost use Rattle.pattern_arena.specs.Trees.{tree, placed_ctor, plain_arm};
 ghost use Rattle.pattern_lints.specs.Spots.{several_of, own_spot, spots_in, spot_below, step_in};
-ghost use Rattle.pattern_lints.specs.Finding.{AreFoundIn, Notes, Opens, Steps, range_view};
+ghost use Rattle.pattern_lints.specs.Finding.{AreFoundIn, Enters, GoesIn, IsLone, Notes, Opens, Steps, range_view};
+ghost use Rattle.pattern_lints.specs.Meeting.{pattern_size};
 
 use crate::found::{Finding, FoundRange, PlaceStep};
 use crate::places::is_or;
@@ -105,12 +106,75 @@ fn has_none<'a, T: Copy>(p: &'a DePat<'a, T>) -> bool
     }
 }
 
-// Finds the ranges in the pattern, which stands at the place.
+// The pattern below, where it is the only one and may have ranges, and the pattern has none of its own.
+fn lone_part<'a, T: Copy>(p: &DePat<'a, T>) -> Option<&'a DePat<'a, T>>
+    ensures { IfSome result (λ sub. IsLone p.entry.now sub.now) }
+{
+    if p.form.subs.len() != 1 {
+        return None;
+    }
+    let lone = p.sub(0);
+    match several(&p.form.ctor) {
+        None if !has_none(lone) => Some(lone),
+        _ => None,
+    }
+}
+
+// Goes in to the first pattern below, and tells its place.
+fn go_in<'a, T: Copy>(
+    finding: &mut Finding,
+    place: usize,
+    p: &DePat<'a, T>,
+) -> Result<usize, NoMemory>
+    ensures { IfOk result (λ n. GoesIn finding.old finding.new place (placed_ctor p.entry.now) n) }
+{
+    let below = place_below(finding, place, &p.form.ctor, 0)?;
+    finding.path.push(0)?;
+    Ok(below)
+}
+
+// Goes in to the first pattern that has not one part alone, as behind references, and tells its place.
+fn enter<'a, T: Copy>(
+    finding: &mut Finding,
+    place: usize,
+    p: &DePat<'a, T>,
+) -> Result<(usize, DePat<'a, T>), NoMemory>
+    ensures finds { IfOk result (λ r. Enters finding.old finding.new place (spots_in (tree p.entry.now)) r.0
+        (spots_in (tree r.1))) }
+    ensures size { IfOk result (λ r. pattern_size (tree r.1) ≤ pattern_size (tree p.entry.now)) }
+{
+    let mut here = *p;
+    let mut at = place;
+    while let Some(sub) = lone_part(&here) {
+        let below = go_in(finding, at, &here)?;
+        at = below;
+        here = *sub;
+    }
+    Ok((at, here))
+}
+
+// Finds the ranges in the pattern, which stands at the place. Parts that stand alone are gone through in a loop.
 #[cycle(walking)]
 fn find_in<'a, T: Copy>(
     finding: &mut Finding,
     place: usize,
     p: &'a DePat<'a, T>,
+) -> Result<(), NoMemory>
+    ensures { OnOk result (Notes finding.old finding.new place (spots_in (tree p.entry.now))) }
+{
+    let length = finding.path.len();
+    let (at, here) = enter(finding, place, p)?;
+    find_parts(finding, at, &here)?;
+    finding.path.truncate(length);
+    Ok(())
+}
+
+// Finds the ranges in the pattern, which stands at the place, part by part.
+#[cycle(walking)]
+fn find_parts<'a, T: Copy>(
+    finding: &mut Finding,
+    place: usize,
+    p: &DePat<'a, T>,
 ) -> Result<(), NoMemory>
     ensures { OnOk result (Notes finding.old finding.new place (spots_in (tree p.entry.now))) }
 {
