@@ -47,6 +47,12 @@ pub mod ThinHeads
 pub mod ThinGood
 pub mod ThinLeads
 pub mod ThinMatrix
+pub mod InOrder
+mod RowAmong
+mod SamePieces
+pub mod RepeatedHeads
+pub mod RepeatedLeads
+pub mod RepeatedRows
 mod Longer
 mod KnownHeads
 mod KnownColumns

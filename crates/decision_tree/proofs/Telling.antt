@@ -48,10 +48,14 @@ module _ {T : Type 0} (cx : Context T) (m : MDeMatch T)
   abbrev IsRowOf : MRow T → Type 0
   IsRowOf r = Every (IsHeadOf m.arms) r.heads
 
+  -- rows whose heads have the same uids have the same heads
+  pub heads-told : (r s : MRow T) → IsRowOf r → IsRowOf s → map head_uid r.heads ≡ map head_uid s.heads →
+      r.heads ≡ s.heads
+  heads-told r s i j e = map-tells head_uid (IsHeadOf m.arms) head-tells r.heads s.heads i j e
+
   row-tells : (r s : MRow T) → IsRowOf r → IsRowOf s → known_row r ≡ known_row s → r ≡ s
   row-tells r s i j e =
-      let heads : r.heads ≡ s.heads = map-tells head_uid (IsHeadOf m.arms) head-tells r.heads s.heads i j
-      (ap (λ (k : MKnownRow). k.heads) e) in
+      let heads : r.heads ≡ s.heads = heads-told r s i j (ap (λ (k : MKnownRow). k.heads) e) in
       λ k. record {
         heads = heads k;
         arm = (ap (λ (x : MKnownRow). x.arm) e) k;

@@ -3,6 +3,7 @@ pub mod Matrices
 pub mod Waiting
 pub mod Thin
 pub mod Lone
+pub mod Repeated
 pub mod WildColumns
 pub mod Known
 pub mod KnownTrees

@@ -19,6 +19,7 @@ mod leaves;
 mod lone;
 mod lowering;
 mod pieces;
+mod repeated;
 mod steps;
 mod tells;
 mod thin;

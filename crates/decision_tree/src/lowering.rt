@@ -36,6 +36,7 @@ use crate::known::{KnownTrees, find_known, none_known, note_known};
 use crate::leaves::{count_asked, is_leaf};
 use crate::lone::lone;
 use crate::pieces::{case_of, is_switchless};
+use crate::repeated::without_repeated;
 use crate::steps::{dropped, entered, entered_among, expanded, into_dropped, into_entered};
 use crate::tells::known_matrix;
 use crate::thin::thin_rows;
@@ -540,6 +541,7 @@ fn look_up<'a, C: PatCx>(
 {
     tables_are_built(table);
     let Matrix { columns, rows } = m;
+    let rows = without_repeated(alloc, rows)?;
     let rows = lone(alloc, rows);
     let m = without_wild(alloc, Matrix { columns, rows })?;
     let matrix = known_matrix(alloc, &m.columns, &m.rows)?;
