@@ -21,6 +21,7 @@ use Rattle.usefulness.specs.Behind.{is_behind, Passes, IsBegun, IsStepped, IsLoo
 use Rattle.usefulness.specs.Covering.{behind, scope_asked, IsKnown}
 use Rattle.usefulness.specs.Scope.{Scope}
 use Rattle.usefulness.specs.Stack.{todo_view, todo_views, opened_todo, opened_views, AreMadeOf, IsOpened, IsTodo, IsTaken}
+use Rattle.usefulness.specs.Memo.{no_memo}
 use Rattle.usefulness.specs.States.{frame_view, is_noted, scope_of}
 use Rattle.usefulness.proofs.Going.{after_less}
 use Rattle.usefulness.proofs.Known.{known_more}
@@ -170,7 +171,7 @@ module _ {T : Type 0} (IsType : T → Type 0) (IsValue : T → Bool → MValue �
     pub less_past : work (2 ^ 65) (todo_views cx mid.todo.items) < work (2 ^ 65) (todo_views cx (old.todo.items ++ entry ∷ []))
     less_past =
         subst (λ ys. work (2 ^ 65) ys < work (2 ^ 65) (todo_views cx (old.todo.items ++ entry ∷ []))) (append-nil (todo_views cx mid.todo.items))
-        (after_less IsType IsValue cx (scope_asked arms) old.reached [] old.todo.items entry mid.reached mid.todo.items (2 ^ 65) new [] t (omega arith) ((λ e. refl), (λ m n i (k, l, e). absurd (omega (arith, l)))))
+        (after_less IsType IsValue cx (scope_asked arms) old.reached no_memo old.todo.items entry mid.reached mid.todo.items (2 ^ 65) new [] t (omega arith) ((λ e. refl), (λ m n i (k, l, e). absurd (omega (arith, l)))))
 
   -- and rows of it were looked at
   module _ (old mid now : Search T) (entry : Todo T) (goes : is_behind mid ≡ false) (unmarked : is_behind old ≡ false) (begun : mid.begun.items ≡ old.begun.items)
@@ -210,5 +211,5 @@ module _ {T : Type 0} (IsType : T → Type 0) (IsValue : T → Bool → MValue �
     pub less_on : work (2 ^ 65) (todo_views cx now.todo.items) < work (2 ^ 65) (todo_views cx (old.todo.items ++ entry ∷ []))
     less_on =
         subst (λ ys. work (2 ^ 65) ys < work (2 ^ 65) (todo_views cx (old.todo.items ++ entry ∷ []))) (sym (ap (todo_views cx) l.stepped.are ∙ flat_map-append (todo_view cx) mid.todo.items more))
-        (after_less IsType IsValue cx (scope_asked arms) old.reached [] old.todo.items entry mid.reached mid.todo.items (2 ^ 65) (s ∷ []) (todo_views cx more) t l.few
+        (after_less IsType IsValue cx (scope_asked arms) old.reached no_memo old.todo.items entry mid.reached mid.todo.items (2 ^ 65) (s ∷ []) (todo_views cx more) t l.few
         ((λ e. cc), (λ m n i j. in_cons s m [] (λ m. weight_of n < weight_of m) (l.lighter n j) (λ z (k, h, e). absurd (omega (arith, h))) i)))

@@ -15,6 +15,7 @@ use Rattle.usefulness.specs.declared.frames.Frame.{Frame}
 use Rattle.usefulness.specs.declared.frames.Opened.{Opened}
 use Rattle.usefulness.specs.declared.frames.Reached.{Reached}
 use Rattle.usefulness.specs.declared.frames.Todo.{Todo}
+use Rattle.usefulness.specs.Memo.{Memo}
 use Rattle.usefulness.specs.Scope.{Scope}
 use Rattle.usefulness.specs.Listing.{AreAllListed}
 use Rattle.usefulness.specs.Stack.{todo_view, todo_views, IsTodo, IsOpened, opened_todo, opened_views, AreMadeOf, IsNext, IsTaken, IsGoing}
@@ -102,19 +103,19 @@ module _ {T : Type 0} (IsType : T → Type 0) (IsValue : T → Bool → MValue �
 
   module _ (scope : Scope T) where
     -- the entry that is taken is good, and what it stands for fits
-    pub entry_fits : (first : Submatrix T) (m : Reached T) (keys : List (List ℕ)) (all before : List (Todo T)) (entry : Todo T) → all ≡ before ++ entry ∷ [] → IsGoing IsType IsValue cx first scope m keys all →
+    pub entry_fits : (first : Submatrix T) (m : Reached T) (memo : Memo) (all before : List (Todo T)) (entry : Todo T) → all ≡ before ++ entry ∷ [] → IsGoing IsType IsValue cx first scope m memo all →
         (s : Submatrix T) → Contains (todo_view cx entry) s → IsFit IsType IsValue cx s
-    entry_fits first m keys all before entry e going s i =
+    entry_fits first m memo all before entry e going s i =
         going.search.fit s (subst (λ ys. Contains ys s) (sym (ap (todo_views cx) e ∙ views_last before entry)) (in_right (todo_views cx before) (todo_view cx entry) s i))
 
-    pub entry_good : (first : Submatrix T) (m : Reached T) (keys : List (List ℕ)) (all before : List (Todo T)) (entry : Todo T) → all ≡ before ++ entry ∷ [] → IsGoing IsType IsValue cx first scope m keys all →
+    pub entry_good : (first : Submatrix T) (m : Reached T) (memo : Memo) (all before : List (Todo T)) (entry : Todo T) → all ≡ before ++ entry ∷ [] → IsGoing IsType IsValue cx first scope m memo all →
         IsTodo IsType IsValue cx scope (is_noted m) entry
-    entry_good first m keys all before entry e going =
+    entry_good first m memo all before entry e going =
         let (k, l, is) = in_last before entry in
         let good = subst (All (IsTodo IsType IsValue cx scope (is_noted m))) e going.good in
         subst (IsTodo IsType IsValue cx scope (is_noted m)) is (good k entry l)
 
-    module _ (old : Reached T) (keys : List (List ℕ)) (before : List (Todo T)) (entry : Todo T) (mid : Reached T) (after : List (Todo T)) where
+    module _ (old : Reached T) (memo : Memo) (before : List (Todo T)) (entry : Todo T) (mid : Reached T) (after : List (Todo T)) where
       after_views : (new : List (Submatrix T)) (t : IsTaken IsType IsValue cx scope (is_noted old) (is_noted mid) entry before after new) → todo_views cx after ≡ todo_views cx before ++ todo_views cx t.back
       after_views new t = ap (todo_views cx) t.are ∙ flat_map-append (todo_view cx) before t.back
 
@@ -140,8 +141,8 @@ module _ {T : Type 0} (IsType : T → Type 0) (IsValue : T → Bool → MValue �
           (next_less b (is_noted old) (is_noted mid) (todo_views cx before) (todo_view cx entry) (todo_views cx t.back) new others t.next l made))
 
       -- nothing is left to be looked at
-      pub goes_past : (first : Submatrix T) → IsTaken IsType IsValue cx scope (is_noted old) (is_noted mid) entry before after [] → scope_of mid ≡ scope_of old → IsGoing IsType IsValue cx first scope old keys (before ++ entry ∷ []) →
-          IsGoing IsType IsValue cx first scope mid keys after
+      pub goes_past : (first : Submatrix T) → IsTaken IsType IsValue cx scope (is_noted old) (is_noted mid) entry before after [] → scope_of mid ≡ scope_of old → IsGoing IsType IsValue cx first scope old memo (before ++ entry ∷ []) →
+          IsGoing IsType IsValue cx first scope mid memo after
       goes_past first t e going = record {
         known = e ∙ going.known;
         good = after_good [] t going.good;
@@ -161,8 +162,8 @@ module _ {T : Type 0} (IsType : T → Type 0) (IsValue : T → Bool → MValue �
         last_views : todo_views cx last ≡ todo_views cx after ++ opened_views cx o
         last_views = ap (todo_views cx) are ∙ flat_map-append (todo_view cx) after (opened_todo o) ∙ ap (λ ys. todo_views cx after ++ ys) (opened_are IsType IsValue cx scope o)
 
-        pub goes_on : (first : Submatrix T) (then : List (List ℕ)) → scope_of mid ≡ scope_of old → scope_of now ≡ scope_of mid → ((q : Question) → is_noted mid q ≡ true → is_noted now q ≡ true) →
-            IsStep IsType IsValue cx scope (is_noted mid) (is_noted now) (frame_view f) (opened_views cx o) keys then → IsGoing IsType IsValue cx first scope old keys (before ++ entry ∷ []) → IsGoing IsType IsValue cx first scope now then last
+        pub goes_on : (first : Submatrix T) (then : Memo) → scope_of mid ≡ scope_of old → scope_of now ≡ scope_of mid → ((q : Question) → is_noted mid q ≡ true → is_noted now q ≡ true) →
+            IsStep IsType IsValue cx scope (is_noted mid) (is_noted now) (frame_view f) (opened_views cx o) memo then → IsGoing IsType IsValue cx first scope old memo (before ++ entry ∷ []) → IsGoing IsType IsValue cx first scope now then last
         goes_on first then e g grow step going =
             let (more, search, told) = step first (todo_views cx after) going.seen (after_search first going.seen (frame_view f ∷ []) t going.search) going.told in
             record {

@@ -7,8 +7,10 @@ pub mod Looking
 pub mod Unused
 pub mod Replacing
 pub mod Pinned
+pub mod LikeRows
 pub mod SameWords
 pub mod SameSubs
+pub mod ChosenRows
 pub mod Stepping
 pub mod ToldKeys
 pub mod Writing

@@ -45,14 +45,14 @@ module _ {T : Type 0} (IsType : T → Type 0) (IsValue : T → Bool → MValue �
             ]) (λ z (k, h, e). absurd (omega (arith, h))) j m c
       ]
 
-module _ {T : Type 0} (IsType : T → Type 0) (IsValue : T → Bool → MValue → Type 0) (cx : Context T) (first : Submatrix T) (now : Question → Bool) (todo seen : List (Submatrix T)) (s t : Submatrix T)
-    (search : IsSearch IsType IsValue cx first now (todo ++ s ∷ []) seen) (one : Contains seen t)
-    (same : (q : Question) → Comes IsValue q s → (now q ≡ true) ⊎ (Comes IsValue q t × (weight_of s ≡ weight_of t))) where
+module _ {T : Type 0} (IsType : T → Type 0) (IsValue : T → Bool → MValue → Type 0) (cx : Context T) (first : Submatrix T) (now : Question → Bool) (todo seen : List (Submatrix T)) (s : Submatrix T)
+    (search : IsSearch IsType IsValue cx first now (todo ++ s ∷ []) seen)
+    (same : (q : Question) → Comes IsValue q s → (now q ≡ true) ⊎ ((t : Submatrix T) × Contains seen t × Comes IsValue q t × (weight_of s ≡ weight_of t))) where
   -- what comes to the last one comes to one that was seen, which is accounted for by lighter ones
   seen_for : (q : Question) → Comes IsValue q s → IsAccounted IsValue now todo q (weight_of s)
   seen_for q c = elim (same q c) [
     | inl m ↦ inl m
-    | inr (d, w) ↦ elim (search.told t one q d) [
+    | inr (t, one, d, w) ↦ elim (search.told t one q d) [
       | inl m ↦ inl m
       | inr (n, i, m, e) ↦ elim (in_either todo (s ∷ []) n i) [
         | inl j ↦ inr (n, j, omega (arith, m, w), e)

@@ -1,32 +1,40 @@
 -- One step of a search: what is looked at is left out, or what is left of it stands in its place.
-use Rattle.std.proofs.Common.{◌≡◌, ◌⊎◌, inl, inr, ◌<◌, ℕ, Bool, true, false, ◌||◌, List, [], ◌∷◌, ◌++◌, cond, get_or, ◌≢◌, nat_eq, Some, None, refl, ap, sym, subst, ◌∙◌, arith}
+use Rattle.std.proofs.Common.{◌≡◌, ◌⊎◌, inl, inr, ◌<◌, ℕ, Bool, true, false, ◌||◌, List, [], ◌∷◌, ◌++◌, cond, get_or, ◌≢◌, nat_eq, Some, None, slice_get, refl, ap, sym, subst, ◌∙◌, arith}
 use Rattle.std.proofs.lemmas.Bool.Decides.{eqb_tells}
 use Rattle.std.proofs.lemmas.List.{append-nil}
 use Rattle.std.proofs.lemmas.List.Elements.{All-head, All-tail}
-use Rattle.std.specs.List.{All, Contains}
+use Rattle.std.specs.List.{All, Contains, list_any}
 use Rattle.match_model.specs.Values.{MValue}
 use Rattle.match_model.specs.ArenaPatterns.{MDePat, uid_of}
 use Rattle.match_model.specs.Contexts.{Context, Open}
 use Rattle.match_model.specs.Rows.{is_wild}
 use Rattle.match_model.proofs.Basics.{untrue, either, or_left, or_right, nat_itself}
 use Rattle.pattern_matrix.specs.Sparse.{AreHeadsBelow, head_at}
-use Rattle.pattern_matrix.specs.Counting.{Question}
+use Rattle.pat_context.specs.Parts.{AreValues}
+use Rattle.pattern_matrix.specs.Counting.{Question, through_alternative}
 use Rattle.pattern_matrix.specs.Searching.{Submatrix, weight_of, IsFit, Comes, IsSearch, IsLookedAt}
 use Rattle.pattern_matrix.proofs.SearchSteps.{looks}
 use Rattle.pattern_matrix.proofs.HandingOn.{here, there, in_cons}
+use Rattle.usefulness.specs.declared.chosen.ChosenIn.{ChosenIn}
 use Rattle.usefulness.specs.declared.frames.Frame.{Frame}
 use Rattle.usefulness.specs.declared.marks.Marks.{Marks}
-use Rattle.usefulness.specs.Frames.{SparseAsked, numbers, sub_view, IsHeadIn, IsRowIn, AreOpen, has_start}
+use Rattle.usefulness.specs.declared.told.ToldChosen.{ToldChosen}
+use Rattle.usefulness.specs.Chosen.{unmarked_from}
+use Rattle.usefulness.specs.Frames.{SparseAsked, asked_views, numbers, places, sub_view, IsHeadIn, IsRowIn, AreOpen, has_start}
 use Rattle.usefulness.specs.Compact.{lists_at, some_lists, used_of, AreAllUsed, IsCompact}
 use Rattle.usefulness.specs.Marking.{is_marked}
 use Rattle.usefulness.specs.Scope.{Scope, patterns_of}
 use Rattle.usefulness.specs.States.{plain_opens, plain_askeds, frame_view, IsGood}
-use Rattle.usefulness.specs.Told.{IsTold, AreTold, AreLighter, IsStep}
+use Rattle.usefulness.specs.Memo.{Memo, no_memo, chosen_of, told_beside, AreAllNoted, IsNotedIn}
+use Rattle.usefulness.specs.Told.{IsTold, IsToldBeside, AreTold, AreLighter, IsStep}
 use Rattle.usefulness.specs.Words.{AreNumbered, words}
 use Rattle.usefulness.proofs.Choosing.{same_got}
+use Rattle.usefulness.proofs.ChosenRows.{chosen_there, chosen_by}
+use Rattle.usefulness.proofs.LikeRows.{CountsAt, HaveChosenToo, counts_at, counting_row}
 use Rattle.usefulness.proofs.RowFacts.{heads_below, numbers_below}
 use Rattle.usefulness.proofs.Replacing.{stands_in, repeats}
 use Rattle.usefulness.proofs.SameSubs.{all_got, same_comes, same_weighs}
+use Rattle.usefulness.proofs.ToldKeys.{got_there}
 use Rattle.usefulness.proofs.Unused.{AreUsed, AreRowsUsed, comes_used, comes_unused, fit_used, weight_used}
 
 -- ---- columns where some row lists a head
@@ -168,65 +176,133 @@ module _ {T : Type 0} (scope : Scope T) where
 
 -- ---- what was looked at
 
+-- an option's value
+some_same : {A : Type 0} {x y : A} → Some x ≡ Some y → x ≡ y
+some_same e = cc
+
+module _ {T : Type 0} (IsType : T → Type 0) (IsValue : T → Bool → MValue → Type 0) (cx : Context T) (scope : Scope T) where
+  -- what was told is still where one more was looked at
+  abbrev told_later : (s : Submatrix T) (seen : List (Submatrix T)) (w : List ℕ) → IsTold IsType IsValue cx scope seen w → IsTold IsType IsValue cx scope (s ∷ seen) w
+  told_later s seen w k = record { at = k.at; shown = k.shown; rows = k.rows; known = k.known; numbered = k.numbered; fit = k.fit; one = there s (sub_view k.shown k.rows) seen k.one; are = k.are }
+
+  beside_later : (s : Submatrix T) (seen : List (Submatrix T)) (old now : List (List ℕ)) (c : ToldChosen) → ((k : ℕ) (v : List ℕ) → slice_get old k ≡ Some v → slice_get now k ≡ Some v) →
+      IsToldBeside IsType IsValue cx scope seen old c → IsToldBeside IsType IsValue cx scope (s ∷ seen) now c
+  beside_later s seen old now c stay k = record { key = k.key; listed = stay c.list k.key k.listed; told = told_later s seen k.key k.told; row = k.row; found = k.found; has = k.has }
+
+  -- a submatrix of these words was looked at whose row has chosen the alternative
+  chosen_told : (seen : List (Submatrix T)) (lists : List (List ℕ)) (w : List ℕ) (c : ToldChosen) → slice_get lists c.list ≡ Some w → IsToldBeside IsType IsValue cx scope seen lists c →
+      (k : IsTold IsType IsValue cx scope seen w) × ((y : SparseAsked T) → slice_get k.rows c.row ≡ Some y → list_any (nat_eq c.uid) y.row.chosen ≡ true)
+  chosen_told seen lists w c l b =
+      subst (λ v. (k : IsTold IsType IsValue cx scope seen v) × ((y : SparseAsked T) → slice_get k.rows c.row ≡ Some y → list_any (nat_eq c.uid) y.row.chosen ≡ true)) (some_same (sym b.listed ∙ l))
+      (b.told, λ y e. subst (λ z. list_any (nat_eq c.uid) z.row.chosen ≡ true) (some_same (sym b.found ∙ e)) b.has)
+
 module _ {T : Type 0} (IsType : T → Type 0) (IsValue : T → Bool → MValue → Type 0) (cx : Context T) (scope : Scope T)
     (pinned : (p q : MDePat T) → Contains (patterns_of scope.written) p → Contains (patterns_of scope.written) q → uid_of p ≡ uid_of q → p ≡ q) (f g : Frame T) (c : IsCompact f g) (good : IsGood scope f)
     (fit : IsFit IsType IsValue cx (frame_view f)) (marks : Marks) (at : ℕ → ℕ) (numbered : AreNumbered at 0 (numbers (plain_opens g.columns.items))) (w : List ℕ)
-    (are : w ≡ words (is_marked marks) at (plain_opens g.columns.items) (plain_askeds g.rows.items)) (keys : List (List ℕ)) where
+    (are : w ≡ words at (plain_opens g.columns.items) (plain_askeds g.rows.items)) (memo : Memo) where
+  abbrev rows : List (SparseAsked T)
+  rows = plain_askeds g.rows.items
+
+  abbrev columns : List ℕ
+  columns = numbers (plain_opens g.columns.items)
+
   heads_known : (columns : List ℕ) (xs : List (SparseAsked T)) → All (IsRowIn scope columns) xs → All (λ x. All (λ h. Contains columns h.0 × Contains (patterns_of scope.written) h.1) x.row.heads) xs
   heads_known columns xs a = every (λ x. All (λ h. Contains columns h.0 × Contains (patterns_of scope.written) h.1) x.row.heads) xs (λ x i.
       every (λ h. Contains columns h.0 × Contains (patterns_of scope.written) h.1) x.row.heads (λ h j.
       let k = all_got (IsHeadIn scope columns) x.row.heads h (all_got (IsRowIn scope columns) xs x a i).heads j in
       (k.column, k.known)))
 
-  -- it was seen, and is left out
-  pub step_out : Contains keys w → IsStep IsType IsValue cx scope (is_marked marks) (is_marked marks) (frame_view f) [] keys keys
-  step_out i = λ first todo seen search told.
-      let k = told w i in
-      let mine = compact_good scope f g c good in
-      let t = sub_view k.shown k.rows in (
-        seen,
-        subst (λ zs. IsSearch IsType IsValue cx first (is_marked marks) zs seen) (sym (append-nil todo))
-            (repeats IsType IsValue cx first (is_marked marks) todo seen (frame_view g) t (compact_search scope IsType IsValue cx f g c fit first (is_marked marks) todo seen search) k.one
-            (λ q e. go seen k q (is_marked marks q) refl
-            (same_comes IsType IsValue cx (Contains (patterns_of scope.written)) pinned marks k.marks at k.at (plain_opens g.columns.items) k.shown (plain_askeds g.rows.items) k.rows
-            (compact_fit scope IsType IsValue cx f g c fit) k.fit numbered k.numbered (heads_known (numbers (plain_opens g.columns.items)) (plain_askeds g.rows.items) mine.heads) (heads_known (numbers k.shown) k.rows k.known)
-            (compact_used scope f g c good) (sym are ∙ k.are) q e))),
-        told,
-      )
-    where
-      go : (seen : List (Submatrix T)) (k : IsTold IsType IsValue cx scope seen w) (q : Question) (b : Bool) → is_marked marks q ≡ b → (is_marked marks q ≡ true) ⊎ Comes IsValue q (sub_view k.shown k.rows) →
-          (is_marked marks q ≡ true) ⊎ (Comes IsValue q (sub_view k.shown k.rows) × (weight_of (frame_view g) ≡ weight_of (sub_view k.shown k.rows)))
-      go seen k q b m (inl e) = inl e
-      go seen k q true m (inr e) = inl m
-      go seen k q false m (inr e) = inr (
-        e,
-        same_weighs IsType IsValue cx (Contains (patterns_of scope.written)) pinned marks k.marks at k.at (plain_opens g.columns.items) k.shown (plain_askeds g.rows.items) k.rows
-            (compact_fit scope IsType IsValue cx f g c fit) k.fit numbered k.numbered (heads_known (numbers (plain_opens g.columns.items)) (plain_askeds g.rows.items) (compact_good scope f g c good).heads) (heads_known (numbers k.shown) k.rows k.known)
-            (compact_used scope f g c good) (sym are ∙ k.are) q m,
+  -- it was seen, where another of its words was in which the row has chosen what is asked for
+  other_comes : (seen : List (Submatrix T)) (k : IsTold IsType IsValue cx scope seen w) (q : Question) (vs : List MValue) (i : ℕ) → AreValues IsValue (places (plain_opens g.columns.items)) vs →
+      CountsAt q (asked_views columns rows) vs i → HaveChosenToo q rows k.rows i → (t : Submatrix T) × Contains seen t × Comes IsValue q t × (weight_of (frame_view g) ≡ weight_of t)
+  other_comes seen k q vs i a d h =
+      let mine = heads_known columns rows (compact_good scope f g c good).heads in
+      let theirs = heads_known (numbers k.shown) k.rows k.known in
+      let used = compact_used scope f g c good in (
+        sub_view k.shown k.rows,
+        k.one,
+        same_comes IsType IsValue cx (Contains (patterns_of scope.written)) pinned at k.at (plain_opens g.columns.items) k.shown rows k.rows (compact_fit scope IsType IsValue cx f g c fit) k.fit numbered k.numbered mine theirs used
+            (sym are ∙ k.are) q vs i a d h,
+        same_weighs IsType IsValue cx (Contains (patterns_of scope.written)) pinned at k.at (plain_opens g.columns.items) k.shown rows k.rows (compact_fit scope IsType IsValue cx f g c fit) k.fit numbered k.numbered mine theirs used
+            (sym are ∙ k.are),
       )
 
+  module _ (n : AreAllNoted memo w (unmarked_from (is_marked marks) 0 (plain_askeds g.rows.items))) (seen : List (Submatrix T)) (told : AreTold IsType IsValue cx scope seen memo) where
+    listed : Contains memo.lists w
+    listed = got_there memo.lists n.0 w n.1
+
+    -- what comes to it is marked, or comes to one of its words that was seen
+    seen_comes : (q : Question) → Comes IsValue q (frame_view g) → (is_marked marks q ≡ true) ⊎ ((t : Submatrix T) × Contains seen t × Comes IsValue q t × (weight_of (frame_view g) ≡ weight_of t))
+    seen_comes q (vs, a, e) =
+        let (i, d) = counts_at q (asked_views columns rows) vs e in
+        let (x, s, v, arm) = counting_row q vs columns rows i d in
+        go vs a i d x s v arm (is_marked marks q) refl q.whole refl (list_any (nat_eq q.id) x.row.chosen) refl
+      where
+        go : (vs : List MValue) → AreValues IsValue (places (plain_opens g.columns.items)) vs → (i : ℕ) → CountsAt q (asked_views columns rows) vs i → (x : SparseAsked T) → slice_get rows i ≡ Some x → x.wanted ≡ true → q.arm ≡ x.row.arm →
+            (m : Bool) → is_marked marks q ≡ m → (u : Bool) → q.whole ≡ u → (h : Bool) → list_any (nat_eq q.id) x.row.chosen ≡ h →
+            (is_marked marks q ≡ true) ⊎ ((t : Submatrix T) × Contains seen t × Comes IsValue q t × (weight_of (frame_view g) ≡ weight_of t))
+        go vs a i d x s v arm true m u k h l = inl m
+        go vs a i d x s v arm false m true k h l = inr (other_comes seen (told.lists w listed) q vs i a d (λ y z e f b. ap (λ b. b || list_any (nat_eq q.id) z.row.chosen) k))
+        go vs a i d x s v arm false m false k false l = inr (other_comes seen (told.lists w listed) q vs i a d (λ y z e f b.
+            untrue (sym (ap (λ b. b || list_any (nat_eq q.id) y.row.chosen) k ∙ ap (λ (r : SparseAsked T). list_any (nat_eq q.id) r.row.chosen) (some_same (sym e ∙ s)) ∙ l) ∙ b)))
+        go vs a i d x s v arm false m false k true l =
+            let one : ChosenIn = record { row = i; uid = q.id } in
+            let left : is_marked marks (through_alternative x.row.arm q.id) ≡ false = subst (λ n. is_marked marks (through_alternative n q.id) ≡ false) arm (sym (asked_same k) ∙ m) in
+            let noted = all_got (λ z. Contains memo.chosen (told_beside n.0 z)) (unmarked_from (is_marked marks) 0 rows) one n.2 (chosen_there (is_marked marks) q.id 0 i i rows x (omega arith) s v l left) in
+            let (t, has) = chosen_told IsType IsValue cx scope seen memo.lists w (told_beside n.0 one) n.1 (told.chosen (told_beside n.0 one) noted) in
+            inr (other_comes seen t q vs i a d (λ y z e f b. ap (λ b. b || list_any (nat_eq q.id) z.row.chosen) k ∙ has z f))
+          where
+            asked_same : q.whole ≡ false → is_marked marks q ≡ is_marked marks (through_alternative q.arm q.id)
+            asked_same k = rw k refl
+
+  -- it is left out
+  pub step_out : AreAllNoted memo w (unmarked_from (is_marked marks) 0 (plain_askeds g.rows.items)) → IsStep IsType IsValue cx scope (is_marked marks) (is_marked marks) (frame_view f) [] memo memo
+  step_out n = λ first todo seen search told. (
+    seen,
+    subst (λ zs. IsSearch IsType IsValue cx first (is_marked marks) zs seen) (sym (append-nil todo))
+        (repeats IsType IsValue cx first (is_marked marks) todo seen (frame_view g) (compact_search scope IsType IsValue cx f g c fit first (is_marked marks) todo seen search) (seen_comes n seen told)),
+    told,
+  )
+
+  -- its words tell it
+  abbrev itself : (seen : List (Submatrix T)) (v : List ℕ) → v ≡ w → IsTold IsType IsValue cx scope (frame_view g ∷ seen) v
+  itself seen v e = record {
+    at = at;
+    shown = plain_opens g.columns.items;
+    rows = plain_askeds g.rows.items;
+    known = (compact_good scope f g c good).heads;
+    numbered = numbered;
+    fit = compact_fit scope IsType IsValue cx f g c fit;
+    one = here (frame_view g) seen;
+    are = e ∙ are;
+  }
+
   -- it is looked at, and noted
-  pub step_in : (now : Question → Bool) (new : List (Submatrix T)) (after : List (List ℕ)) → IsLookedAt IsType IsValue cx (is_marked marks) now (frame_view g) new →
-      ((v : List ℕ) → Contains after v → Contains keys v ⊎ (v ≡ w)) → IsStep IsType IsValue cx scope (is_marked marks) now (frame_view f) new keys after
-  step_in now new after l n = λ first todo seen search told. (
+  pub step_in : (now : Question → Bool) (new : List (Submatrix T)) (after : Memo) → IsLookedAt IsType IsValue cx (is_marked marks) now (frame_view g) new →
+      IsNotedIn w (unmarked_from (is_marked marks) 0 (plain_askeds g.rows.items)) memo after → IsStep IsType IsValue cx scope (is_marked marks) now (frame_view f) new memo after
+  step_in now new after looked n = λ first todo seen search told. (
     frame_view g ∷ seen,
-    looks IsType IsValue cx first (is_marked marks) now todo new seen (frame_view g) (compact_search scope IsType IsValue cx f g c fit first (is_marked marks) todo seen search) l,
-    λ v i. elim (n v i) [
-      | inl j ↦
-          let k = told v j in
-          record { marks = k.marks; at = k.at; shown = k.shown; rows = k.rows; known = k.known; numbered = k.numbered; fit = k.fit; one = there (frame_view g) (sub_view k.shown k.rows) seen k.one; are = k.are }
-      | inr e ↦ record {
-        marks = marks;
-        at = at;
-        shown = plain_opens g.columns.items;
-        rows = plain_askeds g.rows.items;
-        known = (compact_good scope f g c good).heads;
-        numbered = numbered;
-        fit = compact_fit scope IsType IsValue cx f g c fit;
-        one = here (frame_view g) seen;
-        are = e ∙ are;
-      }
-    ],
+    looks IsType IsValue cx first (is_marked marks) now todo new seen (frame_view g) (compact_search scope IsType IsValue cx f g c fit first (is_marked marks) todo seen search) looked,
+    record {
+      lists = λ v i. elim (n.lists v i) [
+        | inl j ↦ told_later IsType IsValue cx scope (frame_view g) seen v (told.lists v j)
+        | inr e ↦ itself seen v e
+      ];
+      chosen = λ d i. elim (n.beside d i) [
+        | inl j ↦ beside_later IsType IsValue cx scope (frame_view g) seen memo.lists after.lists d n.stay (told.chosen d j)
+        | inr (j, l) ↦
+            let (k, e, (x, s, h)) = chosen_by (is_marked marks) 0 rows (chosen_of d) j in
+            let same : k ≡ d.row = omega (arith, e) in
+            record {
+              key = w;
+              listed = l;
+              told = itself seen w refl;
+              row = x;
+              found = subst (λ r. slice_get rows r ≡ Some x) same s;
+              has = h;
+            }
+      ];
+    },
   )
 
   -- the new ones are lighter
@@ -237,21 +313,19 @@ module _ {T : Type 0} (IsType : T → Type 0) (IsValue : T → Bool → MValue �
 
 module _ {T : Type 0} (IsType : T → Type 0) (IsValue : T → Bool → MValue → Type 0) (cx : Context T) (scope : Scope T) (old now : Question → Bool) (s : Submatrix T) where
   -- it is looked at, and not noted
-  pub step_early : (new : List (Submatrix T)) (keys after : List (List ℕ)) → after ≡ keys → IsLookedAt IsType IsValue cx old now s new → IsStep IsType IsValue cx scope old now s new keys after
-  step_early new keys after e l = λ first todo seen search told. (
+  pub step_early : (new : List (Submatrix T)) (memo after : Memo) → after ≡ memo → IsLookedAt IsType IsValue cx old now s new → IsStep IsType IsValue cx scope old now s new memo after
+  step_early new memo after e l = λ first todo seen search told. (
     s ∷ seen,
     looks IsType IsValue cx first old now todo new seen s search l,
-    λ v i.
-        let k = told v (subst (λ ks. Contains ks v) e i) in
-        record { marks = k.marks; at = k.at; shown = k.shown; rows = k.rows; known = k.known; numbered = k.numbered; fit = k.fit; one = there s (sub_view k.shown k.rows) seen k.one; are = k.are },
+    subst (AreTold IsType IsValue cx scope (s ∷ seen)) (sym e) (record {
+      lists = λ v i. told_later IsType IsValue cx scope s seen v (told.lists v i);
+      chosen = λ d i. beside_later IsType IsValue cx scope s seen memo.lists memo.lists d (λ k v h. h) (told.chosen d i);
+    }),
   )
 
 -- nothing is told at first
-pub none_told : {T : Type 0} (IsType : T → Type 0) (IsValue : T → Bool → MValue → Type 0) (cx : Context T) (scope : Scope T) (keys : List (List ℕ)) → keys ≡ [] → AreTold IsType IsValue cx scope [] keys
-none_told IsType IsValue cx scope keys e = λ w i. absurd (none (subst (λ ks. Contains ks w) e i))
-  where
-    none : {A : Type 0} {w : A} → Contains [] w → ⊥
-    none (k, l, e) = omega (arith, l)
+pub none_told : {T : Type 0} (IsType : T → Type 0) (IsValue : T → Bool → MValue → Type 0) (cx : Context T) (scope : Scope T) (memo : Memo) → memo ≡ no_memo → AreTold IsType IsValue cx scope [] memo
+none_told IsType IsValue cx scope memo e = subst (AreTold IsType IsValue cx scope []) (sym e) (record { lists = λ w (k, l, f). absurd (omega (arith, l)); chosen = λ c (k, l, f). absurd (omega (arith, l)) })
 
 -- there are no new ones
 pub none_lighter : {T : Type 0} (s : Submatrix T) → AreLighter [] s

@@ -16,11 +16,9 @@ use Rattle.pattern_matrix.specs.Counting.{Question, to_arm}
 use Rattle.pattern_matrix.specs.Searching.{Submatrix, IsFit, Comes}
 use Rattle.usefulness.specs.declared.asking.Asking.{Asking}
 use Rattle.usefulness.specs.declared.covered.Covered.{Covered}
-use Rattle.usefulness.specs.declared.marks.Marks.{Marks}
 use Rattle.usefulness.specs.Compact.{AreAllUsed}
 use Rattle.usefulness.specs.Frames.{SparseAsked, numbers, places, sub_view, IsHeadIn, IsRowIn, AreOpen}
 use Rattle.usefulness.specs.Keys.{told_keys}
-use Rattle.usefulness.specs.Marking.{is_marked}
 use Rattle.usefulness.specs.Scope.{Scope}
 use Rattle.usefulness.specs.Starting.{behind_row}
 use Rattle.usefulness.specs.States.{plain_opens}
@@ -70,11 +68,8 @@ AreSomeLeft IsValue shown rows = (vs : List MValue) × AreValues IsValue (places
 abbrev pub behind : Question
 behind = to_arm 1
 
--- the words tell a submatrix of which this holds. They were written while no value was known to come to the row behind, and
--- each of the submatrix's columns has a head
+-- the words tell a submatrix of which this holds, and each of whose columns has a head
 pub record IsKnown {T : Type 0} (IsType : T → Type 0) (IsValue : T → Bool → MValue → Type 0) (cx : Context T) (arms : List (MDeArm T)) (Holds : Submatrix T → Type 0) (w : List ℕ) : Type 0 where
-  pub marks : Marks
-  pub unmarked : is_marked marks behind ≡ false
   pub at : ℕ → ℕ
   pub shown : List (ℕ × Open T)
   pub rows : List (SparseAsked T)
@@ -82,7 +77,7 @@ pub record IsKnown {T : Type 0} (IsType : T → Type 0) (IsValue : T → Bool �
   pub numbered : AreNumbered at 0 (numbers shown)
   pub fit : IsFit IsType IsValue cx (sub_view shown rows)
   pub used : AreAllUsed (numbers shown) rows
-  pub are : w ≡ words (is_marked marks) at shown rows
+  pub are : w ≡ words at shown rows
   pub holds : Holds (sub_view shown rows)
 
 -- the arms of the match whose rows are asked for

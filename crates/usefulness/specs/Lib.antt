@@ -3,6 +3,8 @@ pub mod Frames
 pub mod Marking
 pub mod Done
 pub mod Words
+pub mod Chosen
+pub mod Memo
 pub mod Children
 pub mod Listing
 pub mod States

@@ -24,6 +24,7 @@ use Rattle.usefulness.specs.Scope.{Scope}
 use Rattle.usefulness.specs.Cutting.{parts_left, IsCutPart}
 use Rattle.usefulness.specs.Listing.{AreAllListed}
 use Rattle.usefulness.specs.States.{frame_view, child_views, IsGood, IsApart, IsEnterable, apart_leaves, piece_view, is_noted, scope_of}
+use Rattle.usefulness.specs.Memo.{Memo}
 use Rattle.usefulness.specs.Told.{AreTold}
 
 -- what stands at these numbers
@@ -134,9 +135,9 @@ pub record IsTaken {T : Type 0} (IsType : T → Type 0) (IsValue : T → Bool �
   pub next : IsNext IsValue old now (todo_view cx entry) (todo_views cx back) new
 
 -- a search goes on
-pub record IsGoing {T : Type 0} (IsType : T → Type 0) (IsValue : T → Bool → MValue → Type 0) (cx : Context T) (first : Submatrix T) (scope : Scope T) (m : Reached T) (keys : List (List ℕ)) (todo : List (Todo T)) : Type 0 where
+pub record IsGoing {T : Type 0} (IsType : T → Type 0) (IsValue : T → Bool → MValue → Type 0) (cx : Context T) (first : Submatrix T) (scope : Scope T) (m : Reached T) (memo : Memo) (todo : List (Todo T)) : Type 0 where
   pub known : scope_of m ≡ scope
   pub good : All (IsTodo IsType IsValue cx scope (is_noted m)) todo
   pub seen : List (Submatrix T)
   pub search : IsSearch IsType IsValue cx first (is_noted m) (todo_views cx todo) seen
-  pub told : AreTold IsType IsValue cx scope seen keys
+  pub told : AreTold IsType IsValue cx scope seen memo

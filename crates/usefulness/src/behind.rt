@@ -166,7 +166,7 @@ fn look<'a, C: PatCx>(
     ensures { OnOk result (IsLooked (C.is_type cx.now) (C.is_value cx.now) (C.context cx.now) (covered_arms covered.now) search.old search.new (frame_view frame.entry)) }
 {
     let rest = compact(alloc, frame)?;
-    let words = tell(alloc, &search.reached.marks, &rest)?;
+    let words = tell(alloc, &rest)?;
     if is_told(&covered.full, &words) {
         return Ok(());
     }

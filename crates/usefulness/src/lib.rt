@@ -6,6 +6,7 @@ mod begun;
 mod behind;
 mod children;
 mod choice;
+mod chosen;
 mod compact;
 mod covered;
 mod cutting;

@@ -7,17 +7,18 @@ ghost use Rattle.pattern_matrix.specs.Counting.{Question};
 ghost use Rattle.pattern_matrix.specs.Searching.{IsFit, IsLookedAt, moved};
 ghost use Rattle.usefulness.specs.Frames.{numbers, rows_of};
 ghost use Rattle.usefulness.specs.Told.{IsPinned, AreLighter, IsStep};
-ghost use Rattle.usefulness.specs.Keys.{told_keys};
+ghost use Rattle.usefulness.specs.Memo.{memo_of};
 ghost use Rattle.usefulness.specs.Stack.{IsOpened, opened_views};
 ghost use Rattle.usefulness.specs.States.{plain_open, plain_opens, plain_askeds, frame_view, IsGood, is_noted, scope_of};
 
 use crate::children::children;
 use crate::choice::choose;
+use crate::chosen::unmarked_chosen;
 use crate::compact::compact;
 use crate::frames::{Apart, Asked, Frame, Listing, OpenColumn, Opened, Reached};
 use crate::listing::{finish, list_row, room_listed};
 use crate::telling::tell;
-use crate::told::{Told, is_told, is_untold, note_told};
+use crate::told::{Told, are_told, is_untold, note_all};
 use no_memory::NoMemory;
 use pat_context::PatCx;
 use pattern_matrix::{Leaf, add_leaves};
@@ -107,7 +108,8 @@ fn none_opened<'a, T: Copy>() -> Opened<'a, T>
     }
 }
 
-// Looks at the rows, unless their words were noted: what is left of them where one of their columns is taken apart.
+// Looks at the rows, unless what was noted tells that nothing new comes of them: what is left of them where one of their
+// columns is taken apart.
 fn look_once<'a, C: PatCx>(
     alloc: Global,
     cx: &C,
@@ -123,15 +125,16 @@ fn look_once<'a, C: PatCx>(
     ensures good { IfOk result (λ o. IsOpened (C.is_type cx.now) (C.is_value cx.now) (C.context cx.now) (scope_of reached.old) (is_noted reached.new) o) }
     ensures lighter { IfOk result (λ o. AreLighter (opened_views (C.context cx.now) o) (frame_view frame.entry)) }
     ensures stepped { IfOk result (λ o. IsStep (C.is_type cx.now) (C.is_value cx.now) (C.context cx.now) (scope_of reached.old) (is_noted reached.old) (is_noted reached.new)
-        (frame_view frame.entry) (opened_views (C.context cx.now) o) (told_keys told.old) (told_keys told.new)) }
+        (frame_view frame.entry) (opened_views (C.context cx.now) o) (memo_of told.old) (memo_of told.new)) }
 {
     let rest = compact(alloc, frame)?;
-    let words = tell(alloc, &reached.marks, &rest)?;
-    if is_told(told, &words) {
+    let words = tell(alloc, &rest)?;
+    let chosen = unmarked_chosen(alloc, &reached.marks, rest.rows.as_slice())?;
+    if are_told(told, &words, chosen.as_slice()) {
         return Ok(none_opened());
     }
     let new = split(alloc, cx, reached, rest)?;
-    note_told(told, words)?;
+    note_all(told, words, chosen.as_slice())?;
     Ok(new)
 }
 
@@ -151,7 +154,7 @@ pub(crate) fn look_at<'a, C: PatCx>(
     ensures good { IfOk result (λ o. IsOpened (C.is_type cx.now) (C.is_value cx.now) (C.context cx.now) (scope_of reached.old) (is_noted reached.new) o) }
     ensures lighter { IfOk result (λ o. AreLighter (opened_views (C.context cx.now) o) (frame_view frame.entry)) }
     ensures stepped { IfOk result (λ o. IsStep (C.is_type cx.now) (C.is_value cx.now) (C.context cx.now) (scope_of reached.old) (is_noted reached.old) (is_noted reached.new)
-        (frame_view frame.entry) (opened_views (C.context cx.now) o) (told_keys told.old) (told_keys told.new)) }
+        (frame_view frame.entry) (opened_views (C.context cx.now) o) (memo_of told.old) (memo_of told.new)) }
 {
     if is_untold(told) {
         split(alloc, cx, reached, frame)

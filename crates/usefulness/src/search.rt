@@ -15,7 +15,7 @@ ghost use Rattle.pattern_matrix.specs.SearchLaws.{IsReached};
 ghost use Rattle.usefulness.specs.Children.{bare_sub};
 ghost use Rattle.usefulness.specs.Marking.{is_marked};
 ghost use Rattle.usefulness.specs.Scope.{scope_for};
-ghost use Rattle.usefulness.specs.Keys.{told_keys};
+ghost use Rattle.usefulness.specs.Memo.{memo_of, no_memo};
 ghost use Rattle.usefulness.specs.Stack.{IsGoing, IsTodo, todo_view, todo_views};
 ghost use Rattle.usefulness.specs.Starting.{asked_from, wanted_all};
 ghost use Rattle.usefulness.specs.States.{child_views, is_noted, plain_asked, scope_of, IsGood, IsListed};
@@ -155,8 +155,8 @@ fn step<'a, C: PatCx>(
     requires good { IsTodo (C.is_type cx.now) (C.is_value cx.now) (C.context cx.now) (scope_of reached.old) (is_noted reached.old) entry }
     requires fit { (s : Submatrix C.Ty) → Contains (todo_view (C.context cx.now) entry) s → IsFit (C.is_type cx.now) (C.is_value cx.now) (C.context cx.now) s }
     requires pinned { IsPinned (scope_of reached.old) }
-    ensures going { OnOk result ((first : Submatrix C.Ty) → IsGoing (C.is_type cx.now) (C.is_value cx.now) (C.context cx.now) first (scope_of reached.old) reached.old (told_keys told.old) (todo.old.items ++ entry.entry ∷ [])
-        → IsGoing (C.is_type cx.now) (C.is_value cx.now) (C.context cx.now) first (scope_of reached.old) reached.new (told_keys told.new) todo.new.items) }
+    ensures going { OnOk result ((first : Submatrix C.Ty) → IsGoing (C.is_type cx.now) (C.is_value cx.now) (C.context cx.now) first (scope_of reached.old) reached.old (memo_of told.old) (todo.old.items ++ entry.entry ∷ [])
+        → IsGoing (C.is_type cx.now) (C.is_value cx.now) (C.context cx.now) first (scope_of reached.old) reached.new (memo_of told.new) todo.new.items) }
     ensures less { OnOk result (work (2 ^ 65) (todo_views (C.context cx.now) todo.new.items) < work (2 ^ 65) (todo_views (C.context cx.now) (todo.old.items ++ entry.entry ∷ []))) }
 {
     match next_rows(alloc, cx, reached, todo, entry)? {
@@ -182,9 +182,9 @@ fn first_step<'a, C: PatCx>(
     requires scope { scope_of reached.old ≡ scope_for (plain_match m.now).arms }
     requires few { length m.now.arms.now < 2 ^ 32 }
     requires none { (q : Question) → is_noted reached.old q ≡ false }
-    requires untold { told_keys told.old ≡ [] }
+    requires untold { memo_of told.old ≡ no_memo }
     ensures { IfOk result (λ v. IsGoing (C.is_type cx.now) (C.is_value cx.now) (C.context cx.now) (bare_sub (first_submatrix (plain_match m.now)))
-        (scope_for (plain_match m.now).arms) reached.new (told_keys told.new) v.items) }
+        (scope_for (plain_match m.now).arms) reached.new (memo_of told.new) v.items) }
 {
     let mut todo = Vec::new(alloc);
     match first_frame(alloc, cx, reached, m)? {

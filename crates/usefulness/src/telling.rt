@@ -1,19 +1,17 @@
-// Words that tell a submatrix.
+// Words that tell a submatrix, but for the alternatives that its rows have chosen.
 ghost use Rattle.std.specs.Prelude.{◌≡◌, ◌<◌, ◌++◌, ◌∷◌, [], ℕ, get_or, map, length, IfOk, OnOk};
 ghost use Rattle.std.specs.List.{All, flat_map};
 ghost use Rattle.pat_context.specs.Views.{is_sure};
 ghost use Rattle.pattern_matrix.specs.Sparse.{AreHeadsBelow};
-ghost use Rattle.pattern_matrix.specs.Views.{plain_head, plain_heads, plain_row};
+ghost use Rattle.pattern_matrix.specs.Views.{plain_head, plain_heads};
 ghost use Rattle.usefulness.specs.Frames.{numbers, AreOpen};
-ghost use Rattle.usefulness.specs.Marking.{is_marked};
 ghost use Rattle.usefulness.specs.States.{plain_opens, plain_asked, plain_askeds};
-ghost use Rattle.usefulness.specs.Words.{AreNumbered, unmarked, head_words, chosen_words, wanted_words, row_words, column_words, words, bit};
+ghost use Rattle.usefulness.specs.Words.{AreNumbered, head_words, wanted_words, row_words, column_words, words, bit};
 
-use crate::Marks;
 use crate::frames::{Asked, Frame, OpenColumn};
 use no_memory::NoMemory;
 use pat_context::Validity;
-use pattern_matrix::{Head, Marked, Row};
+use pattern_matrix::Head;
 use std::alloc::Global;
 
 // The places of the columns among the open ones, by their numbers.
@@ -38,14 +36,6 @@ fn put(words: &mut Vec<u64>, word: u64) -> Result<(), NoMemory>
     ensures { OnOk result (words.new.items ≡ words.old.items ++ word ∷ []) }
 {
     words.push(word)?;
-    Ok(())
-}
-
-// Adds the words.
-fn put_all(words: &mut Vec<u64>, more: &[u64]) -> Result<(), NoMemory>
-    ensures { OnOk result (words.new.items ≡ words.old.items ++ more.now) }
-{
-    words.extend_from_slice(more)?;
     Ok(())
 }
 
@@ -86,54 +76,12 @@ fn add_heads<'a, T: Copy>(
     Ok(())
 }
 
-// Adds the alternative of the arm, where it is not marked.
-fn add_unmarked(left: &mut Vec<u64>, marks: &Marks, arm: u32, uid: u64) -> Result<(), NoMemory>
-    ensures { OnOk result (left.new.items ≡ left.old.items ++ unmarked (is_marked marks.now) arm (uid ∷ [])) }
-{
-    if !marks.has_alternative(arm, uid) {
-        left.push(uid)?;
-    }
-    Ok(())
-}
-
-// Of the alternatives of the arm those that are not marked.
-fn unmarked(alloc: Global, marks: &Marks, arm: u32, chosen: &[u64]) -> Result<Vec<u64>, NoMemory>
-    ensures { IfOk result (λ v. v.items ≡ unmarked (is_marked marks.now) arm chosen.now) }
-{
-    let mut left = Vec::new(alloc);
-    for uid in chosen {
-        add_unmarked(&mut left, marks, arm, *uid)?;
-    }
-    Ok(left)
-}
-
-// Adds what tells which values a row is wanted for: its arm, and what it has chosen that is not marked.
-fn add_chosen<'a, T: Copy>(
-    alloc: Global,
-    words: &mut Vec<u64>,
-    marks: &Marks,
-    row: &Row<'a, T>,
-) -> Result<(), NoMemory>
-    ensures { OnOk result (words.new.items ≡ words.old.items ++ chosen_words (is_marked marks.now) (plain_row row.now)) }
-{
-    let left = unmarked(alloc, marks, row.arm, row.chosen.as_slice())?;
-    put(words, row.arm as u64)?;
-    put(words, left.len() as u64)?;
-    put_all(words, left.as_slice())?;
-    Ok(())
-}
-
-// Adds what tells a row that is wanted.
-fn add_wanted<'a, T: Copy>(
-    alloc: Global,
-    words: &mut Vec<u64>,
-    marks: &Marks,
-    asked: &Asked<'a, T>,
-) -> Result<(), NoMemory>
-    ensures { OnOk result (words.new.items ≡ words.old.items ++ wanted_words (is_marked marks.now) (plain_asked asked.now)) }
+// Adds the arm of a row that is wanted.
+fn add_wanted<'a, T: Copy>(words: &mut Vec<u64>, asked: &Asked<'a, T>) -> Result<(), NoMemory>
+    ensures { OnOk result (words.new.items ≡ words.old.items ++ wanted_words (plain_asked asked.now)) }
 {
     if asked.wanted {
-        add_chosen(alloc, words, marks, &asked.row)
+        put(words, asked.row.arm as u64)
     } else {
         Ok(())
     }
@@ -178,18 +126,16 @@ fn add_count_and_heads<'a, T: Copy>(
 
 // Adds what tells the row.
 fn add_row<'a, T: Copy>(
-    alloc: Global,
     words: &mut Vec<u64>,
-    marks: &Marks,
     places: &[usize],
     asked: &Asked<'a, T>,
 ) -> Result<(), NoMemory>
     requires { AreHeadsBelow (length places.now) (plain_asked asked.now).row.heads }
-    ensures { OnOk result (words.new.items ≡ words.old.items ++ row_words (is_marked marks.now) (λ c. get_or places.now c 0) (plain_asked asked.now)) }
+    ensures { OnOk result (words.new.items ≡ words.old.items ++ row_words (λ c. get_or places.now c 0) (plain_asked asked.now)) }
 {
     add_count_and_heads(words, places, asked.row.heads.as_slice())?;
     add_flags(words, asked)?;
-    add_wanted(alloc, words, marks, asked)?;
+    add_wanted(words, asked)?;
     Ok(())
 }
 
@@ -231,41 +177,29 @@ fn add_columns<T: Copy>(words: &mut Vec<u64>, columns: &[OpenColumn<T>]) -> Resu
 
 // Adds what tells the rows.
 fn add_rows<'a, T: Copy>(
-    alloc: Global,
     words: &mut Vec<u64>,
-    marks: &Marks,
     places: &[usize],
     rows: &[Asked<'a, T>],
 ) -> Result<(), NoMemory>
     requires { All (λ x. AreHeadsBelow (length places.now) x.row.heads) (plain_askeds rows.now) }
-    ensures { OnOk result (words.new.items ≡ words.old.items ++ flat_map (row_words (is_marked marks.now) (λ c. get_or places.now c 0)) (plain_askeds rows.now)) }
+    ensures { OnOk result (words.new.items ≡ words.old.items ++ flat_map (row_words (λ c. get_or places.now c 0)) (plain_askeds rows.now)) }
 {
     for asked in rows {
-        add_row(alloc, words, marks, places, asked)?;
+        add_row(words, places, asked)?;
     }
     Ok(())
 }
 
-// Words that tell the rows, by what is marked.
-pub(crate) fn tell<'a, T: Copy>(
-    alloc: Global,
-    marks: &Marks,
-    frame: &Frame<'a, T>,
-) -> Result<Vec<u64>, NoMemory>
+// Words that tell the rows, but for what these have chosen.
+pub(crate) fn tell<'a, T: Copy>(alloc: Global, frame: &Frame<'a, T>) -> Result<Vec<u64>, NoMemory>
     requires open { AreOpen frame.now.next (numbers (plain_opens frame.now.columns.items)) }
     requires below { All (λ x. AreHeadsBelow frame.now.next x.row.heads) (plain_askeds frame.now.rows.items) }
     ensures { IfOk result (λ v. (at : ℕ → ℕ) × AreNumbered at 0 (numbers (plain_opens frame.now.columns.items))
-        × (v.items ≡ words (is_marked marks.now) at (plain_opens frame.now.columns.items) (plain_askeds frame.now.rows.items))) }
+        × (v.items ≡ words at (plain_opens frame.now.columns.items) (plain_askeds frame.now.rows.items))) }
 {
     let places = places(alloc, frame.columns.as_slice(), frame.next)?;
     let mut words = Vec::new(alloc);
     add_columns(&mut words, frame.columns.as_slice())?;
-    add_rows(
-        alloc,
-        &mut words,
-        marks,
-        places.as_slice(),
-        frame.rows.as_slice(),
-    )?;
+    add_rows(&mut words, places.as_slice(), frame.rows.as_slice())?;
     Ok(words)
 }

@@ -37,7 +37,7 @@ returns-then-is_told g c =
     let k = c.requires.covered.full words (c.is_told.ensures c.if-is_told.true) in
     looked_known IsType IsValue context arms old old (frame_view f) c.requires.known (λ q e. e) refl refl
     (subst (λ m. Passes IsValue m (frame_view f ∷ []) []) (sym c.requires.unmarked) (passes_none IsValue (frame_view f) (λ d.
-    k.holds (known_on IsType IsValue context arms f rest compact c.requires.good c.requires.fit old.reached.marks c.requires.unmarked at numbered words are c.requires.covered.pinned (λ s. Comes IsValue behind s → ⊥) k d))))
+    k.holds (known_on IsType IsValue context arms f rest compact c.requires.good c.requires.fit at numbered words are c.requires.covered.pinned (λ s. Comes IsValue behind s → ⊥) k d))))
 
 pub returns-then-is_told-2 : goal.returns-then-is_told-2
 returns-then-is_told-2 g c =
@@ -55,7 +55,7 @@ returns-then-is_told-2 g c =
     let k = c.requires.covered.left words (c.is_told-2.ensures c.if-is_told-2.true) in
     on_ok_weaker c.mark.result
     (λ marked. looked_left IsType IsValue context arms old _ (frame_view f) _ c.requires.known refl c.mark.ensures.arms marked refl refl refl
-    (known_back IsType IsValue context arms f rest compact c.requires.good c.requires.fit old.reached.marks c.requires.unmarked at numbered words are c.requires.covered.pinned (λ s. Comes IsValue behind s) k k.holds))
+    (known_back IsType IsValue context arms f rest compact c.requires.good c.requires.fit at numbered words are c.requires.covered.pinned (λ s. Comes IsValue behind s) k k.holds))
     c.mark.ensures.marked
 
 pub look_new-requires-clause-good : goal.look_new-requires-clause-good
@@ -90,7 +90,7 @@ look_new-requires-clause-words g c =
     let words = c.in_ok-words.words.items in
     let same = sym (ap (λ s. s.written) c.requires.known) in
     subst (λ ws. IsKnown IsType IsValue context ws (λ s. s ≡ frame_view rest) words) same
-    (known_itself IsType IsValue context arms f rest compact c.requires.good c.requires.fit old.reached.marks c.requires.unmarked at numbered words are)
+    (known_itself IsType IsValue context arms f rest compact c.requires.good c.requires.fit at numbered words are)
 
 pub returns : goal.returns
 returns g c =

@@ -1,4 +1,4 @@
-use Rattle.std.proofs.Common.{◌≡◌, Bool, Option, List, ℕ, [], ◌∷◌, ◌++◌, map, sym, subst}
+use Rattle.std.proofs.Common.{◌≡◌, Bool, Option, [], ◌∷◌, ◌++◌, map, sym, subst}
 use Rattle.std.specs.Option.{option_to_list, IfSome}
 use Rattle.match_model.specs.Values.{MValue}
 use Rattle.match_model.specs.Contexts.{Context}
@@ -8,7 +8,7 @@ use Rattle.usefulness.specs.declared.frames.Frame.{Frame}
 use Rattle.usefulness.specs.declared.frames.Reached.{Reached}
 use Rattle.usefulness.specs.declared.frames.Todo.TheVariants.{Rows}
 use Rattle.usefulness.specs.Children.{bare_sub}
-use Rattle.usefulness.specs.Keys.{told_keys}
+use Rattle.usefulness.specs.Memo.{Memo, memo_of, no_memo}
 use Rattle.usefulness.specs.Scope.{Scope, scope_for}
 use Rattle.usefulness.specs.Stack.{IsGoing}
 use Rattle.usefulness.specs.States.{child_views, is_noted, scope_of, IsGood}
@@ -19,14 +19,14 @@ use Rattle.usefulness.proofs.Stepping.{none_told}
 use Rattle.usefulness.proofs.search.first_step.Goals as goal
 
 -- a search begins with these rows alone
-begins : {T : Type 0} (IsType : T → Type 0) (IsValue : T → Bool → MValue → Type 0) (cx : Context T) (first : Submatrix T) (scope : Scope T) (m : Reached T) (keys : List (List ℕ)) (w : Option (Frame T)) →
-    scope_of m ≡ scope → IfSome w (λ f. IsGood scope f) → IsSearch IsType IsValue cx first (is_noted m) (child_views w) [] → keys ≡ [] → IsGoing IsType IsValue cx first scope m keys (map Rows (option_to_list w))
-begins IsType IsValue cx first scope m keys w known good search none = record {
+begins : {T : Type 0} (IsType : T → Type 0) (IsValue : T → Bool → MValue → Type 0) (cx : Context T) (first : Submatrix T) (scope : Scope T) (m : Reached T) (memo : Memo) (w : Option (Frame T)) →
+    scope_of m ≡ scope → IfSome w (λ f. IsGood scope f) → IsSearch IsType IsValue cx first (is_noted m) (child_views w) [] → memo ≡ no_memo → IsGoing IsType IsValue cx first scope m memo (map Rows (option_to_list w))
+begins IsType IsValue cx first scope m memo w known good search none = record {
   known = known;
   good = rows_good IsType IsValue cx scope (is_noted m) w good;
   seen = [];
   search = subst (λ ss. IsSearch IsType IsValue cx first (is_noted m) ss []) (sym (rows_views IsType IsValue cx scope w)) search;
-  told = none_told IsType IsValue cx scope keys none;
+  told = none_told IsType IsValue cx scope memo none;
 }
 
 pub step-requires-clause-fit : goal.step-requires-clause-fit
@@ -48,11 +48,11 @@ returns-in-None g c =
     let first = bare_sub (first_submatrix m) in
     let scope = scope_for m.arms in
     let now = c.first_frame.new.reached in
-    let keys = told_keys c.args.told.now in
+    let memo = memo_of c.args.told.now in
     let e = c.in_ok-first_frame.ensures in
-    subst (IsGoing IsType IsValue context first scope now keys) (sym c.new-todo.ensures.items)
-    (subst (λ o. IsGoing IsType IsValue context first scope now keys (map Rows (option_to_list o))) c.in-None.is
-    (begins IsType IsValue context first scope now keys c.in_ok-first_frame.field-0 e.scope e.good e.search c.requires.untold))
+    subst (IsGoing IsType IsValue context first scope now memo) (sym c.new-todo.ensures.items)
+    (subst (λ o. IsGoing IsType IsValue context first scope now memo (map Rows (option_to_list o))) c.in-None.is
+    (begins IsType IsValue context first scope now memo c.in_ok-first_frame.field-0 e.scope e.good e.search c.requires.untold))
 
 pub returns-in_ok-step-in-Some : goal.returns-in_ok-step-in-Some
 returns-in_ok-step-in-Some g c =
@@ -64,12 +64,12 @@ returns-in_ok-step-in-Some g c =
     let first = bare_sub (first_submatrix m) in
     let scope = scope_for m.arms in
     let now = c.first_frame.new.reached in
-    let keys = told_keys c.args.told.now in
+    let memo = memo_of c.args.told.now in
     let e = c.in_ok-first_frame.ensures in
     let frame = c.in-Some.frame in
-    subst (λ z. IsGoing IsType IsValue context first z c.step.new.reached (told_keys c.step.new.told) c.step.new.todo.items) e.scope
+    subst (λ z. IsGoing IsType IsValue context first z c.step.new.reached (memo_of c.step.new.told) c.step.new.todo.items) e.scope
     (c.in_ok-step-in-Some.ensures.going first
-    (subst (λ z. IsGoing IsType IsValue context first z now keys (c.new-todo.result.items ++ Rows frame ∷ [])) (sym e.scope)
-    (subst (λ xs. IsGoing IsType IsValue context first scope now keys (xs ++ Rows frame ∷ [])) (sym c.new-todo.ensures.items)
-    (subst (λ o. IsGoing IsType IsValue context first scope now keys (map Rows (option_to_list o))) c.in-Some.is
-    (begins IsType IsValue context first scope now keys c.in_ok-first_frame.field-0 e.scope e.good e.search c.requires.untold)))))
+    (subst (λ z. IsGoing IsType IsValue context first z now memo (c.new-todo.result.items ++ Rows frame ∷ [])) (sym e.scope)
+    (subst (λ xs. IsGoing IsType IsValue context first scope now memo (xs ++ Rows frame ∷ [])) (sym c.new-todo.ensures.items)
+    (subst (λ o. IsGoing IsType IsValue context first scope now memo (map Rows (option_to_list o))) c.in-Some.is
+    (begins IsType IsValue context first scope now memo c.in_ok-first_frame.field-0 e.scope e.good e.search c.requires.untold)))))

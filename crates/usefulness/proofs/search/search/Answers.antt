@@ -1,7 +1,7 @@
 use Rattle.std.proofs.Common.{◌<◌, ◌^◌, [], ◌∷◌, ◌++◌, sym, subst, arith}
 use Rattle.pattern_arena.specs.Trees.{plain_match}
 use Rattle.pattern_matrix.specs.Searching.{work, IsSearch, first_submatrix}
-use Rattle.usefulness.specs.Keys.{told_keys}
+use Rattle.usefulness.specs.Memo.{memo_of}
 use Rattle.usefulness.specs.Children.{bare_sub}
 use Rattle.usefulness.specs.Scope.{scope_for}
 use Rattle.usefulness.specs.Stack.{IsGoing, IsTodo, todo_views}
@@ -27,7 +27,7 @@ step-requires-clause-good g c =
     let loop = c.loop-entry in
     let entry = c.in-Some.entry in
     subst (λ z. IsTodo IsType IsValue context z (is_noted loop.reached) entry) (sym loop.invariant.known)
-    (entry_good IsType IsValue context scope first loop.reached (told_keys loop.told) loop.todo.items c.pop.new.self.items entry c.in-Some.ensures.items loop.invariant)
+    (entry_good IsType IsValue context scope first loop.reached (memo_of loop.told) loop.todo.items c.pop.new.self.items entry c.in-Some.ensures.items loop.invariant)
 
 pub step-requires-clause-fit : goal.step-requires-clause-fit
 step-requires-clause-fit g c =
@@ -39,7 +39,7 @@ step-requires-clause-fit g c =
     let scope = scope_for (plain_match c.args.m.now).arms in
     let loop = c.loop-entry in
     let entry = c.in-Some.entry in
-    entry_fits IsType IsValue context scope first loop.reached (told_keys loop.told) loop.todo.items c.pop.new.self.items entry c.in-Some.ensures.items loop.invariant
+    entry_fits IsType IsValue context scope first loop.reached (memo_of loop.told) loop.todo.items c.pop.new.self.items entry c.in-Some.ensures.items loop.invariant
 
 pub step-requires-clause-pinned : goal.step-requires-clause-pinned
 step-requires-clause-pinned g c = subst IsPinned (sym c.loop-entry.invariant.known) (pinned_by (plain_match c.args.m.now).arms c.requires.typed.uids)
@@ -55,10 +55,10 @@ loop-entry-preserved g c =
     let loop = c.loop-entry in
     let entry = c.in-Some.entry in
     let popped = c.pop.new.self.items in
-    subst (λ z. IsGoing IsType IsValue context first z c.step.new.reached (told_keys c.step.new.told) c.step.new.todo.items) loop.invariant.known
+    subst (λ z. IsGoing IsType IsValue context first z c.step.new.reached (memo_of c.step.new.told) c.step.new.todo.items) loop.invariant.known
     (c.in_ok-step.ensures.going first
-    (subst (λ z. IsGoing IsType IsValue context first z loop.reached (told_keys loop.told) (popped ++ entry ∷ [])) (sym loop.invariant.known)
-    (subst (IsGoing IsType IsValue context first scope loop.reached (told_keys loop.told)) c.in-Some.ensures.items loop.invariant)))
+    (subst (λ z. IsGoing IsType IsValue context first z loop.reached (memo_of loop.told) (popped ++ entry ∷ [])) (sym loop.invariant.known)
+    (subst (IsGoing IsType IsValue context first scope loop.reached (memo_of loop.told)) c.in-Some.ensures.items loop.invariant)))
 
 pub loop-entry-smaller : goal.loop-entry-smaller
 loop-entry-smaller g c =

@@ -1,7 +1,7 @@
 use Rattle.std.proofs.Common.{[], ◌∷◌, sym, subst}
 use Rattle.std.proofs.lemmas.Result.{on_ok_weaker}
 use Rattle.pattern_matrix.proofs.HandingOn.{here}
-use Rattle.usefulness.specs.Keys.{told_keys}
+use Rattle.usefulness.specs.Memo.{memo_of}
 use Rattle.usefulness.specs.Stack.{IsOpened, IsTaken, opened_views, todo_view, todo_views}
 use Rattle.usefulness.specs.States.{child_views, frame_view, is_noted, scope_of}
 use Rattle.usefulness.specs.Told.{IsPinned, IsStep}
@@ -17,7 +17,7 @@ look_at-requires-clause-fit g c =
     let scope = scope_of c.args.reached.now in
     let old = c.args.reached.now in
     let mid = c.next_rows.new.reached in
-    let keys = told_keys c.args.told.now in
+    let memo = memo_of c.args.told.now in
     let before = c.args.todo.now.items in
     let entry = c.args.entry in
     let after = c.next_rows.new.todo.items in
@@ -37,12 +37,12 @@ returns-in-None-clause-going g c = λ first going.
     let scope = scope_of c.args.reached.now in
     let old = c.args.reached.now in
     let mid = c.next_rows.new.reached in
-    let keys = told_keys c.args.told.now in
+    let memo = memo_of c.args.told.now in
     let before = c.args.todo.now.items in
     let entry = c.args.entry in
     let after = c.next_rows.new.todo.items in
     let taken = subst (λ o. IsTaken IsType IsValue context scope (is_noted old) (is_noted mid) entry before after (child_views o)) c.in-None.is c.in_ok-next_rows.ensures.taken in
-    goes_past IsType IsValue context scope old keys before entry mid after first taken c.in_ok-next_rows.ensures.scope going
+    goes_past IsType IsValue context scope old memo before entry mid after first taken c.in_ok-next_rows.ensures.scope going
 
 pub returns-in-None-clause-less : goal.returns-in-None-clause-less
 returns-in-None-clause-less g c =
@@ -53,12 +53,12 @@ returns-in-None-clause-less g c =
     let scope = scope_of c.args.reached.now in
     let old = c.args.reached.now in
     let mid = c.next_rows.new.reached in
-    let keys = told_keys c.args.told.now in
+    let memo = memo_of c.args.told.now in
     let before = c.args.todo.now.items in
     let entry = c.args.entry in
     let after = c.next_rows.new.todo.items in
     let taken = subst (λ o. IsTaken IsType IsValue context scope (is_noted old) (is_noted mid) entry before after (child_views o)) c.in-None.is c.in_ok-next_rows.ensures.taken in
-    less_past IsType IsValue context scope old keys before entry mid after taken
+    less_past IsType IsValue context scope old memo before entry mid after taken
 
 pub returns-in_ok-opened-in-Some-clause-going : goal.returns-in_ok-opened-in-Some-clause-going
 returns-in_ok-opened-in-Some-clause-going g c =
@@ -69,7 +69,7 @@ returns-in_ok-opened-in-Some-clause-going g c =
     let scope = scope_of c.args.reached.now in
     let old = c.args.reached.now in
     let mid = c.next_rows.new.reached in
-    let keys = told_keys c.args.told.now in
+    let memo = memo_of c.args.told.now in
     let before = c.args.todo.now.items in
     let entry = c.args.entry in
     let after = c.next_rows.new.todo.items in
@@ -82,9 +82,9 @@ returns-in_ok-opened-in-Some-clause-going g c =
     let last = c.add_opened.new.todo.items in
     on_ok_weaker c.add_opened.result
     (λ e first going.
-    goes_on IsType IsValue context scope old keys before entry mid after f taken now o opened last e first (told_keys c.keep_count.new.told) same c.in_ok-opened-in-Some.ensures.scope c.in_ok-opened-in-Some.ensures.grow
-    (subst (λ ks. IsStep IsType IsValue context scope (is_noted mid) (is_noted now) (frame_view f) (opened_views context o) keys ks) (sym c.keep_count.ensures)
-    (subst (λ z. IsStep IsType IsValue context z (is_noted mid) (is_noted now) (frame_view f) (opened_views context o) keys (told_keys c.look_at.new.told)) same c.in_ok-opened-in-Some.ensures.stepped)) going)
+    goes_on IsType IsValue context scope old memo before entry mid after f taken now o opened last e first (memo_of c.keep_count.new.told) same c.in_ok-opened-in-Some.ensures.scope c.in_ok-opened-in-Some.ensures.grow
+    (subst (λ ks. IsStep IsType IsValue context scope (is_noted mid) (is_noted now) (frame_view f) (opened_views context o) memo ks) (sym c.keep_count.ensures)
+    (subst (λ z. IsStep IsType IsValue context z (is_noted mid) (is_noted now) (frame_view f) (opened_views context o) memo (memo_of c.look_at.new.told)) same c.in_ok-opened-in-Some.ensures.stepped)) going)
     c.add_opened.ensures
 
 pub returns-in_ok-opened-in-Some-clause-less : goal.returns-in_ok-opened-in-Some-clause-less
@@ -96,7 +96,7 @@ returns-in_ok-opened-in-Some-clause-less g c =
     let scope = scope_of c.args.reached.now in
     let old = c.args.reached.now in
     let mid = c.next_rows.new.reached in
-    let keys = told_keys c.args.told.now in
+    let memo = memo_of c.args.told.now in
     let before = c.args.todo.now.items in
     let entry = c.args.entry in
     let after = c.next_rows.new.todo.items in
@@ -108,5 +108,5 @@ returns-in_ok-opened-in-Some-clause-less g c =
     let opened = subst (λ z. IsOpened IsType IsValue context z (is_noted now) o) same c.in_ok-opened-in-Some.ensures.good in
     let last = c.add_opened.new.todo.items in
     on_ok_weaker c.add_opened.result
-    (λ e. less_on IsType IsValue context scope old keys before entry mid after f taken now o opened last e c.in_ok-opened-in-Some.ensures.lighter)
+    (λ e. less_on IsType IsValue context scope old memo before entry mid after f taken now o opened last e c.in_ok-opened-in-Some.ensures.lighter)
     c.add_opened.ensures
