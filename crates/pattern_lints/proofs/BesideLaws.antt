@@ -100,7 +100,7 @@ head-part p j (Some q) s e = matches-part p j q s (sym e)
 int-itself : (x : ℤ) → int_le x x ≡ true
 int-itself x = grind (arith, ints)
 
-in-itself : (x : ℤ) → in_range (closed x x) x ≡ true
+pub in-itself : (x : ℤ) → in_range (closed x x) x ≡ true
 in-itself x = ap (λ b. b && int_le x x) (int-itself x) ∙ int-itself x
 
 built-number : (c : MCtor) (v : MValue) → builds [] c v ≡ true → in_range (own_range c) (own_number v) ≡ true

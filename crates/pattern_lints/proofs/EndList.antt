@@ -8,7 +8,7 @@ use Rattle.std.proofs.lemmas.List.Sorted.{IsPermutation-sym, Contains-permutatio
 use Rattle.match_model.specs.Numbers.{At}
 use Rattle.match_model.specs.ArenaPatterns.{MDeArm}
 use Rattle.range_split.specs.Numbers.{num_value}
-use Rattle.pattern_lints.specs.declared.beside.Column.{Column}
+use Rattle.pattern_lints.specs.declared.mixing.Columns.{Columns}
 use Rattle.pattern_lints.specs.declared.ends.Side.{Side}
 use Rattle.pattern_lints.specs.declared.ends.RangeEnd.{RangeEnd}
 use Rattle.pattern_lints.specs.Finding.{RangeView}
@@ -89,10 +89,10 @@ ends-all side fs n ends l h = record { each = h.each; all = λ i f x k at end. h
 
 -- ---- what stands beside the ranges
 
-pub bounded-none : {T : Type 0} (arms : List (MDeArm T)) (columns : List Column) (fs : List RangeView) → AreBounded arms columns fs []
+pub bounded-none : {T : Type 0} (arms : List (MDeArm T)) (columns : List Columns) (fs : List RangeView) → AreBounded arms columns fs []
 bounded-none arms columns fs = λ e c. absurd (nothing-in e c)
 
-pub bounded-push : {T : Type 0} (arms : List (MDeArm T)) (columns : List Column) (fs : List RangeView) (ends : List RangeEnd) (f : RangeView) (a : MDeArm T) (e : RangeEnd) → slice_get fs e.index ≡ Some f →
+pub bounded-push : {T : Type 0} (arms : List (MDeArm T)) (columns : List Columns) (fs : List RangeView) (ends : List RangeEnd) (f : RangeView) (a : MDeArm T) (e : RangeEnd) → slice_get fs e.index ≡ Some f →
     slice_get arms f.arm ≡ Some a → IsBetween columns a.pat f (num_value e.from) (num_value e.to) → AreBounded arms columns fs ends → AreBounded arms columns fs (ends ++ e ∷ [])
 bounded-push {T} arms columns fs ends f a e there arm between h = λ m c. elim (Contains-push_cases ends e m c) [
   | inl old ↦ h m old
@@ -103,6 +103,6 @@ bounded-push {T} arms columns fs ends f a e there arm between h = λ m c. elim (
       (subst (λ (y : RangeView). IsBetween columns a.pat y (num_value e.from) (num_value e.to)) range between))
 ]
 
-pub bounded-moved : {T : Type 0} (arms : List (MDeArm T)) (columns : List Column) (fs : List RangeView) (ends moved : List RangeEnd) → IsPermutation ends moved → AreBounded arms columns fs ends →
+pub bounded-moved : {T : Type 0} (arms : List (MDeArm T)) (columns : List Columns) (fs : List RangeView) (ends moved : List RangeEnd) → IsPermutation ends moved → AreBounded arms columns fs ends →
     AreBounded arms columns fs moved
 bounded-moved arms columns fs ends moved p h = λ e c. h e (Contains-permutation moved ends e (IsPermutation-sym ends moved p) c)

@@ -8,7 +8,7 @@ use Rattle.match_model.specs.Numbers.{At}
 use Rattle.match_model.specs.Overlaps.{MOverlap}
 use Rattle.match_model.specs.ArenaPatterns.{MDeMatch}
 use Rattle.range_split.specs.Numbers.{num_value}
-use Rattle.pattern_lints.specs.declared.beside.Column.{Column}
+use Rattle.pattern_lints.specs.declared.mixing.Columns.{Columns}
 use Rattle.pattern_lints.specs.declared.ends.Side.{Side}
 use Rattle.pattern_lints.specs.declared.ends.Side.TheVariants.{Low, High}
 use Rattle.pattern_lints.specs.declared.ends.RangeEnd.{RangeEnd}
@@ -118,7 +118,7 @@ module _ {T : Type 0} (IsValue : T → Bool → MValue → Type 0) (m : MDeMatch
         },
       )
 
-  module _ (columns : List Column) (high-bounded : AreBounded m.arms columns fs highs) (low-bounded : AreBounded m.arms columns fs lows) where
+  module _ (columns : List Columns) (high-bounded : AreBounded m.arms columns fs highs) (low-bounded : AreBounded m.arms columns fs lows) where
     -- a pair is one from a high end, or from a low one
     from-one : (o : MOverlap) → IsPairIn IsValue m fs o → IsPairFrom IsValue m fs High highs lows o ⊎ IsPairFrom IsValue m fs Low lows highs o
     from-one o (f, inside, p) =

@@ -6,13 +6,14 @@ use Rattle.match_model.specs.Values.{MValue}
 use Rattle.match_model.specs.Numbers.{MEnd, MRange, At}
 use Rattle.match_model.specs.ArenaPatterns.{MDePat, MDeArm}
 use Rattle.range_split.specs.Numbers.{num_value}
-use Rattle.pattern_lints.specs.declared.beside.Column.{Column}
+use Rattle.pattern_lints.specs.declared.mixing.Columns.{Columns}
 use Rattle.pattern_lints.specs.declared.ends.Side.{Side}
 use Rattle.pattern_lints.specs.declared.ends.Side.TheVariants.{Low, High}
 use Rattle.pattern_lints.specs.declared.ends.RangeEnd.{RangeEnd}
 use Rattle.pattern_lints.specs.Along.{MeetsAlong}
 use Rattle.pattern_lints.specs.Beside.{number_beside, held_of}
 use Rattle.pattern_lints.specs.Finding.{RangeView}
+use Rattle.pattern_lints.specs.Mixing.{number_of}
 
 -- the end of the range on the side
 abbrev pub end_at : Side → MRange → MEnd
@@ -24,11 +25,11 @@ abbrev pub across : Side → Side
 across Low = High
 across High = Low
 
--- the number in the column of the place; where the place has none, the value's own
-abbrev pub number_in : List Column → (place : ℕ) → (position : List ℕ) → MValue → ℤ
+-- the number in the columns of the place; where the place has none, the value's own
+abbrev pub number_in : List Columns → (place : ℕ) → (position : List ℕ) → MValue → ℤ
 number_in columns place position v = elim (slice_get columns place) [
   | None ↦ number_beside 0 [] position v
-  | Some c ↦ number_beside c.depth c.steps.items position v
+  | Some c ↦ number_of c position v
 ]
 
 -- the end is that of the range with its index, at its place
@@ -47,20 +48,20 @@ pub record AreEndsTo (side : Side) (fs : List RangeView) (n : ℕ) (ends : List 
 abbrev pub AreEnds : Side → List RangeView → List RangeEnd → Type 0
 AreEnds side fs ends = AreEndsTo side fs (length fs) ends
 
--- in each value that is matched along the path of the range, its number in the column of the place is between the two
-abbrev pub IsBetween : {T : Type 0} → List Column → MDePat T → RangeView → (from to : ℤ) → Type 0
+-- in each value that is matched along the path of the range, its number in the columns of the place is between the two
+abbrev pub IsBetween : {T : Type 0} → List Columns → MDePat T → RangeView → (from to : ℤ) → Type 0
 IsBetween columns p f from to =
     (v : MValue) (position : List ℕ) (at : ℕ) (s : MRange) → MeetsAlong p f.path v position at s →
     IsTrue (int_le from (held_of (number_in columns f.place position v))) × IsTrue (int_le (held_of (number_in columns f.place position v)) to)
 
--- the end's two numbers bound the number in the column
-abbrev pub IsBounded : {T : Type 0} → List (MDeArm T) → List Column → List RangeView → RangeEnd → Type 0
+-- the end's two numbers bound the number in the columns
+abbrev pub IsBounded : {T : Type 0} → List (MDeArm T) → List Columns → List RangeView → RangeEnd → Type 0
 IsBounded {T} arms columns fs e =
     (f : RangeView) (a : MDeArm T) → slice_get fs e.index ≡ Some f → slice_get arms f.arm ≡ Some a →
     IsBetween columns a.pat f (num_value e.from) (num_value e.to)
 
 -- so do those of each end of the list
-abbrev pub AreBounded : {T : Type 0} → List (MDeArm T) → List Column → List RangeView → List RangeEnd → Type 0
+abbrev pub AreBounded : {T : Type 0} → List (MDeArm T) → List Columns → List RangeView → List RangeEnd → Type 0
 AreBounded arms columns fs ends = (e : RangeEnd) → Contains ends e → IsBounded arms columns fs e
 
 -- by places, and where they are one by what follows

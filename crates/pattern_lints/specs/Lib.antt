@@ -6,5 +6,6 @@ pub mod Spots
 pub mod Pairs
 pub mod Finding
 pub mod Beside
+pub mod Mixing
 pub mod Ends
 pub mod Pairing

@@ -28,15 +28,15 @@ pub(crate) struct Column {
     pub(crate) steps: Vec<usize>,
 }
 
-// The range of all numbers.
-fn all_numbers() -> Range
+/// The range of all numbers.
+pub(crate) fn all_numbers() -> Range
     ensures { plain_range result ≡ record { low = Free; high = Free } }
 {
     Range::between(&End::Free, &End::Free)
 }
 
-// The range of one number.
-fn one_number(number: u128) -> Range
+/// The range of one number.
+pub(crate) fn one_number(number: u128) -> Range
     ensures { plain_range result ≡ closed (pos number) (pos number) }
 {
     let at = End::At(Num::new(false, number));

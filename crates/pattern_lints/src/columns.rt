@@ -1,11 +1,13 @@
-// Which column tells the rows of the ranges of a place apart.
+// Which columns tell the rows of the ranges of a place apart.
 //
-// Whichever column is taken, the same overlaps are found: it says only how many pairs of ranges are asked. One is looked
+// Whichever columns are taken, the same overlaps are found: it says only how many pairs of ranges are asked. One is looked
 // for only at places where more pairs touch than there are ranges. Some ranges of a place, spread over all of them, are
-// compared, and the column is taken in which most neighbours have no common number.
-use crate::beside::{Column, numbers_beside, stands_first};
+// compared, and the column is taken in which most pairs of them have no common number, or all columns together in which
+// each of them has one number.
+use crate::beside::{Column, stands_first};
 use crate::ends::RangeEnd;
 use crate::found::FoundRange;
+use crate::mixing::{Columns, numbers_in};
 use crate::places::{is_or, nth};
 use no_memory::NoMemory;
 use pat_context::Ctor;
@@ -228,16 +230,16 @@ fn add_beside<'a, T: Copy>(
     add_beside(trying, sub, rest, depth.saturating_add(1))
 }
 
-// The numbers of the range with the index in the column.
-fn numbers_in<'a, T: Copy>(
+// The numbers of the range with the index in the columns.
+fn numbers_at<'a, T: Copy>(
     arms: &'a [CheckedArm<'a, T>],
     found: &[FoundRange],
-    column: &Column,
+    columns: &Columns,
     index: usize,
 ) -> Option<Range> {
     let range = found.get(index)?;
     let arm = arms.get(range.arm)?;
-    Some(numbers_beside(&arm.pat, &range.path, column.depth, &column.steps))
+    Some(numbers_in(&arm.pat, &range.path, columns))
 }
 
 // Tells whether there are numbers of both, and none is one of both.
@@ -248,23 +250,33 @@ fn are_apart(first: &Option<Range>, second: &Option<Range>) -> bool {
     }
 }
 
-// How many neighbours among the compared ranges have no common number in the column.
-fn count_apart<'a, T: Copy>(
-    arms: &'a [CheckedArm<'a, T>],
-    found: &[FoundRange],
-    column: &Column,
-    compared: &[usize],
-) -> usize {
+// How many of the numbers have none in common with those here.
+fn count_others(numbers: &[Option<Range>], here: &Option<Range>) -> usize {
     let mut count: usize = 0;
-    let mut before = None;
-    for index in compared {
-        let here = numbers_in(arms, found, column, *index);
-        if are_apart(&before, &here) {
+    for other in numbers {
+        if are_apart(other, here) {
             count = count.saturating_add(1);
         }
-        before = here;
     }
     count
+}
+
+// How many pairs of the compared ranges have no common number in the columns.
+fn count_apart<'a, T: Copy>(
+    alloc: Global,
+    arms: &'a [CheckedArm<'a, T>],
+    found: &[FoundRange],
+    columns: &Columns,
+    compared: &[usize],
+) -> Result<usize, NoMemory> {
+    let mut numbers = Vec::with_capacity(alloc, compared.len())?;
+    let mut count: usize = 0;
+    for index in compared {
+        let here = numbers_at(arms, found, columns, *index);
+        count = count.saturating_add(count_others(&numbers, &here));
+        numbers.push(here)?;
+    }
+    Ok(count)
 }
 
 // The columns beside the first of the ranges that has some.
@@ -290,29 +302,97 @@ fn columns_of<'a, T: Copy>(
     Ok(trying.columns)
 }
 
-// The column that tells most of the compared ranges apart; the scrutinee itself, where none does.
-fn choose_column<'a, T: Copy>(
+// Tells whether each of the compared ranges has one number in the columns.
+fn are_sharp<'a, T: Copy>(
+    arms: &'a [CheckedArm<'a, T>],
+    found: &[FoundRange],
+    columns: &Columns,
+    compared: &[usize],
+) -> bool {
+    for index in compared {
+        match numbers_at(arms, found, columns, *index) {
+            Some(numbers) => {
+                if !numbers.is_single() {
+                    return false;
+                }
+            }
+            None => return false,
+        }
+    }
+    true
+}
+
+// The same column once more.
+fn copy_of(alloc: Global, column: &Column) -> Result<Column, NoMemory> {
+    let steps = Vec::from_slice(alloc, &column.steps)?;
+    Ok(Column {
+        depth: column.depth,
+        steps,
+    })
+}
+
+// One column by itself.
+fn alone(alloc: Global, column: Column) -> Columns {
+    Columns {
+        first: column,
+        others: Vec::new(alloc),
+    }
+}
+
+// The columns together, where they tell more of the compared ranges apart than so many; else the best one.
+fn together<'a, T: Copy>(
     alloc: Global,
     arms: &'a [CheckedArm<'a, T>],
     found: &[FoundRange],
     compared: &[usize],
-) -> Result<Column, NoMemory> {
-    let mut best = Column {
-        depth: 0,
-        steps: Vec::new(alloc),
+    sharp: Vec<Column>,
+    best: (Columns, usize),
+) -> Result<Columns, NoMemory> {
+    let (best, most) = best;
+    let mut others = sharp;
+    let Some(first) = others.pop() else {
+        return Ok(best);
     };
-    let mut most = 0;
-    for column in columns_of(alloc, arms, found, compared)? {
-        let count = count_apart(arms, found, &column, compared);
-        if count > most {
-            most = count;
-            best = column;
-        }
+    let all = Columns { first, others };
+    if count_apart(alloc, arms, found, &all, compared)? > most {
+        Ok(all)
+    } else {
+        Ok(best)
     }
-    Ok(best)
 }
 
-/// A column for each place of a range, by its number; none at all where no place is worth one. The ends are those of the
+// The columns that tell most pairs of the compared ranges apart: one, or all together in which each has one number. The
+// scrutinee itself, where none tells any.
+fn choose<'a, T: Copy>(
+    alloc: Global,
+    arms: &'a [CheckedArm<'a, T>],
+    found: &[FoundRange],
+    compared: &[usize],
+) -> Result<Columns, NoMemory> {
+    let mut best = alone(
+        alloc,
+        Column {
+            depth: 0,
+            steps: Vec::new(alloc),
+        },
+    );
+    let mut sharp = Vec::new(alloc);
+    let mut most = 0;
+    for column in columns_of(alloc, arms, found, compared)? {
+        let own = alone(alloc, column);
+        let count = count_apart(alloc, arms, found, &own, compared)?;
+        if are_sharp(arms, found, &own, compared) {
+            sharp.push(copy_of(alloc, &own.first)?)?;
+        }
+        if count > most {
+            most = count;
+            best = own;
+        }
+    }
+    together(alloc, arms, found, compared, sharp, (best, most))
+}
+
+/// The columns for each place of a range, by its number; none at all where no place is worth any. The ends are those of the
 /// ranges, by place and number. The only error is want of memory.
 pub(crate) fn choose_columns<'a, T: Copy>(
     alloc: Global,
@@ -320,7 +400,7 @@ pub(crate) fn choose_columns<'a, T: Copy>(
     found: &[FoundRange],
     highs: &[RangeEnd],
     lows: &[RangeEnd],
-) -> Result<Vec<Column>, NoMemory> {
+) -> Result<Vec<Columns>, NoMemory> {
     let mut columns = Vec::new(alloc);
     if found.len() < CROWD {
         return Ok(columns);
@@ -333,7 +413,7 @@ pub(crate) fn choose_columns<'a, T: Copy>(
     }
     take_compared(&mut crowds, found)?;
     for crowd in &crowds {
-        columns.push(choose_column(alloc, arms, found, &crowd.compared)?)?;
+        columns.push(choose(alloc, arms, found, &crowd.compared)?)?;
     }
     Ok(columns)
 }

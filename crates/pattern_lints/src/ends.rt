@@ -9,8 +9,9 @@ ghost use Rattle.pattern_lints.specs.Finding.{AreFoundIn, range_view};
 ghost use Rattle.pattern_lints.specs.Ends.{end_at, is_high, is_under, AreBounded, AreEnds, IsBetween, IsCount, IsRun};
 ghost use Rattle.pattern_lints.specs.Ends.{Rise, is_before};
 
-use crate::beside::{Column, bounds, numbers_beside};
+use crate::beside::{bounds, numbers_beside};
 use crate::found::FoundRange;
+use crate::mixing::{Columns, numbers_in};
 use no_memory::NoMemory;
 use pattern_arena::{CheckedArm, DePat};
 use range_split::{End, Num, Range};
@@ -29,7 +30,7 @@ pub(crate) struct RangeEnd {
     // The number of the range's place.
     pub(crate) place: usize,
     pub(crate) number: Num,
-    // Between these two lies the number in the column beside the range.
+    // Between these two lies the number in the columns beside the range.
     pub(crate) from: Num,
     pub(crate) to: Num,
     // The index of the range.
@@ -70,18 +71,18 @@ fn end_of(range: &Range, side: Side) -> End
     }
 }
 
-// Between which numbers lies the number in the column of the range's place.
+// Between which numbers lies the number in the columns of the range's place.
 fn bounds_beside<'a, T: Copy>(
     p: &'a DePat<'a, T>,
     range: &FoundRange,
-    columns: &[Column],
+    columns: &[Columns],
 ) -> (Num, Num)
     ensures { IsBetween columns.now (tree p.entry.now) (range_view range.now) (num_value result.0)
         (num_value result.1) }
 {
     match columns.get(range.place) {
         None => bounds(&numbers_beside(p, &range.path, 0, &[])),
-        Some(column) => bounds(&numbers_beside(p, &range.path, column.depth, &column.steps)),
+        Some(own) => bounds(&numbers_in(p, &range.path, own)),
     }
 }
 
@@ -90,7 +91,7 @@ fn ends_found<'a, T: Copy>(
     alloc: Global,
     arms: &'a [CheckedArm<'a, T>],
     found: &[FoundRange],
-    columns: &[Column],
+    columns: &[Columns],
     side: Side,
 ) -> Result<Vec<RangeEnd>, NoMemory>
     requires { AreFoundIn (map plain_arm arms.now) (map range_view found.now) }
@@ -120,7 +121,7 @@ pub(crate) fn sorted_ends<'a, T: Copy>(
     alloc: Global,
     arms: &'a [CheckedArm<'a, T>],
     found: &[FoundRange],
-    columns: &[Column],
+    columns: &[Columns],
     side: Side,
 ) -> Result<Vec<RangeEnd>, NoMemory>
     requires { AreFoundIn (map plain_arm arms.now) (map range_view found.now) }
@@ -139,7 +140,7 @@ pub(crate) fn sorted_again<'a, T: Copy>(
     alloc: Global,
     arms: &'a [CheckedArm<'a, T>],
     found: &[FoundRange],
-    columns: &[Column],
+    columns: &[Columns],
     side: Side,
     ends: Vec<RangeEnd>,
 ) -> Result<Vec<RangeEnd>, NoMemory>

@@ -17,6 +17,7 @@ mod found;
 mod lengths;
 mod list;
 mod meeting;
+mod mixing;
 mod pairs;
 mod places;
 mod spots;

@@ -1,12 +1,12 @@
 use Rattle.std.proofs.Common.{◌≡◌, true, List, [], ◌∷◌, ◌∙◌, map, length, nat_eq, refl, sym, subst, arith}
 use Rattle.std.proofs.lemmas.Bool.{eqb-true}
 use Rattle.pattern_arena.specs.Trees.{plain_arm}
-use Rattle.pattern_lints.specs.declared.beside.Column.{Column}
+use Rattle.pattern_lints.specs.declared.mixing.Columns.{Columns}
 use Rattle.pattern_lints.specs.Finding.{range_view}
 use Rattle.pattern_lints.specs.Ends.{AreBounded}
 use Rattle.pattern_lints.proofs.ends.sorted_again.Goals as goal
 
-no_columns : (cs : List Column) → nat_eq (length cs) 0 ≡ true → cs ≡ []
+no_columns : (cs : List Columns) → nat_eq (length cs) 0 ≡ true → cs ≡ []
 no_columns [] e = refl
 no_columns (c ∷ cs) e =
     let none = eqb-true (length (c ∷ cs)) 0 e in

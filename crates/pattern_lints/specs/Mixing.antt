@@ -1,0 +1,27 @@
+-- The number in several columns beside a range (our own choice).
+use Rattle.std.specs.Prelude.{ℕ, ◌+◌, ◌*◌, ◌%◌, ℤ, pos, nat_abs, List, [], ◌∷◌, IsTrue}
+use Rattle.match_model.specs.Values.{MValue}
+use Rattle.match_model.specs.Numbers.{MRange, in_range}
+use Rattle.match_model.specs.ArenaPatterns.{MDePat}
+use Rattle.pattern_lints.specs.declared.beside.Column.{Column}
+use Rattle.pattern_lints.specs.declared.mixing.Columns.{Columns}
+use Rattle.pattern_lints.specs.Along.{MeetsAlong}
+use Rattle.pattern_lints.specs.Beside.{number_beside}
+
+-- a number of both, of 64 bits: other pairs seldom have the same
+abbrev pub mix : ℤ → ℤ → ℕ
+mix x y = (nat_abs x * 1099511628211 + nat_abs y) % 18446744073709551616
+
+-- the number mixed with those in the columns, one after the other
+abbrev pub mixed_with : ℤ → List Column → (position : List ℕ) → MValue → ℤ
+mixed_with x [] position v = x
+mixed_with x (c ∷ cs) position v = mixed_with (pos (mix x (number_beside c.depth c.steps.items position v))) cs position v
+
+-- the number in the columns
+abbrev pub number_of : Columns → (position : List ℕ) → MValue → ℤ
+number_of c position v = mixed_with (number_beside c.first.depth c.first.steps.items position v) c.others.items position v
+
+-- in each value that the pattern matches along the path, the number is in the range
+abbrev pub LiesAt : {T : Type 0} → MDePat T → (path : List ℕ) → (List ℕ → MValue → ℤ) → MRange → Type 0
+LiesAt p path number r =
+    (v : MValue) (position : List ℕ) (at : ℕ) (s : MRange) → MeetsAlong p path v position at s → IsTrue (in_range r (number position v))
