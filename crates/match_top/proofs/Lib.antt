@@ -1,4 +1,5 @@
 pub mod Answered
+pub mod Armed
 pub mod DemoNumbers
 pub mod Entries
 pub mod Evaluated
@@ -9,9 +10,11 @@ pub mod Judged
 pub mod Matches
 pub mod Named
 pub mod OneAnswer
+pub mod OneOrder
 pub mod OneOutcome
 pub mod RuleNames
 pub mod ArmsSelected
+pub mod SomeOrder
 pub mod SomeReport
 pub mod Told
 pub mod WithoutTrees

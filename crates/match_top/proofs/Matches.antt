@@ -29,7 +29,7 @@ use Rattle.pattern_lints.specs.Views.{plain_overlaps}
 use Rattle.pattern_matrix.specs.SearchLaws.{IsJudged}
 use Rattle.pattern_rules.specs.ArenaForms.{all_within}
 use Rattle.pattern_rules.specs.Faults.{scrutinee_type}
-use Rattle.pattern_rules.specs.Settings.{program}
+use Rattle.pattern_rules.specs.Settings.{Setting, program}
 use Rattle.pattern_rules.specs.ShownMatches.{IsSoundArm, IsShownMatch}
 use Rattle.tree_eval.specs.Nodes.{tree_nodes}
 use Rattle.tree_eval.specs.declared.tree.Tree.{Tree}
@@ -50,9 +50,9 @@ use Rattle.witnesses.specs.declared.judgement.Unreachable.{Unreachable}
 use Rattle.witnesses.specs.declared.witness.Witness.{Witness}
 use Rattle.match_top.specs.declared.source.Source.{Source}
 use Rattle.match_top.specs.declared.words.Command.{Command}
-use Rattle.match_top.specs.declared.words.Command.TheVariants.{Check, Trees}
-use Rattle.match_top.specs.Reports.{numbered, shown_entry, named_tree, IsShownTree, IsEntry, is_judged}
-use Rattle.match_top.specs.Reporting.{setting_in, IsFineFunction, IsMatchOf, IsVerdictFor, AreOverlapsFor, IsTreeFor, IsFoundOn}
+use Rattle.match_top.specs.declared.words.Command.TheVariants.{Check, Trees, Arms}
+use Rattle.match_top.specs.Reports.{NumberedFunction, numbered, shown_entry, named_tree, IsShownTree, IsJudgedFunction, IsFineEntry, IsEntry, is_judged}
+use Rattle.match_top.specs.Reporting.{setting_in, IsFineFunction, IsMatchOf, IsVerdictFor, AreOverlapsFor, IsTreeFor, AsksForFindings, IsFoundOn}
 use Rattle.match_top.proofs.Entries.{contains_at}
 
 -- each arm of a function that breaks no rule is sound
@@ -134,6 +134,7 @@ shown_tree : (command : Command) (x : Source) (items : List ItemTree) (f : Funct
     → table_program x.table.now ≡ program (setting_in x items) → table_type x.table.now ty ≡ scrutinee_type (setting_in x items) f
     → IsTreeFor command x items f made → tree ≡ table_named x ty made → IsShownTree command (setting_in x items) f tree
 shown_tree Check x items f ty made tree program_is type_is is named = named ∙ ap (table_named x ty) is
+shown_tree Arms x items f ty made tree program_is type_is is named = named ∙ ap (table_named x ty) is
 shown_tree Trees x items f ty made tree program_is type_is is named = (
   tree_nodes is.0,
   is.2,
@@ -141,6 +142,12 @@ shown_tree Trees x items f ty made tree program_is type_is is named = (
       ∙ ap (λ (p : MProgram). Some (map (named_node p (table_type x.table.now ty)) (tree_nodes is.0))) program_is
       ∙ ap (λ (t : MType). Some (map (named_node (program (setting_in x items)) t) (tree_nodes is.0))) type_is,
 )
+
+-- what is found of a function is its entry where a command asks for findings
+fine_entry : (command : Command) (s : Setting) (f : NumberedFunction) (e : ReportEntry) → AsksForFindings command → IsJudgedFunction command s f.function e → IsFineEntry command s f e
+fine_entry Check s f e asked h = h
+fine_entry Trees s f e asked h = h
+fine_entry Arms s f e asked h = absurd asked
 
 -- a report on a function that shows what was found of it is its entry
 pub judged_entry : (command : Command) (x : Source) (items : List ItemTree) (number : ℕ) (f : FunctionTree) (ty : TyId) (j : Judgement) (overlaps : List Overlap) (made : Option Tree)
@@ -162,7 +169,7 @@ judged_entry command x items number f ty j overlaps made name tree vs found name
     ∙ ap (λ (t : MType). map (named_witness (program s) t) ws) found.type_is in
     let entry : List ℕ → List UnreachableTree → List WitnessTree → ReportEntry =
     λ n es vs. JudgedFunction (record { name = n; exhaustive = j.exhaustive; overlaps = map overlap_view overlaps; tree = tree; unreachable = es; witnesses = vs }) in
-    is_judged (record {
+    is_judged (fine_entry command s (numbered number f) (entry name us vs) found.asked (record {
       fine = found.fine.fine;
       exhaustive = j.exhaustive;
       unreachable = map by_offset es;
@@ -176,4 +183,4 @@ judged_entry command x items number f ty j overlaps made name tree vs found name
           ap (λ (n : List ℕ). entry n us vs) name_is
           ∙ ap (λ (es : List UnreachableTree). entry f.name es vs) shown
           ∙ ap (λ (vs : List WitnessTree). entry f.name (map shown_entry (map by_offset es)) vs) named;
-    })
+    }))

@@ -16,23 +16,28 @@ use Rattle.pattern_laws.specs.OverlapLaws.{OverlapListOnIsOne}
 use Rattle.pattern_laws.specs.JudgedLaws.{VerdictIsOne}
 use Rattle.pattern_laws.specs.TreeLaws.{TreeOnIsOne}
 use Rattle.pattern_rules.specs.FirstFault.{PatternFault, AnswerIsOne}
-use Rattle.pattern_rules.specs.Settings.{Setting}
+use Rattle.pattern_rules.specs.Faults as patterns
+use Rattle.pattern_rules.specs.Faults.{scrutinee_type}
+use Rattle.pattern_rules.specs.Settings.{Setting, program}
 use Rattle.decl_syntax.specs.Functions.{FunctionTree}
 use Rattle.match_model.specs.Overlaps.{MOverlap}
 use Rattle.match_model.specs.Trees.{MNode}
 use Rattle.tree_text.specs.Trees.{NodeTree}
 use Rattle.value_syntax.specs.Laws.{OneWritten}
-use Rattle.verdict_json.specs.Report.{ReportEntry, JudgedFunction, RefusedFunction, report_text}
+use Rattle.verdict_json.specs.Report.{ReportEntry, JudgedFunction, RefusedFunction, ArmedFunction, report_text}
 use Rattle.verdict_json.specs.Summaries.{IsSummary, summary_text}
 use Rattle.verdict_json.specs.declared.summary.Summary.{Summary}
 use Rattle.match_top.specs.declared.statuses.Status.{Status}
 use Rattle.match_top.specs.declared.words.Command.{Command}
-use Rattle.match_top.specs.declared.words.Command.TheVariants.{Check, Trees}
+use Rattle.match_top.specs.declared.words.Command.TheVariants.{Check, Trees, Arms}
 use Rattle.match_top.specs.Answers.{Answers, IsJudged, IsAnswerToTokens, IsAnswerToItems, IsDone, longest_source}
 use Rattle.match_top.specs.Refusals.{IsRefusedIn, IsRefusedAt, IsRefusedBy}
 use Rattle.match_top.specs.Words.{QuestionForm, RequestForm, ReportForm, OutcomeForm, CountsForm}
+use Rattle.arm_maker.specs.Arms.{AreArms, patterns_of}
+use Rattle.match_top.proofs.OneOrder.{one_order}
 use Rattle.match_top.proofs.OneOutcome.{Same, evaluated_same}
 use Rattle.match_top.specs.Reports.{NumberedFunction, setting_of, refusal_of, named_tree, IsShownTree, report_of, IsJudgedFunction, IsRefusedFunction}
+use Rattle.match_top.specs.Reports.{ShowsArms, has_arms, is_too_large, IsArmedFunction, IsFineEntry}
 use Rattle.match_top.specs.Reports.{IsEntry, is_refused, is_judged, is_clean, IsReported, IsCounted, arms_of, functions_of, status_of}
 use Rattle.match_top.specs.Laws.{OneFirstFault}
 
@@ -104,6 +109,33 @@ summary_same arms es x y a b =
 abbrev refused : NumberedFunction → PatternFault → ReportEntry
 refused f x = RefusedFunction f.function.name (refusal_of f.number x.rule x.arm x.at)
 
+-- witnesses ask for the arms of one list of texts
+texts_same : (s : Setting) (f : FunctionTree) (ws : List MWitness) (texts others : List (List ℕ)) → AreArms (program s) (scrutinee_type s f) ws texts
+    → AreArms (program s) (scrutinee_type s f) ws others → texts ≡ others
+texts_same s f ws texts others a b =
+    a.texts_are
+    ∙ ap (patterns_of (program s) (scrutinee_type s f)) (one_order (program s) (scrutinee_type s f) ws a.sorted b.sorted a.in_order b.in_order)
+    ∙ sym b.texts_are
+
+true_is_false : {A : Type 0} → true ≡ false → A
+true_is_false e = absurd (not_same e)
+  where
+    not_same : true ≡ false → ⊥
+    not_same e = cc
+
+-- so one entry shows them
+arms_same : (s : Setting) (number : ℕ) (f : FunctionTree) (ws : List MWitness) (e d : ReportEntry) → ShowsArms s number f ws e → ShowsArms s number f ws d → e ≡ d
+arms_same s number f ws e d (has_arms texts a is) (has_arms others b other) = is ∙ ap (ArmedFunction f.name) (texts_same s f ws texts others a b) ∙ sym other
+arms_same s number f ws e d (has_arms texts a is) (is_too_large b other) = true_is_false (sym a.small ∙ b)
+arms_same s number f ws e d (is_too_large a is) (has_arms others b other) = true_is_false (sym b.small ∙ a)
+arms_same s number f ws e d (is_too_large a is) (is_too_large b other) = is ∙ sym other
+
+-- where a function has the entry of one that breaks no rule, it breaks none
+fine_of : (command : Command) (s : Setting) (f : NumberedFunction) (e : ReportEntry) → IsFineEntry command s f e → patterns.BreaksNone s f.function
+fine_of Check s f e h = h.fine
+fine_of Trees s f e h = h.fine
+fine_of Arms s f e h = h.fine
+
 -- what the laws of rules and of verdicts tell of entries
 module _ (answer_is_one : AnswerIsOne) (one_verdict : VerdictIsOne) (one_list : OverlapListOnIsOne) (one_tree : TreeOnIsOne) (command : Command) where
   both_refused : (s : Setting) (f : NumberedFunction) (e d : ReportEntry) → IsRefusedFunction s f.number f.function e → IsRefusedFunction s f.number f.function d
@@ -114,19 +146,20 @@ module _ (answer_is_one : AnswerIsOne) (one_verdict : VerdictIsOne) (one_list : 
       let same : one ≡ other = some_is one other (answer_is_one s f.function (Some one) (Some other) a.fault b.fault) in
       a.tells ∙ ap (refused f) same ∙ sym b.tells
 
-  not_both : (s : Setting) (f : NumberedFunction) (e d : ReportEntry) → IsRefusedFunction s f.number f.function e → IsJudgedFunction command s f.function d → ⊥
+  not_both : (s : Setting) (f : NumberedFunction) (e d : ReportEntry) → IsRefusedFunction s f.number f.function e → IsFineEntry command s f d → ⊥
   not_both s f e d a b =
       let one : PatternFault = record { rule = a.rule; arm = a.arm; at = a.at } in
-      some_is_none one (answer_is_one s f.function (Some one) None a.fault b.fine)
+      some_is_none one (answer_is_one s f.function (Some one) None a.fault (fine_of command s f d b))
 
   -- what is shown of a function's tree is one thing
   tree_same : (c : Command) (s : Setting) (f : FunctionTree) (x y : Option (List NodeTree)) → IsShownTree c s f x → IsShownTree c s f y → x ≡ y
   tree_same Check s f x y a b = a ∙ sym b
+  tree_same Arms s f x y a b = a ∙ sym b
   tree_same Trees s f x y a b =
       a.2 ∙ ap (λ (nodes : List MNode). Some (named_tree s f nodes)) (one_tree s f a.0 b.0 a.1 b.1) ∙ sym b.2
 
-  both_judged : (s : Setting) (f : NumberedFunction) (e d : ReportEntry) → IsJudgedFunction command s f.function e → IsJudgedFunction command s f.function d → e ≡ d
-  both_judged s f e d a b =
+  both_judged : (c : Command) (s : Setting) (f : NumberedFunction) (e d : ReportEntry) → IsJudgedFunction c s f.function e → IsJudgedFunction c s f.function d → e ≡ d
+  both_judged c s f e d a b =
       let v = one_verdict s f.function a.exhaustive b.exhaustive a.unreachable b.unreachable a.witnesses b.witnesses a.verdict b.verdict in
       a.shows
       ∙ ap (λ (x : Bool). JudgedFunction (report_of s f.function x a.overlaps a.tree a.unreachable a.witnesses)) v.0
@@ -135,14 +168,24 @@ module _ (answer_is_one : AnswerIsOne) (one_verdict : VerdictIsOne) (one_list : 
       ∙ ap (λ (os : List MOverlap). JudgedFunction (report_of s f.function b.exhaustive os a.tree b.unreachable b.witnesses))
       (one_list s f.function a.overlaps b.overlaps a.overlaps_are b.overlaps_are)
       ∙ ap (λ (t : Option (List NodeTree)). JudgedFunction (report_of s f.function b.exhaustive b.overlaps t b.unreachable b.witnesses))
-      (tree_same command s f.function a.tree b.tree a.tree_is b.tree_is)
+      (tree_same c s f.function a.tree b.tree a.tree_is b.tree_is)
       ∙ sym b.shows
+
+  both_armed : (s : Setting) (f : NumberedFunction) (e d : ReportEntry) → IsArmedFunction s f.number f.function e → IsArmedFunction s f.number f.function d → e ≡ d
+  both_armed s f e d a b =
+      let v = one_verdict s f.function a.exhaustive b.exhaustive a.unreachable b.unreachable a.witnesses b.witnesses a.verdict b.verdict in
+      arms_same s f.number f.function b.witnesses e d (subst (λ (ws : List MWitness). ShowsArms s f.number f.function ws e) v.2 a.shows) b.shows
+
+  both_fine : (c : Command) (s : Setting) (f : NumberedFunction) (e d : ReportEntry) → IsFineEntry c s f e → IsFineEntry c s f d → e ≡ d
+  both_fine Check s f e d a b = both_judged Check s f e d a b
+  both_fine Trees s f e d a b = both_judged Trees s f e d a b
+  both_fine Arms s f e d a b = both_armed s f e d a b
 
   pub one_entry_of : (s : Setting) (f : NumberedFunction) (e d : ReportEntry) → IsEntry command s f e → IsEntry command s f d → e ≡ d
   one_entry_of s f e d (is_refused a) (is_refused b) = both_refused s f e d a b
   one_entry_of s f e d (is_refused a) (is_judged b) = absurd (not_both s f e d a b)
   one_entry_of s f e d (is_judged a) (is_refused b) = absurd (not_both s f d e b a)
-  one_entry_of s f e d (is_judged a) (is_judged b) = both_judged s f e d a b
+  one_entry_of s f e d (is_judged a) (is_judged b) = both_fine command s f e d a b
 
   same_entries : (s : Setting) (fs : List NumberedFunction) (es ds : List ReportEntry) → AllZip (IsEntry command s) fs es → AllZip (IsEntry command s) fs ds
       → es ≡ ds

@@ -1,27 +1,38 @@
 -- No function of a file is left out of its report.
-use Rattle.std.proofs.Common.{◌≡◌, ◌∙◌, ◌⊎◌, ℕ, zero, suc, ◌+◌, List, [], ◌∷◌, ◌++◌, Option, Some, None, inl, inr, refl, sym, ap, arith}
+use Rattle.std.proofs.Common.{◌≡◌, ◌∙◌, ◌⊎◌, ℕ, zero, suc, ◌+◌, Bool, true, false, List, [], ◌∷◌, ◌++◌, Option, Some, None, inl, inr, refl, sym, ap, arith}
 use Rattle.std.specs.List.{AllZip, list_all, Contains}
-use Rattle.std.specs.Prelude.{slice_get}
+use Rattle.std.specs.Prelude.{slice_get, IsTrue}
+use Rattle.arm_maker.specs.Arms.{are_small, patterns_of}
+use Rattle.arm_maker.proofs.Typed.{IsOfType}
 use Rattle.decl_lexer.specs.Lexing.{Placed, HasTokens}
 use Rattle.decl_parser.specs.FileGrammar.{IsFile}
 use Rattle.decl_syntax.specs.Functions.{FunctionTree}
 use Rattle.decl_syntax.specs.Items.{ArmTree, ItemTree, KindTree, Enum, Struct, Import, Function}
 use Rattle.decl_syntax.specs.Units.{units}
+use Rattle.match_model.specs.Lists.{Every}
+use Rattle.match_model.specs.RustTypes.{is_type}
+use Rattle.match_model.specs.Unreachable.{Entry}
+use Rattle.match_model.specs.Witness.{MWitness}
 use Rattle.pattern_laws.specs.OverlapLaws.{SomeOverlaps}
 use Rattle.pattern_laws.specs.JudgedLaws.{SomeVerdict}
 use Rattle.pattern_laws.specs.ParsedLaws.{FilesAreSound, ParsedFunctionsAreSpelled}
 use Rattle.pattern_laws.specs.TableLaws.{IsSoundFile}
-use Rattle.pattern_rules.specs.Faults.{function_of}
+use Rattle.pattern_rules.specs.Faults as patterns
+use Rattle.pattern_rules.specs.Faults.{function_of, scrutinee_type}
 use Rattle.pattern_rules.specs.FirstFault.{PatternFault, first_fault, IsAnswer, WalkTells}
-use Rattle.pattern_rules.specs.Settings.{Setting}
+use Rattle.pattern_rules.specs.Settings.{Setting, program}
 use Rattle.pattern_rules.specs.ShownMatches.{IsSoundArm}
+use Rattle.pattern_rules.specs.Verdicts.{IsVerdictOn}
 use Rattle.type_table.specs.Faults.{BreaksNone}
-use Rattle.verdict_json.specs.Report.{ReportEntry, JudgedFunction, RefusedFunction, report_text}
+use Rattle.verdict_json.specs.Report.{ReportEntry, JudgedFunction, RefusedFunction, ArmedFunction, report_text}
 use Rattle.match_top.specs.Reports.{NumberedFunction, numbered, function_at, functions_from, functions_of}
-use Rattle.match_top.specs.Reports.{refusal_of, report_of, IsEntry, is_refused, is_judged, is_clean, status_of}
-use Rattle.match_top.specs.declared.words.Command.TheVariants.{Check}
+use Rattle.match_top.specs.Reports.{refusal_of, report_of, too_large, has_arms, is_too_large, IsFineEntry, IsEntry, is_refused, is_judged, is_clean, status_of}
+use Rattle.match_top.specs.declared.words.Command.{Command}
+use Rattle.match_top.specs.declared.words.Command.TheVariants.{Check, Arms}
 use Rattle.match_top.specs.Reporting.{StandsAt}
+use Rattle.match_top.proofs.Armed.{one_first}
 use Rattle.match_top.proofs.Entries.{contains_at}
+use Rattle.match_top.proofs.SomeOrder.{some_order}
 use Rattle.match_top.specs.Laws.{SomeEntry, EachFunctionStands, SomeReport}
 
 -- a function among those of an item and those behind it is the item's, or stands behind
@@ -52,52 +63,96 @@ stands_behind n (x ∷ items) k f there = by (λ j later. stands_behind (n + 1) 
         let number : f.number ≡ (n + 1) + later.0 = later.1 in
         (suc later.0, omega arith, record { item = later.2.item; there = later.2.there; is = later.2.is })
 
+each_contained : (P : MWitness → Type 0) (ws : List MWitness) → ((w : MWitness) → Contains ws w → P w) → Every P ws
+each_contained P [] h = tt
+each_contained P (w ∷ ws) h = (h w (0, omega arith, refl), each_contained P ws (λ u (k, l, e). h u (suc k, omega (arith, l), e)))
+
+-- the entry by what the walk tells
+entry_by : (command : Command) (s : Setting) (f : NumberedFunction) → (patterns.BreaksNone s f.function → (e : ReportEntry) × IsFineEntry command s f e)
+    → (answer : Option PatternFault) → IsAnswer s f.function answer → (e : ReportEntry) × IsEntry command s f e
+entry_by command s f of_fine (Some x) fault = (
+  RefusedFunction f.function.name (refusal_of f.number x.rule x.arm x.at),
+  is_refused (record { rule = x.rule; arm = x.arm; at = x.at; fault = fault; tells = refl }),
+)
+entry_by command s f of_fine None fine = let e = of_fine fine in (e.0, is_judged e.1)
+
 -- what the laws of rules, of spelled functions, of sound files and of verdicts tell of entries
 module _ (walk_tells : WalkTells) (spelled_functions : ParsedFunctionsAreSpelled) (sound_files : FilesAreSound) (some_verdict : SomeVerdict) (some_overlaps : SomeOverlaps) where
-  -- the entry by what the walk tells
-  entry_by : (source : List ℕ) (tokens : List Placed) (s : Setting) (i : ℕ) (f : NumberedFunction) → HasTokens source tokens
-      → IsFile (units tokens) s.items → IsSoundFile s → StandsAt s.items i f.function
-      → (answer : Option PatternFault) → IsAnswer s f.function answer → (e : ReportEntry) × IsEntry Check s f e
-  entry_by source tokens s i f lexed spelled sound at (Some x) fault = (
-    RefusedFunction f.function.name (refusal_of f.number x.rule x.arm x.at),
-    is_refused (record { rule = x.rule; arm = x.arm; at = x.at; fault = fault; tells = refl }),
-  )
-  entry_by source tokens s i f lexed spelled sound at None fine =
-      let among : Contains s.items at.item = contains_at s.items i at.item at.there in
-      let parsed = spelled_functions source tokens s.items at.item f.function lexed spelled among at.is in
-      let type_is = sound.scrutinee at.item f.function among at.is fine in
-      let arms : (a : ArmTree) → Contains f.function.arms a → IsSoundArm s f.function a = λ a here. record {
-        sound = sound.sound;
-        type_is = type_is;
-        fine = fine;
-        among = here;
-        spelled = parsed.spelled a here;
-        ascend = parsed.ascend a here;
-      } in
-      let v = some_verdict s f.function sound.sound type_is arms in
-      let os = some_overlaps s f.function sound.sound type_is arms in (
-        JudgedFunction (report_of s f.function v.0 os.0 None v.1 v.2),
-        is_judged (record { fine = fine; exhaustive = v.0; unreachable = v.1; witnesses = v.2; verdict = v.3; overlaps = os.0; overlaps_are = os.1; tree = None; tree_is = refl; shows = refl }),
-      )
+  -- a function of a file that tokens spell
+  module _ (source : List ℕ) (tokens : List Placed) (s : Setting) (i : ℕ) (f : NumberedFunction) (lexed : HasTokens source tokens) (spelled : IsFile (units tokens) s.items) (sound : IsSoundFile s)
+      (at : StandsAt s.items i f.function) (fine : patterns.BreaksNone s f.function) where
+    among : Contains s.items at.item
+    among = contains_at s.items i at.item at.there
 
-  pub some_entry_of : SomeEntry
+    type_is : IsTrue (is_type (program s) (scrutinee_type s f.function))
+    type_is = sound.scrutinee at.item f.function among at.is fine
+
+    arms : (a : ArmTree) → Contains f.function.arms a → IsSoundArm s f.function a
+    arms a here =
+        let parsed = spelled_functions source tokens s.items at.item f.function lexed spelled among at.is in
+        record { sound = sound.sound; type_is = type_is; fine = fine; among = here; spelled = parsed.spelled a here; ascend = parsed.ascend a here }
+
+    found : (exhaustive : Bool) × (unreachable : List Entry) × (witnesses : List MWitness) × IsVerdictOn s f.function exhaustive unreachable witnesses
+    found = some_verdict s f.function sound.sound type_is arms
+
+    checked : (e : ReportEntry) × IsFineEntry Check s f e
+    checked =
+        let v = found in
+        let os = some_overlaps s f.function sound.sound type_is arms in (
+          JudgedFunction (report_of s f.function v.0 os.0 None v.1 v.2),
+          record { fine = fine; exhaustive = v.0; unreachable = v.1; witnesses = v.2; verdict = v.3; overlaps = os.0; overlaps_are = os.1; tree = None; tree_is = refl; shows = refl },
+        )
+
+    armed_by : (exhaustive : Bool) (unreachable : List Entry) (witnesses : List MWitness) → IsVerdictOn s f.function exhaustive unreachable witnesses
+        → (small : Bool) → are_small (program s) (scrutinee_type s f.function) witnesses ≡ small → (e : ReportEntry) × IsFineEntry Arms s f e
+    armed_by exhaustive unreachable witnesses verdict false e = (
+      RefusedFunction f.function.name (too_large f.number),
+      record { fine = fine; exhaustive = exhaustive; unreachable = unreachable; witnesses = witnesses; verdict = verdict; shows = is_too_large e refl },
+    )
+    armed_by exhaustive unreachable witnesses verdict true e =
+        let typed = each_contained (IsOfType (program s) (scrutinee_type s f.function)) witnesses verdict.typed in
+        let o = some_order (program s) (scrutinee_type s f.function) witnesses typed (one_first witnesses verdict.cover.ascending) in
+        let texts = patterns_of (program s) (scrutinee_type s f.function) o.0 in (
+          ArmedFunction f.function.name texts,
+          record {
+            fine = fine;
+            exhaustive = exhaustive;
+            unreachable = unreachable;
+            witnesses = witnesses;
+            verdict = verdict;
+            shows = has_arms texts (record { sorted = o.0; in_order = o.1; small = e; texts_are = refl }) refl;
+          },
+        )
+
+    armed : (e : ReportEntry) × IsFineEntry Arms s f e
+    armed = let v = found in armed_by v.0 v.1 v.2 v.3 (are_small (program s) (scrutinee_type s f.function) v.2) refl
+
+  pub some_entry_of : SomeEntry Check
   some_entry_of source tokens s k f lexed spelled unbroken there =
       let at = stands_behind 0 s.items k f there in
       let sound : IsSoundFile s = sound_files (units tokens) s spelled unbroken in
-      entry_by source tokens s at.0 f lexed spelled sound at.2 (first_fault s f.function) (walk_tells s f.function)
+      entry_by Check s f (checked source tokens s at.0 f lexed spelled sound at.2) (first_fault s f.function) (walk_tells s f.function)
 
+  pub some_arms_of : SomeEntry Arms
+  some_arms_of source tokens s k f lexed spelled unbroken there =
+      let at = stands_behind 0 s.items k f there in
+      let sound : IsSoundFile s = sound_files (units tokens) s spelled unbroken in
+      entry_by Arms s f (armed source tokens s at.0 f lexed spelled sound at.2) (first_fault s f.function) (walk_tells s f.function)
+
+-- where each function has an entry, there is a report
+module _ (command : Command) (some : SomeEntry command) where
   all_entries : (source : List ℕ) (tokens : List Placed) (s : Setting) (fs : List NumberedFunction) → HasTokens source tokens
       → IsFile (units tokens) s.items → BreaksNone s.items s.width
       → ((k : ℕ) (f : NumberedFunction) → slice_get fs k ≡ Some f → (j : ℕ) × (slice_get (functions_of s.items) j ≡ Some f))
-      → (es : List ReportEntry) × AllZip (IsEntry Check s) fs es
-  all_entries source tokens s [] lexed spelled unbroken among = ([], tt)
-  all_entries source tokens s (f ∷ fs) lexed spelled unbroken among =
-      let here = among 0 f refl in
-      let e = some_entry_of source tokens s here.0 f lexed spelled unbroken here.1 in
-      let es = all_entries source tokens s fs lexed spelled unbroken (λ k g there. among (suc k) g there) in
+      → (es : List ReportEntry) × AllZip (IsEntry command s) fs es
+  all_entries source tokens s [] lexed spelled unbroken stands = ([], tt)
+  all_entries source tokens s (f ∷ fs) lexed spelled unbroken stands =
+      let here = stands 0 f refl in
+      let e = some source tokens s here.0 f lexed spelled unbroken here.1 in
+      let es = all_entries source tokens s fs lexed spelled unbroken (λ k g there. stands (suc k) g there) in
       (e.0 ∷ es.0, (e.1, es.1))
 
-  pub some_report_of : SomeReport
+  pub some_report_of : SomeReport command
   some_report_of source tokens s lexed spelled unbroken =
       let es = all_entries source tokens s (functions_of s.items) lexed spelled unbroken (λ k f there. (k, there)) in
       (report_text es.0, status_of (list_all is_clean es.0), record { unbroken = unbroken; entries = es.0; each = es.1; text_is = refl; status_is = refl })

@@ -4,7 +4,7 @@ use Rattle.std.specs.List.{AllZip, list_all}
 use Rattle.decl_lexer.specs.Lexing.{Placed}
 use Rattle.decl_syntax.specs.Items.{ItemTree}
 use Rattle.pattern_rules.specs.Settings.{Setting}
-use Rattle.verdict_json.specs.Report.{ReportEntry, JudgedFunction, RefusedFunction, report_text}
+use Rattle.verdict_json.specs.Report.{ReportEntry, JudgedFunction, RefusedFunction, ArmedFunction, report_text}
 use Rattle.match_top.specs.declared.option_words.Options.{Options}
 use Rattle.match_top.specs.declared.statuses.Status.{Status}
 use Rattle.match_top.specs.declared.words.Command.TheVariants.{Check, Trees}
@@ -40,6 +40,7 @@ entries_without s (f ∷ fs) (e ∷ es) h = (entry_without s f e h.0, entries_wi
 clean_without : (e : ReportEntry) → is_clean (without_tree e) ≡ is_clean e
 clean_without (JudgedFunction report) = refl
 clean_without (RefusedFunction name refusal) = refl
+clean_without (ArmedFunction name arms) = refl
 
 all_clean : (es : List ReportEntry) → list_all is_clean (map without_tree es) ≡ list_all is_clean es
 all_clean [] = refl

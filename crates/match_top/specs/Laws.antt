@@ -37,12 +37,12 @@ OneEntry =
     → IsEntry command s f other → e ≡ other
 
 -- each function of a file that the tokens of a source spell, and of which no item breaks a rule on declarations, has an entry
--- where trees are not asked for
-abbrev pub SomeEntry : Type 0
-SomeEntry =
+-- for the command
+abbrev pub SomeEntry : Command → Type 0
+SomeEntry command =
     (source : List ℕ) (tokens : List Placed) (s : Setting) (k : ℕ) (f : NumberedFunction)
     → HasTokens source tokens → IsFile (units tokens) s.items → BreaksNone s.items s.width
-    → slice_get (functions_of s.items) k ≡ Some f → (e : ReportEntry) × IsEntry Check s f e
+    → slice_get (functions_of s.items) k ≡ Some f → (e : ReportEntry) × IsEntry command s f e
 
 -- each item that is a function stands among the functions of its file, with its number
 abbrev pub EachFunctionStands : Type 0
@@ -50,12 +50,12 @@ EachFunctionStands =
     (items : List ItemTree) (i : ℕ) (item : ItemTree) (f : FunctionTree) → slice_get items i ≡ Some item
     → item.kind ≡ Function f.name f.param f.deref f.arms → (k : ℕ) × (slice_get (functions_of items) k ≡ Some (numbered i f))
 
--- a file that the tokens of a source spell, and of which no item breaks a rule on declarations, has a report
--- where trees are not asked for
-abbrev pub SomeReport : Type 0
-SomeReport =
+-- a file that the tokens of a source spell, and of which no item breaks a rule on declarations, has a report for the
+-- command
+abbrev pub SomeReport : Command → Type 0
+SomeReport command =
     (source : List ℕ) (tokens : List Placed) (s : Setting) → HasTokens source tokens → IsFile (units tokens) s.items
-    → BreaksNone s.items s.width → (text : List ℕ) × (status : Status) × IsReported Check s text status
+    → BreaksNone s.items s.width → (text : List ℕ) × (status : Status) × IsReported command s text status
 
 -- what `check` has for a function is what `trees` has without its decision tree
 abbrev pub EntriesAreWithoutTrees : Type 0

@@ -1,5 +1,5 @@
 -- No meaning: what the private functions of `judging` and `reporting` give, for their proofs.
-use Rattle.std.specs.Prelude.{◌≡◌, ℕ, List, map, slice_get, Option, Some, None}
+use Rattle.std.specs.Prelude.{◌≡◌, ⊤, ℕ, List, map, slice_get, Option, Some, None}
 use Rattle.std.specs.List.{AllZip, list_all}
 use Rattle.decl_lexer.specs.Lexing.{Placed, HasTokens}
 use Rattle.decl_parser.specs.FileGrammar.{IsFile}
@@ -29,7 +29,7 @@ use Rattle.witnesses.specs.declared.judgement.Overlap.{Overlap}
 use Rattle.match_top.specs.declared.reporting.Progress.{Progress}
 use Rattle.match_top.specs.declared.source.Source.{Source}
 use Rattle.match_top.specs.declared.words.Command.{Command}
-use Rattle.match_top.specs.declared.words.Command.TheVariants.{Check, Trees}
+use Rattle.match_top.specs.declared.words.Command.TheVariants.{Check, Trees, Arms}
 use Rattle.match_top.specs.Reports.{NumberedFunction, IsEntry, arms_of, is_clean, setting_of}
 
 -- what the patterns of a file of these items are read against
@@ -73,12 +73,20 @@ AreOverlapsFor x items f overlaps = IsOverlapListOn (setting_in x items) f (map 
 -- the tree that was made is the function's, where trees are asked for
 abbrev pub IsTreeFor : Command → Source → List ItemTree → FunctionTree → Option Tree → Type 0
 IsTreeFor Check x items f tree = tree ≡ None
+IsTreeFor Arms x items f tree = tree ≡ None
 IsTreeFor Trees x items f tree = (t : Tree) × (tree ≡ Some t) × IsTreeOn (setting_in x items) f (tree_nodes t)
 
--- what was found, the overlaps, and the tree that was made, are those of the function, the item with this number, which breaks no rule; its
--- scrutinee's type has this number in the table
+-- the command asks for what is found of each function, not for arms
+abbrev pub AsksForFindings : Command → Type 0
+AsksForFindings Check = ⊤
+AsksForFindings Trees = ⊤
+AsksForFindings Arms = ⊥
+
+-- the command asks for findings. What was found, the overlaps, and the tree that was made, are those of the function, the
+-- item with this number, which breaks no rule; its scrutinee's type has this number in the table
 pub record IsFoundOn (command : Command) (x : Source) (items : List ItemTree) (number : ℕ) (f : FunctionTree) (ty : TyId) (j : Judgement)
     (overlaps : List Overlap) (tree : Option Tree) : Type 0 where
+  pub asked : AsksForFindings command
   pub fine : IsFineFunction x items number f
   pub type_is : table_type x.table.now ty ≡ scrutinee_type (setting_in x items) f
   pub verdict : IsVerdictFor x items f j

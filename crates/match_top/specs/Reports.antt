@@ -8,6 +8,7 @@ use Rattle.match_model.specs.Trees.{MNode}
 use Rattle.match_model.specs.Unreachable.{Entry}
 use Rattle.match_model.specs.Witness.{MWitness}
 use Rattle.type_table.specs.Faults.{BreaksNone}
+use Rattle.arm_maker.specs.Arms.{AreArms, are_small}
 use Rattle.pattern_rules.specs.Faults as patterns
 use Rattle.pattern_rules.specs.Faults.{IsFirstPatternFault, scrutinee_type}
 use Rattle.pattern_rules.specs.Settings.{Setting, program}
@@ -19,14 +20,14 @@ use Rattle.witness_names.specs.Named.{named_witness}
 use Rattle.witness_names.specs.NamedTrees.{named_node}
 use Rattle.verdict_json.specs.declared.refusal.Refusal.{Refusal}
 use Rattle.verdict_json.specs.declared.summary.Summary.{Summary}
-use Rattle.verdict_json.specs.Report.{ReportEntry, JudgedFunction, RefusedFunction, report_text}
+use Rattle.verdict_json.specs.Report.{ReportEntry, JudgedFunction, RefusedFunction, ArmedFunction, report_text}
 use Rattle.verdict_json.specs.Summaries.{IsSummary, summary_text}
 use Rattle.verdict_json.specs.Trees.{ReportTree, UnreachableTree}
 use Rattle.match_top.specs.declared.option_words.Options.{Options}
 use Rattle.match_top.specs.declared.statuses.Status.{Status}
 use Rattle.match_top.specs.declared.statuses.Status.TheVariants.{Clean, Found}
 use Rattle.match_top.specs.declared.words.Command.{Command}
-use Rattle.match_top.specs.declared.words.Command.TheVariants.{Check, Trees}
+use Rattle.match_top.specs.declared.words.Command.TheVariants.{Check, Trees, Arms}
 
 -- a function of a file, with the number of its item
 pub record NumberedFunction : Type 0 where
@@ -72,6 +73,7 @@ named_tree s f nodes = map (named_node (program s) (scrutinee_type s f)) nodes
 -- what a report shows of a function's decision tree: nothing, unless trees are asked for
 abbrev pub IsShownTree : Command → Setting → FunctionTree → Option (List NodeTree) → Type 0
 IsShownTree Check s f tree = tree ≡ None
+IsShownTree Arms s f tree = tree ≡ None
 IsShownTree Trees s f tree = (nodes : List MNode) × IsTreeOn s f nodes × (tree ≡ Some (named_tree s f nodes))
 
 -- what is reported of a function by what is found of it: the witnesses are told with the names of the file's types
@@ -107,21 +109,54 @@ pub record IsRefusedFunction (s : Setting) (number : ℕ) (f : FunctionTree) (e 
   pub fault : IsFirstPatternFault s f rule arm at
   pub tells : e ≡ RefusedFunction f.name (refusal_of number rule arm at)
 
--- the entry of a function in the report on the file of a setting: the refusal by its first broken rule, or else what is found
--- of its match, with its decision tree where trees are asked for
+-- the refusal of a function to which no arms can be added, since one of them would be too large
+abbrev pub too_large : (number : ℕ) → Refusal
+too_large number = record { rule = 50; item = Some number; arm = None; at = None }
+
+-- the entry shows the arms to add for these witnesses, or it tells that one would be too large
+pub data ShowsArms (s : Setting) (number : ℕ) (f : FunctionTree) (witnesses : List MWitness) (e : ReportEntry) : Type 0 where
+  has_arms : (texts : List (List ℕ)) → AreArms (program s) (scrutinee_type s f) witnesses texts →
+      e ≡ ArmedFunction f.name texts → ShowsArms s number f witnesses e
+  is_too_large : are_small (program s) (scrutinee_type s f) witnesses ≡ false →
+      e ≡ RefusedFunction f.name (too_large number) → ShowsArms s number f witnesses e
+
+-- a function that breaks no rule, what is found of it, and the entry that shows the arms to add
+pub record IsArmedFunction (s : Setting) (number : ℕ) (f : FunctionTree) (e : ReportEntry) : Type 0 where
+  pub fine : patterns.BreaksNone s f
+  pub exhaustive : Bool
+  pub unreachable : List Entry
+  pub witnesses : List MWitness
+  pub verdict : IsVerdictOn s f exhaustive unreachable witnesses
+  pub shows : ShowsArms s number f witnesses e
+
+-- the entry of a function that breaks no rule, as the command asks for it
+abbrev pub IsFineEntry : Command → Setting → NumberedFunction → ReportEntry → Type 0
+IsFineEntry Check s f e = IsJudgedFunction Check s f.function e
+IsFineEntry Trees s f e = IsJudgedFunction Trees s f.function e
+IsFineEntry Arms s f e = IsArmedFunction s f.number f.function e
+
+-- the entry of a function in the report on the file of a setting: the refusal by its first broken rule, or else what the
+-- command asks for: what is found of its match, with its decision tree or without, or the arms to add
 pub data IsEntry (command : Command) (s : Setting) (f : NumberedFunction) (e : ReportEntry) : Type 0 where
   is_refused : IsRefusedFunction s f.number f.function e → IsEntry command s f e
-  is_judged : IsJudgedFunction command s f.function e → IsEntry command s f e
+  is_judged : IsFineEntry command s f e → IsEntry command s f e
 
 -- the entry, without a decision tree
 abbrev pub without_tree : ReportEntry → ReportEntry
 without_tree (JudgedFunction report) = JudgedFunction (record report { tree = None })
 without_tree (RefusedFunction name refusal) = RefusedFunction name refusal
+without_tree (ArmedFunction name arms) = ArmedFunction name arms
 
--- the function is judged, and its match is exhaustive
+-- there is no arm
+abbrev pub is_no_arm : List (List ℕ) → Bool
+is_no_arm [] = true
+is_no_arm (_ ∷ _) = false
+
+-- the function is judged, and its match is exhaustive; or there is no arm to add
 abbrev pub is_clean : ReportEntry → Bool
 is_clean (JudgedFunction report) = report.exhaustive
 is_clean (RefusedFunction name refusal) = false
+is_clean (ArmedFunction name arms) = is_no_arm arms
 
 -- the status of a report, by whether every function is judged and every match is exhaustive
 abbrev pub status_of : Bool → Status

@@ -6,7 +6,7 @@ use Rattle.std.specs.Option.{option_or}
 use Rattle.std.specs.declared.alloc.Global.{Global}
 use Rattle.match_top.specs.declared.option_words.Options.{Options}
 use Rattle.match_top.specs.declared.words.Command.{Command}
-use Rattle.match_top.specs.declared.words.Command.TheVariants.{Check, Trees}
+use Rattle.match_top.specs.declared.words.Command.TheVariants.{Check, Trees, Arms}
 use Rattle.match_top.specs.OptionWords.{options_of}
 
 -- a function by its name, a value of its scrutinee as it is written, and the answers of the guards: whether each accepts
@@ -65,15 +65,17 @@ answered_form file (function ∷ value ∷ answers ∷ options) =
     form_with (evaluation_of (string_bytes function) (string_bytes value) (string_bytes answers)) file (options_of options)
 answered_form file words = None
 
--- what is asked by the words behind the command of this name and a file: behind `check` or `trees` stand options alone, behind
--- `eval` one of two forms. No words have both, since options are an even number of words
+-- what is asked by the words behind the command of this name and a file: behind `check`, `trees` or `arms` stand options
+-- alone, behind `eval` one of two forms. No words have both, since options are an even number of words
 abbrev pub form_behind : (name file : List ℕ) → List (String Global) → Option Form
 form_behind name file words =
     if bytes_eq name (codes "check") then form_with (Some (ReportForm Check)) file (options_of words)
     else (if bytes_eq name (codes "trees") then form_with (Some (ReportForm Trees)) file (options_of words)
-    else (if bytes_eq name (codes "eval") then option_or (unanswered_form file words) (answered_form file words) else None))
+    else (if bytes_eq name (codes "arms") then form_with (Some (ReportForm Arms)) file (options_of words)
+    else (if bytes_eq name (codes "eval") then option_or (unanswered_form file words) (answered_form file words) else None)))
 
--- `check FILE`, `trees FILE`, `eval FILE FN VALUE` or `eval FILE FN VALUE ANSWERS`, and options behind it; no other words have a form
+-- `check FILE`, `trees FILE`, `arms FILE`, `eval FILE FN VALUE` or `eval FILE FN VALUE ANSWERS`, and options behind it; no
+-- other words have a form
 abbrev pub form_of : List (String Global) → Option Form
 form_of (name ∷ file ∷ words) = form_behind (string_bytes name) (string_bytes file) words
 form_of words = None

@@ -2,6 +2,7 @@
 //! laws that it follows from.
 ghost use Rattle.match_top.specs.Laws.{OneAnswer, OneFirstFault, OneEntry, SomeEntry, EachFunctionStands, SomeReport};
 ghost use Rattle.match_top.specs.Laws.{EntriesAreWithoutTrees, AnswersAreWithoutTrees};
+ghost use Rattle.match_top.specs.declared.words.Command.TheVariants.{Check, Arms};
 
 use decl_lexer::{one_fault as one_lexing_fault, one_token_list, tokens_or_fault};
 use decl_parser::{file_or_fault, one_fault, one_file};
@@ -34,11 +35,12 @@ pub fn one_first_fault()
     ensures { OneFirstFault }
 {}
 
-/// Each function of a file stands among its functions, and for each command has at most one entry; where trees are not
-/// asked for, it has one if the tokens of a source spell the file and no item breaks a rule on declarations.
+/// Each function of a file stands among its functions, and for each command has at most one entry. For `check` and for
+/// `arms` it has one if the tokens of a source spell the file and no item breaks a rule on declarations.
 pub fn one_entry()
     ensures each { EachFunctionStands }
-    ensures some { SomeEntry }
+    ensures some { SomeEntry Check }
+    ensures armed { SomeEntry Arms }
     ensures one { OneEntry }
 {
     answer_is_one();
@@ -52,10 +54,11 @@ pub fn one_entry()
     some_overlaps();
 }
 
-/// A file that the tokens of a source spell, and of which no item breaks a rule on declarations, has a report, where trees
-/// are not asked for.
+/// A file that the tokens of a source spell, and of which no item breaks a rule on declarations, has a report for `check`
+/// and one for `arms`.
 pub fn some_report()
-    ensures { SomeReport }
+    ensures check { SomeReport Check }
+    ensures arms { SomeReport Arms }
 {
     walk_tells();
     parsed_functions_are_spelled();

@@ -7,9 +7,9 @@
 //! `answering` (tokens, items and their faults; text and status), then a way of its own, and `writing`
 //! (the sink).
 //! Words that name no file, but a number (`demo_words`), ask for the counts in the report on a generated file.
-//! For a report: `reporting` (the entries of the functions), `judging` (the match of a function, the engine's verdict on
-//! it, and which of its ranges overlap), `trees` (its decision tree, where it is asked for). For the outcome of one value: `evaluating` (the function, its
-//! first fault, the value), `finding` (the function by its name), `telling` (the values of names as they are shown); what
+//! For a report: `reporting` (the entries of the functions; the arms to add come from `arm_maker`), `judging` (the match of
+//! a function, the engine's verdict on it, and which of its ranges overlap), `trees` (its decision tree, where it is asked
+//! for). For the outcome of one value: `evaluating` (the function, its first fault, the value), `finding` (the function by its name), `telling` (the values of names as they are shown); what
 //! the arms of its match do with the value is told by `first_match`. `refusals` has what both refuse.
 //! `laws` says that a file has one answer, and that no function is left out of a report.
 #![tactic(auto)]

@@ -1,5 +1,5 @@
 // The report on a file: an entry for each function, written as soon as it is judged.
-ghost use Rattle.std.specs.Prelude.{◌≡◌, ◌<◌, ◌^◌, ◌&&◌, ◌++◌, ◌∷◌, [], ℕ, List, Some, map, length, slice_get, sum_by, IfOk};
+ghost use Rattle.std.specs.Prelude.{◌≡◌, ◌<◌, ◌^◌, ◌&&◌, ◌++◌, ◌∷◌, [], ℕ, List, Some, map, length, slice_get, sum_by, string_bytes, IfOk};
 ghost use Rattle.std.specs.Rc.{rc_str_bytes};
 ghost use Rattle.decl_syntax.specs.Counts.{kind_arms};
 ghost use Rattle.decl_syntax.specs.Functions.{FunctionTree, function_view};
@@ -7,20 +7,23 @@ ghost use Rattle.decl_syntax.specs.Items.{ItemTree, file_view, item_view, kind_v
 ghost use Rattle.pattern_rules.specs.Settings.{Setting};
 ghost use Rattle.type_table.specs.Faults.{BreaksNone};
 ghost use Rattle.type_table.specs.Tables.{IsOf};
-ghost use Rattle.verdict_json.specs.Report.{JudgedFunction, RefusedFunction};
+ghost use Rattle.verdict_json.specs.Report.{ArmedFunction, JudgedFunction, RefusedFunction};
 ghost use Rattle.verdict_json.specs.Rules.{IsRule};
 ghost use Rattle.verdict_json.specs.Summaries.{summary_text};
 ghost use Rattle.verdict_json.specs.Trees.{report_view};
 ghost use Rattle.match_top.specs.Reports.{NumberedFunction, numbered, function_at, functions_of};
 ghost use Rattle.match_top.specs.Reports.{IsEntry, IsReported, IsCounted, status_of};
 ghost use Rattle.match_top.specs.declared.words.Command.{Command};
-ghost use Rattle.match_top.specs.Reporting.{IsSound, StandsAt, IsFineFunction, IsFoundOn, ReportsOn, setting_in};
+ghost use Rattle.match_top.specs.declared.words.Command.TheVariants.{Arms};
+ghost use Rattle.match_top.specs.Reporting.{IsSound, StandsAt, IsFineFunction, AsksForFindings, IsFoundOn, ReportsOn};
+ghost use Rattle.match_top.specs.Reporting.{setting_in};
 
 use crate::judging::{match_of, overlaps_on, verdict_on};
 use crate::refusals::refusal_of;
 use crate::source::Source;
 use crate::trees::{named_tree, tree_of};
 use crate::words::Command;
+use arm_maker::{ArmFault, arm_texts};
 use bumpalo::Bump;
 use decl_lexer::Name;
 use decl_syntax::{File, FnItem, Item, ItemKind};
@@ -31,10 +34,10 @@ use std::alloc::Global;
 use tree_eval::Tree;
 use type_table::TyId;
 use verdict_json::{FnReport, Refusal, ReportText, Summary};
-use witness_names::name_witnesses;
+use witness_names::{Paths, name_witnesses};
 use witnesses::{Judgement, Overlap, Unreachable, Witness};
 
-/// The report on a file as it is written, the counts in it, and whether every function is judged and every match is
+/// The report on a file as it is written, the counts in it, and whether no function is refused and every match is
 /// exhaustive.
 #[derive(Debug, Drop)]
 pub(crate) struct Reported {
@@ -43,7 +46,7 @@ pub(crate) struct Reported {
     pub clean: bool,
 }
 
-/// The entries so far, the counts in them, and whether each is of a judged function whose match is exhaustive.
+/// The entries so far, the counts in them, and whether none is of a function that is refused or lacks an arm.
 #[derive(Debug, Drop)]
 struct Progress {
     text: ReportText,
@@ -62,7 +65,7 @@ struct Found {
     tree: Option<Tree>,
 }
 
-/// The report on a file of which no item breaks a rule on declarations, with trees where the command asks for them.
+/// The report on a file of which no item breaks a rule on declarations, as the command asks for it.
 pub(crate) fn report_on(
     alloc: Global,
     command: Command,
@@ -132,7 +135,7 @@ fn add_item(
     }
 }
 
-// Adds the entry of a function, the item with this number: its first broken rule, or what is found of it.
+// Adds the entry of a function, the item with this number: its first broken rule, or what the command asks for.
 fn add_function(
     alloc: Global,
     command: Command,
@@ -153,7 +156,29 @@ fn add_function(
             let refusal = refusal_of(number, &fault);
             add_refused(so_far, f.name.as_str(), f.arms.len() as u64, &refusal)
         }
-        None => add_judged(alloc, command, source, so_far, number, f),
+        None => add_fine(alloc, command, source, so_far, number, f),
+    }
+}
+
+// Adds a function that breaks no rule, as the command asks for it.
+fn add_fine(
+    alloc: Global,
+    command: Command,
+    source: &Source<'_>,
+    so_far: Progress,
+    number: u64,
+    f: FnItem,
+) -> Result<Progress, NoMemory>
+    ghost whole: { List ItemTree }
+    requires fine { IsFineFunction source.now whole number (function_view f) }
+    requires few { length f.arms.items < 2 ^ 32 }
+    ensures { (fs : List NumberedFunction) → ReportsOn command (setting_in source.now whole) fs so_far
+        → IfOk result (ReportsOn command (setting_in source.now whole) (fs ++ numbered number (function_view f) ∷ [])) }
+{
+    match command {
+        Command::Check => add_judged(alloc, command, source, so_far, number, f),
+        Command::Trees => add_judged(alloc, command, source, so_far, number, f),
+        Command::Arms => add_armed(alloc, source, so_far, number, f),
     }
 }
 
@@ -194,6 +219,7 @@ fn add_judged(
     ghost whole: { List ItemTree }
     requires fine { IsFineFunction source.now whole number (function_view f) }
     requires few { length f.arms.items < 2 ^ 32 }
+    requires asked { AsksForFindings command }
     ensures { (fs : List NumberedFunction) → ReportsOn command (setting_in source.now whole) fs so_far
         → IfOk result (ReportsOn command (setting_in source.now whole) (fs ++ numbered number (function_view f) ∷ [])) }
 {
@@ -223,6 +249,74 @@ fn add_judged(
     add_found(alloc, *source, so_far, ty, &found, unreachable, overlaps)
 }
 
+// Adds a function that breaks no rule, with the arms to add to it, or with its refusal where one of them is too large. Its
+// match goes with its arena before the arms are made.
+fn add_armed(
+    alloc: Global,
+    source: &Source<'_>,
+    so_far: Progress,
+    number: u64,
+    f: FnItem,
+) -> Result<Progress, NoMemory>
+    ghost whole: { List ItemTree }
+    requires fine { IsFineFunction source.now whole number (function_view f) }
+    requires few { length f.arms.items < 2 ^ 32 }
+    ensures { (command : Command) → command ≡ Arms → (fs : List NumberedFunction)
+        → ReportsOn command (setting_in source.now whole) fs so_far
+        → IfOk result (ReportsOn command (setting_in source.now whole) (fs ++ numbered number (function_view f) ∷ [])) }
+{
+    let arena = Bump::new(alloc);
+    let placer = Placer::new(&arena);
+    let m = match_of(alloc, source, &placer, number, &f)?;
+    let FnItem { name, arms, .. } = f;
+    let count = arms.len() as u64;
+    drop(arms);
+    let judgement = verdict_on(alloc, source, &m)?;
+    let ty = m.ty;
+    drop(arena);
+    match arm_texts(alloc, source.table, ty, &judgement.witnesses) {
+        Ok(texts) => add_texts(so_far, name.as_str(), count, &texts),
+        Err(ArmFault::Rule { rule }) => {
+            let refusal = Refusal {
+                rule,
+                item: Some(number),
+                arm: None,
+                at: None,
+            };
+            add_refused(so_far, name.as_str(), count, &refusal)
+        }
+        Err(ArmFault::NoMemory) => Err(NoMemory),
+    }
+}
+
+// Adds a function of this name and with so many arms, with the texts of the arms to add.
+fn add_texts(
+    so_far: Progress,
+    name: &str,
+    arms: u64,
+    texts: &[String],
+) -> Result<Progress, NoMemory>
+    ensures { (command : Command) → (s : Setting) → (fs : List NumberedFunction)
+        → (f : NumberedFunction) → ReportsOn command s fs so_far
+        → IsEntry command s f (ArmedFunction name.now (map string_bytes texts.now))
+        → length f.function.arms ≡ arms
+        → IfOk result (ReportsOn command s (fs ++ f ∷ [])) }
+{
+    let Progress {
+        text,
+        counts,
+        clean,
+    } = so_far;
+    let clean = both(clean, texts.is_empty());
+    let text = text.add_arms(name, texts)?;
+    let counts = counts.with_arms(arms)?;
+    Ok(Progress {
+        text,
+        counts,
+        clean,
+    })
+}
+
 // Adds a function with what is found of it, what is unreachable and its overlapping ranges, over a scrutinee of this type.
 // These two lists are taken over, since the report has them as they stand; of the rest its names are made, so it is lent.
 fn add_found<'r>(
@@ -247,7 +341,7 @@ fn add_found<'r>(
         → rc_str_bytes found.now.name ≡ f.name → length f.arms ≡ found.now.arms
         → IfOk result (ReportsOn command (setting_in source.entry whole) (fs ++ numbered number f ∷ [])) }
 {
-    let witnesses = name_witnesses(alloc, source.table, ty, &found.witnesses)?;
+    let witnesses = name_witnesses(alloc, Paths::Short, source.table, ty, &found.witnesses)?;
     let tree = named_tree(alloc, source.table, ty, &found.tree)?;
     let report = FnReport {
         name: found.name.as_str(),

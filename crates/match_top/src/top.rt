@@ -26,9 +26,10 @@ use std::alloc::Global;
 
 /// Does what the words ask for, and tells how it ended. The words are those of the command line without the program's
 /// name: `check FILE` writes the report on the functions of a file, `trees FILE` the same with the decision tree of each
-/// function that is judged, `eval FILE FN VALUE` or `eval FILE FN VALUE ANSWERS` what the match of a function does with a
-/// value of its scrutinee, the guards giving these answers, `t` or `f` each. Behind each of these may stand `--width`
-/// with `16`, `32` or `64`, the bits of `usize` and `isize`, and then, or alone, `--edition` with `2021` or `2024`.
+/// function that is judged, `arms FILE` the arms to add to each function, `eval FILE FN VALUE` or `eval FILE FN VALUE
+/// ANSWERS` what the match of a function does with a value of its scrutinee, the guards giving these answers, `t` or `f`
+/// each. Behind each of these may stand `--width` with `16`, `32` or `64`, the bits of `usize` and `isize`, and then, or
+/// alone, `--edition` with `2021` or `2024`.
 /// `demo N`, where N is from 1 to 200 in decimal, without a sign and without a 0 in front, reads no file: it writes the
 /// counts in the report that `check` has on the file of `demo_source(N)`, and has no options. (The forms are our own
 /// choice.) The files and the sink may be used again afterwards: nothing is kept between calls.

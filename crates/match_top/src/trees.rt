@@ -78,6 +78,7 @@ pub(crate) fn tree_of<'a>(
 {
     match command {
         Command::Check => Ok(None),
+        Command::Arms => Ok(None),
         Command::Trees => {
             let tree = tree_of_match(alloc, source, arena, m)?;
             Ok(Some(tree))

@@ -16,6 +16,8 @@ pub enum Command {
     Check,
     /// `trees`: the report with the decision trees of the functions that are judged.
     Trees,
+    /// `arms`: the arms to add to each function, a pattern for each witness.
+    Arms,
 }
 
 /// A function, a value of its scrutinee as it is written, and the answers of the guards, a letter each.
@@ -61,6 +63,7 @@ pub(crate) fn asked_by(words: &[String]) -> Option<Asked<'_>>
     match name.as_str() {
         "check" => report_asked(Command::Check, file.as_str(), behind),
         "trees" => report_asked(Command::Trees, file.as_str(), behind),
+        "arms" => report_asked(Command::Arms, file.as_str(), behind),
         "eval" => outcome_asked(file.as_str(), behind),
         _ => None,
     }

@@ -1,6 +1,6 @@
 //! The program: `matchcheck check FILE` judges the matches of a Rust source and writes the report as JSON, `matchcheck trees
-//! FILE` with decision trees; `matchcheck eval FILE FN VALUE` tells what a match does with a value. Behind them may stand a
-//! width of `usize` and `isize`, and an edition.
+//! FILE` with decision trees; `matchcheck arms FILE` writes the arms to add to each match; `matchcheck eval FILE FN VALUE`
+//! tells what a match does with a value. Behind them may stand a width of `usize` and `isize`, and an edition.
 //!
 //! It hands the words of the command line, the files and the standard output to `match_top::run`, and ends with the
 //! number of the status that comes back. It writes nothing else.

@@ -51,6 +51,7 @@ rules =
     ∷ rule 40 (codes "the value is not written as a value")
     ∷ rule 41 (codes "the value is none of the function's type")
     ∷ rule 42 (codes "the file has no function of this name")
+    ∷ rule 50 (codes "an arm to add has more than 64 levels, or more than 256 parts in a list")
     ∷ []
 
 -- the text of the first rule of that number

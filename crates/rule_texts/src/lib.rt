@@ -52,6 +52,7 @@ pub fn rule_text(rule: u64) -> Option<&'static str>
         40 => Some("the value is not written as a value"),
         41 => Some("the value is none of the function's type"),
         42 => Some("the file has no function of this name"),
+        50 => Some("an arm to add has more than 64 levels, or more than 256 parts in a list"),
         _ => None,
     }
 }

@@ -1,4 +1,5 @@
 pub mod EntryLines
+pub mod ArmLines
 pub mod Lines
 pub mod OutcomeLines
 pub mod Counts

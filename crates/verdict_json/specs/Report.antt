@@ -44,15 +44,23 @@ refused_data name r =
     object (member (codes "name") (string name)
     (member (codes "refused") (refusal_data r (name_or_empty (name_of r.rule))) no_members))
 
--- an entry of a report: what is reported of a function, or the name of one that is refused with its refusal
+-- the arms to add to the function of this name
+abbrev pub arms_data : List ℕ → List (List ℕ) → Data
+arms_data name arms =
+    object (member (codes "arms") (array (items_of (map string arms))) (member (codes "name") (string name) no_members))
+
+-- an entry of a report: what is reported of a function; the name of one that is refused with its refusal; or the name of one
+-- with the arms to add
 pub data ReportEntry : Type 0 where
   JudgedFunction : ReportTree → ReportEntry
   RefusedFunction : List ℕ → Refusal → ReportEntry
+  ArmedFunction : List ℕ → List (List ℕ) → ReportEntry
 
 -- an entry as it is written
 abbrev pub entry_data : ReportEntry → Data
 entry_data (JudgedFunction f) = function_data f
 entry_data (RefusedFunction name r) = refused_data name r
+entry_data (ArmedFunction name arms) = arms_data name arms
 
 -- the report of these entries, in their order
 abbrev pub report_data : List ReportEntry → Data

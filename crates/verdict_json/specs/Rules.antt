@@ -51,6 +51,7 @@ rules =
     ∷ rule 40 (codes "value-syntax")
     ∷ rule 41 (codes "value-type")
     ∷ rule 42 (codes "unknown-function")
+    ∷ rule 50 (codes "arm-too-large")
     ∷ []
 
 -- the name of the first rule of that number

@@ -1,10 +1,11 @@
 // The report, function by function.
 ghost use Rattle.std.specs.Prelude.{◌≡◌, ◌++◌, ◌∷◌, [], List, map, false, IfOk, OnOk, option_map, string_bytes};
+ghost use Rattle.serde_json.specs.Data.{string};
 ghost use Rattle.serde_json.specs.Written.{compact_text, items_text};
 ghost use Rattle.serde_json.specs.View.{items_of};
 ghost use Rattle.tree_text.specs.Trees.{node_view};
-ghost use Rattle.verdict_json.specs.Report.{ReportEntry, JudgedFunction, RefusedFunction, report_text};
-ghost use Rattle.verdict_json.specs.Report.{function_data, overlap_entry, unreachable_data};
+ghost use Rattle.verdict_json.specs.Report.{ReportEntry, ArmedFunction, JudgedFunction, RefusedFunction, report_text};
+ghost use Rattle.verdict_json.specs.Report.{arms_data, function_data, overlap_entry, unreachable_data};
 ghost use Rattle.verdict_json.specs.Rules.{IsRule};
 ghost use Rattle.verdict_json.specs.Trees.{overlap_view, report_view, unreachable_view};
 ghost use Rattle.verdict_json.specs.Writing.{HasEntries, flag_word, shown_tree_text};
@@ -116,6 +117,39 @@ fn push_function(alloc: Global, text: &mut String, report: &FnReport<'_>) -> Res
     Ok(())
 }
 
+// Adds the texts as JSON strings, with commas between them, and the bracket that closes them.
+fn push_texts(alloc: Global, text: &mut String, shown: &[String]) -> Result<(), AllocError>
+    ensures { OnOk result (string_bytes text.new
+        ≡ string_bytes text.old ++ items_text false (items_of (map string (map string_bytes shown.now)))) }
+{
+    let mut later = false;
+    for one in shown {
+        push_comma(text, later)?;
+        push_quoted(alloc, text, one.as_str())?;
+        later = true;
+    }
+    text.push(']')?;
+    Ok(())
+}
+
+// Adds the arms to add to a function of this name.
+fn push_arms(
+    alloc: Global,
+    text: &mut String,
+    name: &str,
+    arms: &[String],
+) -> Result<(), AllocError>
+    ensures { OnOk result (string_bytes text.new
+        ≡ string_bytes text.old ++ compact_text (arms_data name.now (map string_bytes arms.now))) }
+{
+    text.push_str("{\"arms\":[")?;
+    push_texts(alloc, text, arms)?;
+    text.push_str(",\"name\":")?;
+    push_quoted(alloc, text, name)?;
+    text.push('}')?;
+    Ok(())
+}
+
 impl ReportText {
     /// The report on no function.
     pub fn begin(alloc: Global) -> Result<ReportText, NoMemory>
@@ -163,6 +197,25 @@ impl ReportText {
         } = self;
         push_comma(&mut text, later)?;
         push_refused(alloc, &mut text, name, refusal)?;
+        Ok(ReportText {
+            text,
+            later: true,
+            alloc,
+        })
+    }
+
+    /// The report with the arms to add to the function of this name at its end.
+    pub fn add_arms(self, name: &str, arms: &[String]) -> Result<ReportText, NoMemory>
+        ensures { (entries : List ReportEntry) → HasEntries entries self
+            → IfOk result (HasEntries (entries ++ ArmedFunction name.now (map string_bytes arms.now) ∷ [])) }
+    {
+        let ReportText {
+            mut text,
+            later,
+            alloc,
+        } = self;
+        push_comma(&mut text, later)?;
+        push_arms(alloc, &mut text, name, arms)?;
         Ok(ReportText {
             text,
             later: true,

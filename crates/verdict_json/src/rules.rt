@@ -46,6 +46,7 @@ pub fn rule_name(rule: u32) -> Option<&'static str>
         40 => Some("value-syntax"),
         41 => Some("value-type"),
         42 => Some("unknown-function"),
+        50 => Some("arm-too-large"),
         _ => None,
     }
 }

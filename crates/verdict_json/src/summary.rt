@@ -1,7 +1,7 @@
 // What a report on a whole file comes to, in numbers.
 ghost use Rattle.std.specs.Prelude.{◌≡◌, ◌+◌, ◌++◌, ◌∷◌, [], ℕ, List, if◌then◌else◌, IfOk, string_bytes};
 ghost use Rattle.serde_json.specs.View.{view};
-ghost use Rattle.verdict_json.specs.Report.{ReportEntry, JudgedFunction, RefusedFunction};
+ghost use Rattle.verdict_json.specs.Report.{ReportEntry, ArmedFunction, JudgedFunction, RefusedFunction};
 ghost use Rattle.verdict_json.specs.declared.refusal.Refusal.{Refusal};
 ghost use Rattle.verdict_json.specs.Summaries.{IsSummary, summary_data, summary_text};
 ghost use Rattle.verdict_json.specs.Trees.{report_view};
@@ -79,6 +79,21 @@ impl Summary {
             overlaps,
             unreachable,
             witnesses,
+        })
+    }
+
+    /// The counts with those of one more function, to which arms are to be added, and which has so many arms.
+    pub fn with_arms(&self, arms: u64) -> Result<Summary, NoMemory>
+        ensures { (all : ℕ) (entries : List ReportEntry) (name : List ℕ) (texts : List (List ℕ))
+            → IsSummary all entries self.now
+            → IfOk result (IsSummary (all + arms) (entries ++ ArmedFunction name texts ∷ [])) }
+    {
+        let more_arms = added(self.arms, arms)?;
+        let functions = added(self.functions, 1)?;
+        Ok(Summary {
+            arms: more_arms,
+            functions,
+            ..*self
         })
     }
 

@@ -8,7 +8,8 @@ use Rattle.match_model.specs.Declarations.{MField, MForm, UnitForm, TupleForm, B
 use Rattle.match_model.specs.Numbers.{MRange, Free, At, closed}
 use Rattle.match_model.specs.Witness.{MWitness, AnyOf, LaterOf, FlagOf, SpanOf, TextOf, ElseOf, NodeOf, PointOf, RowOf, no_witnesses, witnesses_of}
 use Rattle.witness_text.specs.Trees.{PlainName, VariantName, WitnessTree, Anything, Undeclared, OfFlag, OfInts, OfChars, OfText, OfOthers, OfTuple, OfUnitForm, OfTupleForm, OfBraceForm, OfPoint, OfRow, no_trees, trees_of, FieldTree, no_fields, fields_of}
-use Rattle.witness_names.specs.Named.{named_witness}
+use Rattle.witness_names.specs.declared.paths.Paths.TheVariants.{Whole}
+use Rattle.witness_names.specs.Named.{named_witness, named_by}
 
 abbrev field : List ℕ → MType → MField
 field name type = record { name = name; type = type }
@@ -75,6 +76,18 @@ some = refl
 error : named (NamedType ResultOwner (types_of (StrType ∷ BoolType ∷ []))) (node 1 (AnyOf ∷ []))
     ≡ OfTupleForm (PlainName (codes "Err")) (trees_of (Anything ∷ []))
 error = refl
+
+-- in an arm behind their enum's
+whole_some : named_by Whole program (NamedType OptionOwner (types_of (BoolType ∷ []))) (node 1 (FlagOf false ∷ []))
+    ≡ OfTupleForm (VariantName (codes "Option") (codes "Some")) (trees_of (OfFlag false ∷ []))
+whole_some = refl
+
+whole_error : named_by Whole program (PointType false (NamedType ResultOwner (types_of (StrType ∷ pair ∷ [])))) (PointOf (node 1 (AnyOf ∷ [])))
+    ≡ OfPoint false (OfTupleForm (VariantName (codes "Result") (codes "Err")) (trees_of (Anything ∷ [])))
+whole_error = refl
+
+whole_struct : named_by Whole program pair (node 0 []) ≡ OfBraceForm (PlainName (codes "P")) no_fields
+whole_struct = refl
 
 -- tuples, references, rows, texts, and what is not declared yet
 tuple : named (TupleType (types_of (BoolType ∷ choice ∷ []))) (node 0 (AnyOf ∷ LaterOf ∷ []))

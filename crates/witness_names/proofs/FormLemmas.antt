@@ -17,8 +17,9 @@ use Rattle.type_table.specs.declared.table.TypeTable.{TypeTable}
 use Rattle.type_table.specs.Readers.{type_owner, is_enum_item, enum_owner, owner_name, item_name}
 use Rattle.type_table.specs.Tables.{IsTableOf, table_program, is_struct, is_struct_type, type_variant, variant_name_of}
 use Rattle.witness_text.specs.Trees.{NameTree, PlainName, VariantName}
-use Rattle.witness_names.specs.Named.{form_name, declared_name}
-use Rattle.witness_names.specs.Lookups.{kind_of_form, form_told, form_there, IsDeclaredStruct}
+use Rattle.witness_names.specs.declared.paths.Paths.{Paths}
+use Rattle.witness_names.specs.Named.{name_by, declared_name, built_in_name}
+use Rattle.witness_names.specs.Lookups.{kind_of_form, form_told, form_there, built_in_owner, IsDeclaredStruct}
 
 -- the way of writing a variant, where there is one
 abbrev pub kind_there : Option MVariant → Option FormKind
@@ -120,71 +121,76 @@ declared_behind (Some (EnumItem n marked variants)) name owner s h = let same : 
 declared_behind (Some OtherItem) name owner s h = cc
 
 -- a variant of an enum that an item declares stands behind the enum's name
-pub name_behind : (program : MProgram) (t : MType) (name owner : List ℕ) → is_struct_type program t ≡ false →
+pub name_behind : (paths : Paths) (program : MProgram) (t : MType) (name owner : List ℕ) → is_struct_type program t ≡ false →
     owner_name program (type_owner t) ≡ Some owner →
-    form_name program t name ≡ VariantName owner name
-name_behind program (NamedType (DeclaredItem i) ts) name owner s h = declared_behind (slice_get program.items i) name
+    name_by paths program t name ≡ VariantName owner name
+name_behind paths program (NamedType (DeclaredItem i) ts) name owner s h = declared_behind (slice_get program.items i) name
     owner s h
-name_behind program (NamedType OptionOwner ts) name owner s h = cc
-name_behind program (NamedType ResultOwner ts) name owner s h = cc
-name_behind program BoolType name owner s h = cc
-name_behind program CharType name owner s h = cc
-name_behind program StrType name owner s h = cc
-name_behind program NeverType name owner s h = cc
-name_behind program (IntType kind) name owner s h = cc
-name_behind program (OpaqueType o ts) name owner s h = cc
-name_behind program (TupleType ts) name owner s h = cc
-name_behind program (PointType mutable t) name owner s h = cc
-name_behind program (SliceType t) name owner s h = cc
-name_behind program (ArrayType t n) name owner s h = cc
+name_behind paths program (NamedType OptionOwner ts) name owner s h = cc
+name_behind paths program (NamedType ResultOwner ts) name owner s h = cc
+name_behind paths program BoolType name owner s h = cc
+name_behind paths program CharType name owner s h = cc
+name_behind paths program StrType name owner s h = cc
+name_behind paths program NeverType name owner s h = cc
+name_behind paths program (IntType kind) name owner s h = cc
+name_behind paths program (OpaqueType o ts) name owner s h = cc
+name_behind paths program (TupleType ts) name owner s h = cc
+name_behind paths program (PointType mutable t) name owner s h = cc
+name_behind paths program (SliceType t) name owner s h = cc
+name_behind paths program (ArrayType t n) name owner s h = cc
 
-declared_alone : (o : Option MItem) (name : List ℕ) → item_name o ≡ None → declared_name o name ≡ PlainName name
-declared_alone None name h = refl
-declared_alone (Some (StructItem v)) name h = refl
-declared_alone (Some (EnumItem n marked variants)) name h = cc
-declared_alone (Some OtherItem) name h = refl
+declared_owner : {A : Type 0} (item : Option MItem) (i : ℕ) (o : MOwner) → item_name item ≡ None →
+    Some o ≡ (if is_enum_item item then Some (DeclaredItem i) else None) → A
+declared_owner None i o h e = cc
+declared_owner (Some (StructItem v)) i o h e = cc
+declared_owner (Some (EnumItem n marked variants)) i o h e = cc
+declared_owner (Some OtherItem) i o h e = cc
 
--- every other variant stands alone
-pub name_alone : (program : MProgram) (t : MType) (name : List ℕ) → owner_name program (type_owner t) ≡ None →
-    form_name program t name ≡ PlainName name
-name_alone program (NamedType (DeclaredItem i) ts) name h = declared_alone (slice_get program.items i) name h
-name_alone program (NamedType OptionOwner ts) name h = refl
-name_alone program (NamedType ResultOwner ts) name h = refl
-name_alone program BoolType name h = refl
-name_alone program CharType name h = refl
-name_alone program StrType name h = refl
-name_alone program NeverType name h = refl
-name_alone program (IntType kind) name h = refl
-name_alone program (OpaqueType o ts) name h = refl
-name_alone program (TupleType ts) name h = refl
-name_alone program (PointType mutable t) name h = refl
-name_alone program (SliceType t) name h = refl
-name_alone program (ArrayType t n) name h = refl
+-- a variant of an enum that no item declares
+pub name_built_in : (paths : Paths) (program : MProgram) (t : MType) (name : List ℕ) (o : MOwner) →
+    owner_name program (type_owner t) ≡ None → Some o ≡ enum_owner program (type_owner t) →
+    name_by paths program t name ≡ built_in_name paths (built_in_owner o) name
+name_built_in paths program (NamedType (DeclaredItem i) ts) name o h e = declared_owner (slice_get program.items i) i o
+    h e
+name_built_in paths program (NamedType OptionOwner ts) name o h e = let same : OptionOwner
+    ≡ o = cc in ap (λ (w : MOwner). built_in_name paths (built_in_owner w) name) same
+name_built_in paths program (NamedType ResultOwner ts) name o h e = let same : ResultOwner
+    ≡ o = cc in ap (λ (w : MOwner). built_in_name paths (built_in_owner w) name) same
+name_built_in paths program BoolType name o h e = cc
+name_built_in paths program CharType name o h e = cc
+name_built_in paths program StrType name o h e = cc
+name_built_in paths program NeverType name o h e = cc
+name_built_in paths program (IntType kind) name o h e = cc
+name_built_in paths program (OpaqueType n ts) name o h e = cc
+name_built_in paths program (TupleType ts) name o h e = cc
+name_built_in paths program (PointType mutable t) name o h e = cc
+name_built_in paths program (SliceType t) name o h e = cc
+name_built_in paths program (ArrayType t n) name o h e = cc
 
 -- a struct's name stands alone
-pub name_of_struct : (program : MProgram) (i : ℕ) (ts : MTypes) (v : MVariant) (name : List ℕ) →
+pub name_of_struct : (paths : Paths) (program : MProgram) (i : ℕ) (ts : MTypes) (v : MVariant) (name : List ℕ) →
     slice_get program.items i ≡ Some (StructItem v) →
-    form_name program (NamedType (DeclaredItem i) ts) name ≡ PlainName name
-name_of_struct program i ts v name h = ap (λ (o : Option MItem). declared_name o name) h
+    name_by paths program (NamedType (DeclaredItem i) ts) name ≡ PlainName name
+name_of_struct paths program i ts v name h = ap (λ (o : Option MItem). declared_name o name) h
 
 -- the way of writing and the name, from each by itself
-pub form_joined : (program : MProgram) (t : MType) (o : Option MVariant) (kind : FormKind) (name : NameTree) →
+pub form_joined : (paths : Paths) (program : MProgram) (t : MType) (o : Option MVariant) (kind : FormKind) (name : NameTree) →
     kind_there o ≡ Some kind →
-    option_map (λ v. form_name program t v.name) o ≡ Some name → Some (kind, name) ≡ option_map (form_told program t) o
-form_joined program t None kind name k n = cc
-form_joined program t (Some v) kind name k n =
+    option_map (λ v. name_by paths program t v.name) o ≡ Some name → Some (kind, name) ≡ option_map (form_told paths program t) o
+form_joined paths program t None kind name k n = cc
+form_joined paths program t (Some v) kind name k n =
     let same : kind ≡ kind_of_form v.form = cc in
-    let alike : name ≡ form_name program t v.name = cc in
+    let alike : name ≡ name_by paths program t v.name = cc in
     ap Some (ap (λ f. (f, name)) same ∙ ap (λ m. (kind_of_form v.form, m)) alike)
 
 -- the name of a variant that is there
-pub name_found : (program : MProgram) (t : MType) (o : Option MVariant) (name : List ℕ) (tree : NameTree) →
-    variant_name_of o ≡ Some name → form_name program t name ≡ tree →
-    option_map (λ v. form_name program t v.name) o ≡ Some tree
-name_found program t None name tree n e = cc
-name_found program t (Some v) name tree n e =
+pub name_found : (paths : Paths) (program : MProgram) (t : MType) (o : Option MVariant) (name : List ℕ) (tree : NameTree) →
+    variant_name_of o ≡ Some name → name_by paths program t name ≡ tree →
+    option_map (λ v. name_by paths program t v.name) o ≡ Some tree
+name_found paths program t None name tree n e = cc
+name_found paths program t (Some v) name tree n e =
     let same : v.name ≡ name = cc in
-    ap Some (ap (form_name program t) same ∙ e)
+    ap Some (ap (name_by paths program t) same ∙ e)
 
 -- an enum type is named by its owner
 enum_of_item : (b : Bool) (i : ℕ) (o : MOwner) → (if b then Some (DeclaredItem i) else None) ≡ Some o →
@@ -217,20 +223,20 @@ enum_named program (ArrayType t n) o h = cc
 module _ (items : List ItemTree) (width : Width) (table : TypeTable) (is : IsTableOf items width table) (t : MType)
     (k : ℕ) where
   -- the form of a struct, by what was found
-  pub struct_told : (s : IsDeclaredStruct (table_program table) t) (kind : FormKind) (name : List ℕ) → k ≡ 0 →
+  pub struct_told : (paths : Paths) (s : IsDeclaredStruct (table_program table) t) (kind : FormKind) (name : List ℕ) → k ≡ 0 →
       Some kind ≡ struct_form (slice_get items s.0) →
       variant_name_of (type_variant (table_program table) t k) ≡ Some name →
-      Some (kind, PlainName name) ≡ form_there (table_program table) t k
-  struct_told s kind name z f n =
+      Some (kind, PlainName name) ≡ form_there paths (table_program table) t k
+  struct_told paths s kind name z f n =
       let program = table_program table in
       let there : type_variant program t k ≡ Some s.1 =
       ap (type_variant program t) z ∙ (ap (λ (u : MType). type_variant program u 0) s.2
       ∙ ap (λ (o : Option MItem). slice_get (item_variants o) 0) s.3) in
       let written : kind_there (type_variant program t k) ≡ Some kind = ap kind_there there ∙ sym (f
       ∙ struct_written items width table is s.0 s.1 s.3) in
-      let alone : form_name program t name ≡ PlainName name = ap (λ (u : MType). form_name program u name) s.2
-      ∙ name_of_struct program s.0 no_types s.1 name s.3 in
-      form_joined program t (type_variant program t k) kind (PlainName name) written (name_found program t
+      let alone : name_by paths program t name ≡ PlainName name = ap (λ (u : MType). name_by paths program u name) s.2
+      ∙ name_of_struct paths program s.0 no_types s.1 name s.3 in
+      form_joined paths program t (type_variant program t k) kind (PlainName name) written (name_found paths program t
       (type_variant program t k) name (PlainName name) n alone)
 
   -- the way of writing a variant of an enum, by what was found

@@ -6,6 +6,7 @@ use Rattle.match_model.specs.Trees.{MCase, VariantCase, FlagCase, SpanCase, Text
 use Rattle.match_model.specs.Types.{MType}
 use Rattle.witness_text.specs.Trees.{NameTree}
 use Rattle.type_names.specs.declared.meanings.FormKind.{FormKind}
+use Rattle.witness_names.specs.declared.paths.Paths.TheVariants.{Short}
 use Rattle.witness_names.specs.Named.{form_name}
 use Rattle.witness_names.specs.Lookups.{form_told}
 use Rattle.witness_names.specs.NamedTrees.{named_case, named_branch, is_variant, has_variant}
@@ -34,6 +35,6 @@ module _ (program : MProgram) (at other : Option MType) where
 
 -- the name of a form that is told
 pub name_told : (program : MProgram) (t : MType) (o : Option MVariant) (told : Option (FormKind × NameTree)) →
-    told ≡ option_map (form_told program t) o → option_map (λ p. p.1) told ≡ option_map (λ v. form_name program t v.name) o
+    told ≡ option_map (form_told Short program t) o → option_map (λ p. p.1) told ≡ option_map (λ v. form_name program t v.name) o
 name_told program t None told e = ap (option_map (λ p. p.1)) e
 name_told program t (Some v) told e = ap (option_map (λ p. p.1)) e

@@ -11,7 +11,8 @@ use Rattle.type_table.specs.Tables.{part_of, form_field_name, field_name_of}
 use Rattle.witnesses.specs.Views.{plain_witness}
 use Rattle.witnesses.specs.declared.witness.Witness.{Witness}
 use Rattle.witness_text.specs.Trees.{WitnessTree, FieldTree}
-use Rattle.witness_names.specs.Named.{named_fields, types_there, named_witness, named_parts}
+use Rattle.witness_names.specs.declared.paths.Paths.{Paths}
+use Rattle.witness_names.specs.Named.{named_fields, types_there, named_by, parts_by}
 use Rattle.witness_names.specs.Lookups.{fields_of_form, brace_fields}
 
 pub left_from : {A : Type 0} (xs : List A) (i : ℕ) (x : A) → slice_get xs i ≡ Some x → drop i xs ≡ x ∷ drop (suc i) xs
@@ -93,13 +94,13 @@ witnesses_from ps i p h e =
     ∙ ap (λ k. more_witnesses (plain_witness p) (witnesses_of (map plain_witness (drop k ps)))) next)
 
 -- the trees of the parts from one of them on, the first of which has this number
-abbrev pub parts_from : MProgram → Option MTypes → List Witness → (i k : ℕ) → List WitnessTree
-parts_from program o ps i k = named_parts program (drop i (types_there o)) (witnesses_of (map plain_witness (drop k
+abbrev pub parts_from : Paths → MProgram → Option MTypes → List Witness → (i k : ℕ) → List WitnessTree
+parts_from paths program o ps i k = parts_by paths program (drop i (types_there o)) (witnesses_of (map plain_witness (drop k
     ps)))
 
 -- the same as fields
-abbrev pub trees_from : MProgram → Option MVariant → Option MTypes → List Witness → (i k : ℕ) → List FieldTree
-trees_from program v o ps i k = named_fields (drop i (brace_fields v)) (parts_from program o ps i k)
+abbrev pub trees_from : Paths → MProgram → Option MVariant → Option MTypes → List Witness → (i k : ℕ) → List FieldTree
+trees_from paths program v o ps i k = named_fields (drop i (brace_fields v)) (parts_from paths program o ps i k)
 
 -- one element goes from the rest to what is there
 pub moved : {A : Type 0} (before after : List A) (x : A) (rest left all : List A) → after ≡ before ++ x ∷ [] →
@@ -107,36 +108,36 @@ pub moved : {A : Type 0} (before after : List A) (x : A) (rest left all : List A
 moved before after x rest left all a r h =
     ap (λ ys. ys ++ left) a ∙ (append_assoc before (x ∷ []) left ∙ (ap (λ ys. before ++ ys) (sym r) ∙ h))
 
-module _ (program : MProgram) (o : Option MTypes) (ps : List Witness) (i k : ℕ) where
+module _ (paths : Paths) (program : MProgram) (o : Option MTypes) (ps : List Witness) (i k : ℕ) where
   -- the first of the rest has its type
   pub next_part : (p : Witness) (t : MType) (w : WitnessTree) → k < length ps → p ≡ get_or ps k p →
-      part_of o i ≡ Some t → w ≡ named_witness program t (plain_witness p) →
-      parts_from program o ps i k ≡ w ∷ parts_from program o ps (suc i) (k + 1)
+      part_of o i ≡ Some t → w ≡ named_by paths program t (plain_witness p) →
+      parts_from paths program o ps i k ≡ w ∷ parts_from paths program o ps (suc i) (k + 1)
   next_part p t w below is h e =
       let us = witnesses_of (map plain_witness (drop (k + 1) ps)) in
-      ap (named_parts program (drop i (types_there o))) (witnesses_from ps k p below is)
-      ∙ (ap (λ ts. named_parts program ts (more_witnesses (plain_witness p) us)) (types_from o i t h)
-      ∙ ap (λ v. v ∷ parts_from program o ps (suc i) (k + 1)) (sym e))
+      ap (parts_by paths program (drop i (types_there o))) (witnesses_from ps k p below is)
+      ∙ (ap (λ ts. parts_by paths program ts (more_witnesses (plain_witness p) us)) (types_from o i t h)
+      ∙ ap (λ v. v ∷ parts_from paths program o ps (suc i) (k + 1)) (sym e))
 
-  no_types_left : (us : MWitnesses) → named_parts program [] us ≡ []
+  no_types_left : (us : MWitnesses) → parts_by paths program [] us ≡ []
   no_types_left no_witnesses = refl
   no_types_left (more_witnesses u us) = refl
 
   -- without a type there are none
-  pub no_part : count_of_types o ≤ i → parts_from program o ps i k ≡ []
+  pub no_part : count_of_types o ≤ i → parts_from paths program o ps i k ≡ []
   no_part h = let us = witnesses_of (map plain_witness (drop k ps)) in
-      ap (λ ts. named_parts program ts us) (types_past o i h) ∙ no_types_left us
+      ap (λ ts. parts_by paths program ts us) (types_past o i h) ∙ no_types_left us
 
   -- the first of the rest has its type and its name
   pub next_field : (v : Option MVariant) (p : Witness) (t : MType) (w : WitnessTree) (name : List ℕ) → k < length ps →
       p ≡ get_or ps k p → part_of o i ≡ Some t →
-      w ≡ named_witness program t (plain_witness p) → field_name_of v i ≡ Some name →
-      trees_from program v o ps i k ≡ record { name = name; witness = w } ∷ trees_from program v o ps (suc i) (k + 1)
+      w ≡ named_by paths program t (plain_witness p) → field_name_of v i ≡ Some name →
+      trees_from paths program v o ps i k ≡ record { name = name; witness = w } ∷ trees_from paths program v o ps (suc i) (k + 1)
   next_field v p t w name below is h e n =
       let f = fields_from v i name n in
-      let left = trees_from program v o ps (suc i) (k + 1) in
+      let left = trees_from paths program v o ps (suc i) (k + 1) in
       ap (named_fields (drop i (brace_fields v))) (next_part p t w below is h e)
-      ∙ (ap (λ fs. named_fields fs (w ∷ parts_from program o ps (suc i) (k + 1))) f.1
+      ∙ (ap (λ fs. named_fields fs (w ∷ parts_from paths program o ps (suc i) (k + 1))) f.1
       ∙ ap (λ m. record { name = m; witness = w } ∷ left) f.2)
 
 no_parts_left : (fs : List MField) → named_fields fs [] ≡ []
@@ -144,20 +145,20 @@ no_parts_left [] = refl
 no_parts_left (f ∷ fs) = refl
 
 -- without a type there is no field
-pub no_field : (program : MProgram) (v : Option MVariant) (o : Option MTypes) (ps : List Witness) (i k : ℕ) →
-    count_of_types o ≤ i → trees_from program v o ps i k ≡ []
-no_field program v o ps i k h = ap (named_fields (drop i (brace_fields v))) (no_part program o ps i k h)
+pub no_field : (paths : Paths) (program : MProgram) (v : Option MVariant) (o : Option MTypes) (ps : List Witness) (i k : ℕ) →
+    count_of_types o ≤ i → trees_from paths program v o ps i k ≡ []
+no_field paths program v o ps i k h = ap (named_fields (drop i (brace_fields v))) (no_part paths program o ps i k h)
     ∙ no_parts_left (drop i (brace_fields v))
 
 -- nor without a name
-pub no_name : (program : MProgram) (v : Option MVariant) (o : Option MTypes) (ps : List Witness) (i k : ℕ) →
-    field_name_of v i ≡ None → trees_from program v o ps i k ≡ []
-no_name program v o ps i k h = ap (λ fs. named_fields fs (parts_from program o ps i k)) (fields_past v i h)
+pub no_name : (paths : Paths) (program : MProgram) (v : Option MVariant) (o : Option MTypes) (ps : List Witness) (i k : ℕ) →
+    field_name_of v i ≡ None → trees_from paths program v o ps i k ≡ []
+no_name paths program v o ps i k h = ap (λ fs. named_fields fs (parts_from paths program o ps i k)) (fields_past v i h)
 
 -- nor behind all witnesses
-pub no_witness : (program : MProgram) (v : Option MVariant) (o : Option MTypes) (ps : List Witness) (i k : ℕ) →
-    length ps ≤ k → trees_from program v o ps i k ≡ []
-no_witness program v o ps i k h = ap (λ (qs : List Witness). named_fields (drop i (brace_fields v)) (named_parts
+pub no_witness : (paths : Paths) (program : MProgram) (v : Option MVariant) (o : Option MTypes) (ps : List Witness) (i k : ℕ) →
+    length ps ≤ k → trees_from paths program v o ps i k ≡ []
+no_witness paths program v o ps i k h = ap (λ (qs : List Witness). named_fields (drop i (brace_fields v)) (parts_by paths
     program (drop i (types_there o)) (witnesses_of (map plain_witness qs)))) (drop_all k ps h)
     ∙ no_parts_left (drop i (brace_fields v))
 

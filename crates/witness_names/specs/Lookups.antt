@@ -1,6 +1,6 @@
 -- What the code looks up of a type: how its variants are written, with their names, and what it is made of.
-use Rattle.std.specs.Prelude.{◌≡◌, ℕ, Bool, true, false, List, [], Option, Some, None, option_map, nat_lt, slice_get}
-use Rattle.match_model.specs.Types.{DeclaredItem, MType, TupleType, PointType, SliceType, ArrayType, NamedType, no_types}
+use Rattle.std.specs.Prelude.{◌≡◌, ℕ, Bool, true, false, List, [], Option, Some, None, codes, option_map, nat_lt, slice_get}
+use Rattle.match_model.specs.Types.{MOwner, DeclaredItem, OptionOwner, ResultOwner, MType, TupleType, PointType, SliceType, ArrayType, NamedType, no_types}
 use Rattle.match_model.specs.Declarations.{MField, MForm, UnitForm, TupleForm, BraceForm, MVariant, StructItem, MProgram, node_types}
 use Rattle.match_model.specs.OfType.{entered, type_entered}
 use Rattle.match_model.specs.Places.{MStep}
@@ -15,7 +15,9 @@ use Rattle.type_table.specs.Tables.{table_type, type_variant}
 use Rattle.value_syntax.specs.Trees as written
 use Rattle.witness_text.specs.declared.named.FormName.{FormName}
 use Rattle.witness_text.specs.Trees.{NameTree, FieldTree, name_view}
-use Rattle.witness_names.specs.Named.{form_name, named_fields, named_parts, types_there}
+use Rattle.witness_names.specs.declared.paths.Paths.{Paths}
+use Rattle.witness_names.specs.declared.paths.Paths.TheVariants.{Short}
+use Rattle.witness_names.specs.Named.{name_by, named_fields, parts_by, types_there}
 use Rattle.witness_names.specs.NamedValues.{written_fields, written_parts}
 
 -- how a form is written
@@ -25,16 +27,16 @@ kind_of_form (TupleForm types) = kinds.Tuple
 kind_of_form (BraceForm fields) = kinds.Brace
 
 -- how a variant of the type is written, and its name
-abbrev pub form_told : MProgram → MType → MVariant → FormKind × NameTree
-form_told program t v = (kind_of_form v.form, form_name program t v.name)
+abbrev pub form_told : Paths → MProgram → MType → MVariant → FormKind × NameTree
+form_told paths program t v = (kind_of_form v.form, name_by paths program t v.name)
 
 -- the same of the type's variant with this number, if there is one
-abbrev pub form_there : MProgram → MType → (variant : ℕ) → Option (FormKind × NameTree)
-form_there program t k = option_map (form_told program t) (type_variant program t k)
+abbrev pub form_there : Paths → MProgram → MType → (variant : ℕ) → Option (FormKind × NameTree)
+form_there paths program t k = option_map (form_told paths program t) (type_variant program t k)
 
 -- the name of the type's variant with this number, if there is one
 abbrev pub name_there : MProgram → MType → (variant : ℕ) → Option NameTree
-name_there program t k = option_map (λ v. form_name program t v.name) (type_variant program t k)
+name_there program t k = option_map (λ v. name_by Short program t v.name) (type_variant program t k)
 
 -- the type of what a step from a place of the type enters, if it enters a part that the type has
 abbrev pub behind_step : MProgram → MType → MStep → Option MType
@@ -52,9 +54,9 @@ brace_fields None = []
 brace_fields (Some v) = fields_of_form v.form
 
 -- the witnesses as the fields of the type's variant with this number, if it is of brace form
-abbrev pub fields_there : MProgram → MType → (variant : ℕ) → MWitnesses → List FieldTree
-fields_there program t k ws =
-    named_fields (brace_fields (type_variant program t k)) (named_parts program (types_there (node_types program t k))
+abbrev pub fields_there : Paths → MProgram → MType → (variant : ℕ) → MWitnesses → List FieldTree
+fields_there paths program t k ws =
+    named_fields (brace_fields (type_variant program t k)) (parts_by paths program (types_there (node_types program t k))
     ws)
 
 -- the values as the fields of the type's variant with this number, if it is of brace form
@@ -62,6 +64,12 @@ abbrev pub written_there : MProgram → MType → (variant : ℕ) → MValues �
 written_there program t k vs =
     written_fields (brace_fields (type_variant program t k)) (written_parts program (types_there (node_types program t
     k)) vs)
+
+-- the name of an enum that every program has
+abbrev pub built_in_owner : MOwner → List ℕ
+built_in_owner ResultOwner = codes "Result"
+built_in_owner OptionOwner = codes "Option"
+built_in_owner (DeclaredItem i) = codes "Option"
 
 -- what a caller sees of a form with its name
 abbrev pub form_view : FormKind × FormName → FormKind × NameTree

@@ -6,12 +6,13 @@ ghost use Rattle.match_model.specs.Witness.{NodeOf, witnesses_of};
 ghost use Rattle.type_table.specs.Tables.{IsOf, table_program, table_type};
 ghost use Rattle.witnesses.specs.Views.{plain_witness, plain_strings};
 ghost use Rattle.witness_text.specs.Trees.{witness_view, texts_view, field_view};
-ghost use Rattle.witness_names.specs.Named.{IsOfFile, named_witness, named_parts, named_items, row_tree, types_there};
+ghost use Rattle.witness_names.specs.Named.{IsOfFile, named_by, parts_by, items_by, row_tree, types_there};
 ghost use Rattle.witness_names.specs.Lookups.{fields_there, front_of, back_of};
 ghost use Rattle.witness_names.specs.Points.{named_behind, point_kinds, put_behind};
 ghost use Rattle.witnesses.specs.Points.{begins_with_point};
 ghost use Rattle.witnesses.specs.declared.witness.Witness.{size-Witness};
 
+use crate::Paths;
 use crate::forms::form_of;
 use crate::numbers::name_numbers;
 use crate::types::{inner, is_tuple, pointed};
@@ -24,6 +25,7 @@ use witnesses::Witness;
 /// The witnesses of this type of the table with their names, in their order, as [`name_witness`] names one.
 pub fn name_witnesses<'t>(
     alloc: Global,
+    paths: Paths,
     table: &'t TypeTable,
     ty: TyId,
     witnesses: &'t [Witness],
@@ -31,12 +33,12 @@ pub fn name_witnesses<'t>(
     requires of { IsOf table.now ty }
     requires file { IsOfFile table.now }
     ensures { IfOk result (λ v. map witness_view v.items
-        ≡ map (λ w. named_witness (table_program table.now) (table_type table.now ty) (plain_witness w))
+        ≡ map (λ w. named_by paths (table_program table.now) (table_type table.now ty) (plain_witness w))
         witnesses.now) }
 {
     let mut all = Vec::with_capacity(alloc, witnesses.len())?;
     for witness in witnesses {
-        let named = name_witness(alloc, table, ty, witness)?;
+        let named = name_witness(alloc, paths, table, ty, witness)?;
         all.push(named)?;
     }
     Ok(all)
@@ -70,8 +72,9 @@ fn point_kinds(
 fn behind_points<'t>(table: &TypeTable, ty: TyId, witness: &'t Witness) -> (TyId, &'t Witness)
     requires { IsOf table.now ty }
     ensures of { IsOf table.now result.0 }
-    ensures named { named_witness (table_program table.now) (table_type table.now result.0) (plain_witness result.1.now)
-        ≡ named_behind (table_program table.now) (plain_witness witness.now) (table_type table.now ty) }
+    ensures named { (paths : Paths)
+        → named_by paths (table_program table.now) (table_type table.now result.0) (plain_witness result.1.now)
+        ≡ named_behind paths (table_program table.now) (plain_witness witness.now) (table_type table.now ty) }
     ensures size { size-Witness result.1.now ≤ size-Witness witness.now }
 {
     let mut behind = ty;
@@ -105,12 +108,13 @@ fn put_behind<'t>(
     Ok(all)
 }
 
-/// The witness of this type of the table with the names that a report shows. Its texts are those of the witness and of
-/// the table. It goes down level by level, and through references that follow one another in loops. The only error is
-/// want of memory.
+/// The witness of this type of the table with its names, those of `Option` and `Result` as `paths` says. Its texts are
+/// those of the witness and of the table. It goes down level by level, and through references that follow one another in
+/// loops. The only error is want of memory.
 #[cycle(naming)]
 pub fn name_witness<'t>(
     alloc: Global,
+    paths: Paths,
     table: &'t TypeTable,
     ty: TyId,
     witness: &'t Witness,
@@ -118,7 +122,7 @@ pub fn name_witness<'t>(
     requires of { IsOf table.now ty }
     requires file { IsOfFile table.now }
     ensures { IfOk result (λ n. witness_view n
-        ≡ named_witness (table_program table.now) (table_type table.now ty) (plain_witness witness.now)) }
+        ≡ named_by paths (table_program table.now) (table_type table.now ty) (plain_witness witness.now)) }
 {
     match witness {
         Witness::Any => Ok(NamedWitness::Any),
@@ -126,11 +130,11 @@ pub fn name_witness<'t>(
         Witness::Span(range) => Ok(name_numbers(table, ty, range)),
         Witness::Text(text) => Ok(NamedWitness::Text(text.as_str())),
         Witness::Else(texts) => Ok(NamedWitness::Else(all_texts(alloc, texts)?)),
-        Witness::Node { variant, parts } => name_node(alloc, table, ty, *variant, parts),
-        Witness::Point(_) => name_points(alloc, table, ty, witness),
+        Witness::Node { variant, parts } => name_node(alloc, paths, table, ty, *variant, parts),
+        Witness::Point(_) => name_points(alloc, paths, table, ty, witness),
         Witness::Row { longer, .. } => {
-            let front = name_front(alloc, table, ty, witness)?;
-            let back = name_back(alloc, table, ty, witness)?;
+            let front = name_front(alloc, paths, table, ty, witness)?;
+            let back = name_back(alloc, paths, table, ty, witness)?;
             Ok(row(table, ty, front, *longer, back))
         }
         Witness::Later => Ok(NamedWitness::Later),
@@ -141,6 +145,7 @@ pub fn name_witness<'t>(
 #[cycle(naming)]
 fn name_points<'t>(
     alloc: Global,
+    paths: Paths,
     table: &'t TypeTable,
     ty: TyId,
     witness: &'t Witness,
@@ -149,7 +154,7 @@ fn name_points<'t>(
     requires file { IsOfFile table.now }
     requires point { begins_with_point (plain_witness witness.now) ≡ true }
     ensures { IfOk result (λ n. witness_view n
-        ≡ named_witness (table_program table.now) (table_type table.now ty) (plain_witness witness.now)) }
+        ≡ named_by paths (table_program table.now) (table_type table.now ty) (plain_witness witness.now)) }
 {
     let Witness::Point(inner) = witness else {
         unreachable!();
@@ -159,7 +164,7 @@ fn name_points<'t>(
     };
     let kinds = point_kinds(alloc, table, ty, witness)?;
     let (behind, here) = behind_points(table, next, inner);
-    let last = name_witness(alloc, table, behind, here)?;
+    let last = name_witness(alloc, paths, table, behind, here)?;
     let all = put_behind(alloc, kinds, last)?;
     Ok(all)
 }
@@ -168,6 +173,7 @@ fn name_points<'t>(
 #[cycle(naming)]
 fn name_node<'t>(
     alloc: Global,
+    paths: Paths,
     table: &'t TypeTable,
     ty: TyId,
     variant: u32,
@@ -175,22 +181,22 @@ fn name_node<'t>(
 ) -> Result<NamedWitness<'t>, NoMemory>
     requires of { IsOf table.now ty }
     requires file { IsOfFile table.now }
-    ensures { IfOk result (λ n. witness_view n ≡ named_witness (table_program table.now) (table_type table.now ty)
+    ensures { IfOk result (λ n. witness_view n ≡ named_by paths (table_program table.now) (table_type table.now ty)
         (NodeOf variant (witnesses_of (map plain_witness parts.now)))) }
 {
     if variant == 0 && is_tuple(table, ty) {
-        let parts = name_parts(alloc, table, ty, variant, parts)?;
+        let parts = name_parts(alloc, paths, table, ty, variant, parts)?;
         return Ok(NamedWitness::Tuple(parts));
     }
-    match form_of(table, ty, variant) {
+    match form_of(paths, table, ty, variant) {
         None => Ok(NamedWitness::Any),
         Some((FormKind::Unit, name)) => Ok(NamedWitness::UnitForm(name)),
         Some((FormKind::Tuple, name)) => {
-            let parts = name_parts(alloc, table, ty, variant, parts)?;
+            let parts = name_parts(alloc, paths, table, ty, variant, parts)?;
             Ok(NamedWitness::TupleForm { name, parts })
         }
         Some((FormKind::Brace, name)) => {
-            let fields = name_fields(alloc, table, ty, variant, parts)?;
+            let fields = name_fields(alloc, paths, table, ty, variant, parts)?;
             Ok(NamedWitness::BraceForm { name, fields })
         }
     }
@@ -200,6 +206,7 @@ fn name_node<'t>(
 #[cycle(naming)]
 fn name_parts<'t>(
     alloc: Global,
+    paths: Paths,
     table: &'t TypeTable,
     ty: TyId,
     variant: u32,
@@ -207,7 +214,7 @@ fn name_parts<'t>(
 ) -> Result<Vec<NamedWitness<'t>>, NoMemory>
     requires of { IsOf table.now ty }
     requires file { IsOfFile table.now }
-    ensures { IfOk result (λ v. map witness_view v.items ≡ named_parts (table_program table.now)
+    ensures { IfOk result (λ v. map witness_view v.items ≡ parts_by paths (table_program table.now)
         (types_there (node_types (table_program table.now) (table_type table.now ty) variant))
         (witnesses_of (map plain_witness parts.now))) }
 {
@@ -217,7 +224,7 @@ fn name_parts<'t>(
     for part in parts {
         if i < count {
             let place = table.field(ty, variant, i);
-            let witness = name_witness(alloc, table, place, part)?;
+            let witness = name_witness(alloc, paths, table, place, part)?;
             named.push(witness)?;
             i += 1;
         }
@@ -229,6 +236,7 @@ fn name_parts<'t>(
 #[cycle(naming)]
 fn name_fields<'t>(
     alloc: Global,
+    paths: Paths,
     table: &'t TypeTable,
     ty: TyId,
     variant: u32,
@@ -237,7 +245,7 @@ fn name_fields<'t>(
     requires of { IsOf table.now ty }
     requires file { IsOfFile table.now }
     ensures { IfOk result (λ v. map field_view v.items
-        ≡ fields_there (table_program table.now) (table_type table.now ty) variant (witnesses_of
+        ≡ fields_there paths (table_program table.now) (table_type table.now ty) variant (witnesses_of
         (map plain_witness parts.now))) }
 {
     let count = table.fields(ty, variant);
@@ -249,7 +257,7 @@ fn name_fields<'t>(
                 return Ok(fields);
             };
             let place = table.field(ty, variant, i);
-            let witness = name_witness(alloc, table, place, part)?;
+            let witness = name_witness(alloc, paths, table, place, part)?;
             fields.push(NamedField { name, witness })?;
             i += 1;
         }
@@ -261,17 +269,18 @@ fn name_fields<'t>(
 #[cycle(naming)]
 fn name_front<'t>(
     alloc: Global,
+    paths: Paths,
     table: &'t TypeTable,
     ty: TyId,
     witness: &'t Witness,
 ) -> Result<Vec<NamedWitness<'t>>, NoMemory>
     requires of { IsOf table.now ty }
     requires file { IsOfFile table.now }
-    ensures { IfOk result (λ v. map witness_view v.items ≡ named_items (table_program table.now)
+    ensures { IfOk result (λ v. map witness_view v.items ≡ items_by paths (table_program table.now)
         (inner_type (table_type table.now ty)) (front_of (plain_witness witness.now))) }
 {
     match witness {
-        Witness::Row { front, .. } => name_items(alloc, table, ty, front),
+        Witness::Row { front, .. } => name_items(alloc, paths, table, ty, front),
         _ => Ok(Vec::new(alloc)),
     }
 }
@@ -280,17 +289,18 @@ fn name_front<'t>(
 #[cycle(naming)]
 fn name_back<'t>(
     alloc: Global,
+    paths: Paths,
     table: &'t TypeTable,
     ty: TyId,
     witness: &'t Witness,
 ) -> Result<Vec<NamedWitness<'t>>, NoMemory>
     requires of { IsOf table.now ty }
     requires file { IsOfFile table.now }
-    ensures { IfOk result (λ v. map witness_view v.items ≡ named_items (table_program table.now)
+    ensures { IfOk result (λ v. map witness_view v.items ≡ items_by paths (table_program table.now)
         (inner_type (table_type table.now ty)) (back_of (plain_witness witness.now))) }
 {
     match witness {
-        Witness::Row { back, .. } => name_items(alloc, table, ty, back),
+        Witness::Row { back, .. } => name_items(alloc, paths, table, ty, back),
         _ => Ok(Vec::new(alloc)),
     }
 }
@@ -299,19 +309,20 @@ fn name_back<'t>(
 #[cycle(naming)]
 fn name_items<'t>(
     alloc: Global,
+    paths: Paths,
     table: &'t TypeTable,
     ty: TyId,
     items: &'t [Witness],
 ) -> Result<Vec<NamedWitness<'t>>, NoMemory>
     requires of { IsOf table.now ty }
     requires file { IsOfFile table.now }
-    ensures { IfOk result (λ v. map witness_view v.items ≡ named_items (table_program table.now)
+    ensures { IfOk result (λ v. map witness_view v.items ≡ items_by paths (table_program table.now)
         (inner_type (table_type table.now ty)) (witnesses_of (map plain_witness items.now))) }
 {
     let item = inner(table, ty);
     let mut all = Vec::with_capacity(alloc, items.len())?;
     for witness in items {
-        let named = name_witness(alloc, table, item, witness)?;
+        let named = name_witness(alloc, paths, table, item, witness)?;
         all.push(named)?;
     }
     Ok(all)

@@ -13,6 +13,7 @@ ghost use Rattle.witness_names.specs.Lookups.{written_there};
 ghost use Rattle.witness_names.specs.NamedValues.{written_integer, written_number, written_point};
 ghost use Rattle.witness_names.specs.NamedValues.{written_value, written_parts, written_items};
 
+use crate::Paths;
 use crate::forms::form_of;
 use crate::numbers::character;
 use crate::types::{inner, is_tuple};
@@ -77,7 +78,7 @@ fn name_node(
         let parts = name_parts(alloc, table, ty, variant, parts)?;
         return Ok(WrittenValue::Tuple(parts));
     }
-    match form_of(table, ty, variant) {
+    match form_of(Paths::Short, table, ty, variant) {
         None => Ok(WrittenValue::Unseen),
         Some((FormKind::Unit, name)) => Ok(WrittenValue::UnitForm(path_of(alloc, name)?)),
         Some((FormKind::Tuple, name)) => {

@@ -4,11 +4,11 @@ use Rattle.std.specs.Prelude.{pos, negsuc}
 use Rattle.std.specs.Fmt.{digits}
 use Rattle.serde_json.specs.Written.{compact_text}
 use Rattle.serde_json.proofs.OnLiterals.{serde_json_on_literals}
-use Rattle.match_model.specs.declared.IntKind.TheVariants.{U8, I8, U32, U128, USize, ISize}
+use Rattle.match_model.specs.declared.IntKind.TheVariants.{U8, I8, U32, I128, U128, USize, ISize}
 use Rattle.match_model.specs.Numbers.{MEnd, Free, At, MRange}
 use Rattle.witness_text.specs.Literals.{escaped, string_literal}
 use Rattle.witness_text.specs.Trees.{PlainName, VariantName, WitnessTree, Anything, Undeclared, OfFlag, OfInts, OfChars, OfText, OfOthers, OfTuple, OfUnitForm, OfTupleForm, OfBraceForm, OfPoint, OfRow, no_trees, trees_of, fields_of}
-use Rattle.witness_text.specs.Texts.{name_text, field_text, pattern_text}
+use Rattle.witness_text.specs.Texts.{name_text, field_text, pattern_text, arm_text}
 use Rattle.witness_text.specs.Reported.{witness_data, overlap_data}
 
 abbrev range : (low high : MEnd) → MRange
@@ -166,6 +166,37 @@ row_of_two = refl
 
 empty_row : pattern_text (OfRow no_trees false no_trees) ≡ codes "[]"
 empty_row = refl
+
+-- patterns of arms: one number, several behind a reference, one character, several; and what lies beyond every literal
+arm_number : arm_text (OfInts U8 (range (At (pos 7)) (At (pos 7)))) ≡ codes "7"
+unfolding digits
+arm_number = refl
+
+arm_numbers : arm_text (OfPoint false (OfInts I8 (range (At (negsuc 127)) (At (negsuc 0))))) ≡ codes "&(-128..=-1)"
+unfolding digits
+arm_numbers = refl
+
+arm_character : arm_text (OfTuple (trees_of (OfChars (Some 97) (Some 97) ∷ []))) ≡ codes "('a',)"
+unfolding escaped
+arm_character = refl
+
+arm_characters : arm_text (OfChars (Some 97) (Some 122)) ≡ codes "('a'..='z')"
+unfolding escaped
+arm_characters = refl
+
+arm_above_all : arm_text (OfInts USize (range (At (pos 18446744073709551616)) Free)) ≡ codes "(18446744073709551615..)"
+arm_above_all = refl
+
+arm_above_signed : arm_text (OfInts ISize (range (At (pos 9223372036854775808)) Free)) ≡ codes "(9223372036854775807..)"
+arm_above_signed = refl
+
+arm_below_all : arm_text (OfInts ISize (range Free (At (negsuc 9223372036854775808)))) ≡ codes "(..=-9223372036854775808)"
+arm_below_all = refl
+
+arm_low : arm_text (OfInts I128 (range (At (negsuc 9223372036854775809)) (At (negsuc 9223372036854775808))))
+    ≡ codes "(-9223372036854775810..=-9223372036854775809)"
+unfolding digits
+arm_low = refl
 
 -- an overlap
 overlap : compact_text (overlap_data 19 27 (negsuc 4)) ≡ codes "{\"at\":19,\"value\":\"-5\",\"with\":27}"

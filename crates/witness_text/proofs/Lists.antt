@@ -5,7 +5,8 @@ use Rattle.std.proofs.lemmas.Str.{chars-encodes}
 use Rattle.witness_text.specs.declared.named.NamedWitness.{NamedWitness}
 use Rattle.witness_text.specs.declared.named.NamedField.{NamedField}
 use Rattle.witness_text.specs.Trees.{witnesses_view, fields_view}
-use Rattle.witness_text.specs.Texts.{joined, tuple_end, braced, part_texts, field_texts}
+use Rattle.witness_text.specs.declared.named.Style.{Style}
+use Rattle.witness_text.specs.Texts.{joined, tuple_end, braced, parts_by, fields_by}
 use Rattle.witness_text.specs.Writing.{comma_between, listed, is_behind}
 use Rattle.witness_text.proofs.Adding.{five_added}
 
@@ -47,21 +48,21 @@ row_added x0 x1 x2 x3 x4 x5 front rest back b c is_b is_c e f g h i =
     (ap (λ z. first ++ z) (sym (append_assoc middle last (codes "]"))) ∙ sym (append_assoc first (middle ++ last) (codes "]")) ∙ ap (λ z. z ++ codes "]") (sym all))
 
 -- how a tuple of these parts is closed
-pub one_closed : (ws : List NamedWitness) → length ws ≡ 1 → tuple_end (part_texts (witnesses_view ws)) ≡ codes ",)"
-one_closed [] e = absurd (omega arith)
-one_closed (w ∷ []) e = refl
-one_closed (w ∷ v ∷ ws) e = absurd (omega arith)
+pub one_closed : (style : Style) (ws : List NamedWitness) → length ws ≡ 1 → tuple_end (parts_by style (witnesses_view ws)) ≡ codes ",)"
+one_closed style [] e = absurd (omega arith)
+one_closed style (w ∷ []) e = refl
+one_closed style (w ∷ v ∷ ws) e = absurd (omega arith)
 
-pub others_closed : (ws : List NamedWitness) → (length ws ≡ 1 → ⊥) → tuple_end (part_texts (witnesses_view ws)) ≡ codes ")"
-others_closed [] e = refl
-others_closed (w ∷ []) e = absurd (e refl)
-others_closed (w ∷ v ∷ ws) e = refl
+pub others_closed : (style : Style) (ws : List NamedWitness) → (length ws ≡ 1 → ⊥) → tuple_end (parts_by style (witnesses_view ws)) ≡ codes ")"
+others_closed style [] e = refl
+others_closed style (w ∷ []) e = absurd (e refl)
+others_closed style (w ∷ v ∷ ws) e = refl
 
 -- fields in their braces
-pub some_braced : (fs : List NamedField) (bare : Bool) → bare ≡ (length fs == 0) → bare ≡ false →
-    braced (field_texts (fields_view fs)) ≡ codes " { " ++ (listed false (field_texts (fields_view fs)) ++ codes " }")
-some_braced [] bare e f = absurd cc
-some_braced (f ∷ fs) bare e g = ap (λ z. codes " { " ++ (z ++ codes " }")) (joined_listed (field_texts (fields_view (f ∷ fs))))
+pub some_braced : (style : Style) (fs : List NamedField) (bare : Bool) → bare ≡ (length fs == 0) → bare ≡ false →
+    braced (fields_by style (fields_view fs)) ≡ codes " { " ++ (listed false (fields_by style (fields_view fs)) ++ codes " }")
+some_braced style [] bare e f = absurd cc
+some_braced style (f ∷ fs) bare e g = ap (λ z. codes " { " ++ (z ++ codes " }")) (joined_listed (fields_by style (fields_view (f ∷ fs))))
 
 -- the items of a list, each as it is
 pub same_items : (xs : List ℕ) → map (λ x. x) xs ≡ xs

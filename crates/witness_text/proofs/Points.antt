@@ -2,8 +2,9 @@
 use Rattle.std.proofs.Common.{◌≡◌, refl, sym, ap, ◌∙◌, ℕ, Bool, true, false, List, [], ◌++◌, append_assoc, append-nil, codes, if◌then◌else◌}
 use Rattle.serde_json.specs.Data.{string}
 use Rattle.serde_json.specs.Written.{compact_text}
+use Rattle.witness_text.specs.declared.named.Style.{Style}
 use Rattle.witness_text.specs.Trees.{WitnessTree, OfText, OfPoint}
-use Rattle.witness_text.specs.Texts.{pattern_text, point_text, text_of}
+use Rattle.witness_text.specs.Texts.{text_by, point_text, text_of}
 use Rattle.witness_text.specs.Reported.{point_mark, tree_data}
 use Rattle.witness_text.specs.Points.{behind_points, starts_text, ends_text, mark_text, is_literal, behind_marks, marks_text}
 use Rattle.witness_text.proofs.Written.{point_written}
@@ -31,10 +32,10 @@ tree_around (OfPoint mutable w) =
 tree_around w = sym (append-nil (compact_text (tree_data w)))
 
 -- a reference that is not shown as a literal alone begins with its mark
-pub point_marked : (mutable : Bool) (w : WitnessTree) → is_literal mutable w ≡ false → pattern_text (OfPoint mutable w) ≡ mark_text mutable ++ pattern_text w
-point_marked true w e = refl
-point_marked false (OfText t) e = cc
-point_marked false w e = refl
+pub point_marked : (style : Style) (mutable : Bool) (w : WitnessTree) → is_literal mutable w ≡ false → text_by style (OfPoint mutable w) ≡ mark_text mutable ++ text_by style w
+point_marked style true w e = refl
+point_marked style false (OfText t) e = cc
+point_marked style false w e = refl
 
 -- what stands behind it
 pub behind_marked : (mutable : Bool) (w : WitnessTree) → is_literal mutable w ≡ false → behind_marks (OfPoint mutable w) ≡ behind_marks w
@@ -45,11 +46,11 @@ pub marks_marked : (mutable : Bool) (w : WitnessTree) → is_literal mutable w �
 marks_marked mutable w e = ap (λ b. if b then [] else mark_text mutable ++ marks_text w) e
 
 -- the text of a witness is the marks and what stands behind them
-pub marks_behind : (w : WitnessTree) → pattern_text w ≡ marks_text w ++ pattern_text (behind_marks w)
-marks_behind (OfPoint mutable w) = go (is_literal mutable w) refl (marks_behind w)
+pub marks_behind : (style : Style) (w : WitnessTree) → text_by style w ≡ marks_text w ++ text_by style (behind_marks w)
+marks_behind style (OfPoint mutable w) = go (is_literal mutable w) refl (marks_behind style w)
   where
-    go : (b : Bool) → is_literal mutable w ≡ b → pattern_text w ≡ marks_text w ++ pattern_text (behind_marks w) →
-        pattern_text (OfPoint mutable w) ≡ (if b then [] else mark_text mutable ++ marks_text w) ++ pattern_text (if b then OfPoint mutable w else behind_marks w)
+    go : (b : Bool) → is_literal mutable w ≡ b → text_by style w ≡ marks_text w ++ text_by style (behind_marks w) →
+        text_by style (OfPoint mutable w) ≡ (if b then [] else mark_text mutable ++ marks_text w) ++ text_by style (if b then OfPoint mutable w else behind_marks w)
     go true e h = refl
-    go false e h = point_marked mutable w e ∙ ap (λ z. mark_text mutable ++ z) h ∙ sym (append_assoc (mark_text mutable) (marks_text w) (pattern_text (behind_marks w)))
-marks_behind w = refl
+    go false e h = point_marked style mutable w e ∙ ap (λ z. mark_text mutable ++ z) h ∙ sym (append_assoc (mark_text mutable) (marks_text w) (text_by style (behind_marks w)))
+marks_behind style w = refl

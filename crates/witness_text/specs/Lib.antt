@@ -1,5 +1,6 @@
 pub mod Literals
 pub mod Ranges
+pub mod Arms
 pub mod Reported
 pub mod Texts
 pub mod Trees

@@ -2,7 +2,9 @@
 use Rattle.std.specs.Prelude.{ℕ, Bool, true, false, List, [], ◌∷◌, ◌++◌, Option, Some, None, codes}
 use Rattle.decl_lexer.specs.Written.{written_name}
 use Rattle.witness_text.specs.Literals.{string_literal}
-use Rattle.witness_text.specs.Ranges.{ints_text, chars_text}
+use Rattle.witness_text.specs.declared.named.Style.{Style}
+use Rattle.witness_text.specs.declared.named.Style.TheVariants.{Shown, Arm}
+use Rattle.witness_text.specs.Arms.{ints_by, chars_by}
 use Rattle.witness_text.specs.Trees.{NameTree, PlainName, VariantName, WitnessTree, Anything, Undeclared, OfFlag, OfInts, OfChars, OfText, OfOthers, OfTuple, OfUnitForm, OfTupleForm, OfBraceForm, OfPoint, OfRow, WitnessTrees, no_trees, more_trees, FieldTrees, no_fields, more_fields}
 
 -- the name of a form; a name that is a keyword has `r#`
@@ -64,28 +66,36 @@ point_text false (Some t) text = string_literal t
 point_text false None text = codes "&" ++ text
 
 abbrev mutual
-  -- the witness; a text is what a literal refers to, so `*` stands in front
-  pub pattern_text : WitnessTree → List ℕ
-  pattern_text Anything = codes "_"
-  pattern_text Undeclared = codes "_"
-  pattern_text (OfFlag b) = flag_text b
-  pattern_text (OfInts kind r) = ints_text kind r
-  pattern_text (OfChars low high) = chars_text low high
-  pattern_text (OfText t) = codes "*" ++ string_literal t
-  pattern_text (OfOthers ts) = codes "_"
-  pattern_text (OfTuple ws) = tuple_text (part_texts ws)
-  pattern_text (OfUnitForm name) = name_text name
-  pattern_text (OfTupleForm name ws) = name_text name ++ bracketed (part_texts ws)
-  pattern_text (OfBraceForm name fs) = name_text name ++ braced (field_texts fs)
-  pattern_text (OfPoint mutable w) = point_text mutable (text_of w) (pattern_text w)
-  pattern_text (OfRow front longer back) = row_text (part_texts front) longer (part_texts back)
+  -- the witness in the style; a text is what a literal refers to, so `*` stands in front
+  pub text_by : Style → WitnessTree → List ℕ
+  text_by style Anything = codes "_"
+  text_by style Undeclared = codes "_"
+  text_by style (OfFlag b) = flag_text b
+  text_by style (OfInts kind r) = ints_by style kind r
+  text_by style (OfChars low high) = chars_by style low high
+  text_by style (OfText t) = codes "*" ++ string_literal t
+  text_by style (OfOthers ts) = codes "_"
+  text_by style (OfTuple ws) = tuple_text (parts_by style ws)
+  text_by style (OfUnitForm name) = name_text name
+  text_by style (OfTupleForm name ws) = name_text name ++ bracketed (parts_by style ws)
+  text_by style (OfBraceForm name fs) = name_text name ++ braced (fields_by style fs)
+  text_by style (OfPoint mutable w) = point_text mutable (text_of w) (text_by style w)
+  text_by style (OfRow front longer back) = row_text (parts_by style front) longer (parts_by style back)
 
   -- the parts, each by itself
-  pub part_texts : WitnessTrees → List (List ℕ)
-  part_texts no_trees = []
-  part_texts (more_trees w ws) = pattern_text w ∷ part_texts ws
+  pub parts_by : Style → WitnessTrees → List (List ℕ)
+  parts_by style no_trees = []
+  parts_by style (more_trees w ws) = text_by style w ∷ parts_by style ws
 
   -- the fields, each with its name
-  pub field_texts : FieldTrees → List (List ℕ)
-  field_texts no_fields = []
-  field_texts (more_fields name w fs) = field_text name (pattern_text w) ∷ field_texts fs
+  pub fields_by : Style → FieldTrees → List (List ℕ)
+  fields_by style no_fields = []
+  fields_by style (more_fields name w fs) = field_text name (text_by style w) ∷ fields_by style fs
+
+-- the witness as a report shows it
+abbrev pub pattern_text : WitnessTree → List ℕ
+pattern_text = text_by Shown
+
+-- the pattern of an arm that takes what the witness shows
+abbrev pub arm_text : WitnessTree → List ℕ
+arm_text = text_by Arm

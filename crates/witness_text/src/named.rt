@@ -2,6 +2,16 @@
 use match_model::IntKind;
 use range_split::Range;
 
+// For whom a witness is written.
+#[derive(Clone, Copy)]
+pub enum Style {
+    // For a reader: a range as it is.
+    Shown,
+    // For a compiler, as the pattern of an arm: several numbers stand in parentheses, and where they lie beyond every
+    // literal, the nearest literal is taken in.
+    Arm,
+}
+
 /// The name of a form, without `r#`.
 #[derive(Clone, Copy, Debug, PartialEq, Eq)]
 pub enum FormName<'a> {

@@ -2,13 +2,14 @@
 ghost use Rattle.std.specs.Prelude.{◌≡◌, ◌++◌, ◌≤◌, false, true, IfOk, OnOk, chars, option_map, string_bytes};
 ghost use Rattle.witness_text.specs.Trees.{OfPoint, name_view, witness_view, witnesses_view, field_view, fields_view};
 ghost use Rattle.witness_text.specs.Texts.{name_text, flag_text, tuple_end, tuple_text, bracketed, braced};
-ghost use Rattle.witness_text.specs.Texts.{rest_texts, text_of, pattern_text, part_texts};
-ghost use Rattle.witness_text.specs.Texts.{field_text, field_texts};
+ghost use Rattle.witness_text.specs.Texts.{rest_texts, text_of, text_by, parts_by};
+ghost use Rattle.witness_text.specs.Texts.{field_text, fields_by};
 ghost use Rattle.witness_text.specs.Writing.{comma_between, listed, is_behind};
 ghost use Rattle.witness_text.specs.Points.{begins_with_point, is_literal, behind_marks, mark_text, marks_text};
 ghost use Rattle.witness_text.specs.declared.named.NamedWitness.{size-NamedWitness};
 
 use crate::literals::{push_referred, push_string};
+use crate::named::Style;
 use crate::names::push_form_name;
 use crate::ranges::{push_chars, push_ints};
 use crate::{FormName, NamedField, NamedWitness};
@@ -38,7 +39,7 @@ fn literal_of<'a>(witness: &NamedWitness<'a>) -> Option<&'a str>
 
 // What closes a tuple of these parts.
 fn tuple_end(parts: &[NamedWitness<'_>]) -> &'static str
-    ensures { result.now ≡ tuple_end (part_texts (witnesses_view parts.now)) }
+    ensures { (style : Style) → result.now ≡ tuple_end (parts_by style (witnesses_view parts.now)) }
 {
     if parts.len() == 1 { ",)" } else { ")" }
 }
@@ -110,32 +111,36 @@ fn push_marks(text: &mut String, witness: &NamedWitness<'_>) -> Result<(), Alloc
     Ok(())
 }
 
-// Adds the witness. It goes down level by level, and through references that follow one another in a loop.
+// Adds the witness in the style. It goes down level by level, and through references that follow one another in a loop.
 #[cycle(pattern)]
-pub fn push_pattern(text: &mut String, witness: &NamedWitness<'_>) -> Result<(), AllocError>
-    ensures { OnOk result (string_bytes text.new ≡ string_bytes text.old ++ pattern_text (witness_view witness.now)) }
+pub fn push_pattern(
+    text: &mut String,
+    style: Style,
+    witness: &NamedWitness<'_>,
+) -> Result<(), AllocError>
+    ensures { OnOk result (string_bytes text.new ≡ string_bytes text.old ++ text_by style (witness_view witness.now)) }
 {
     match witness {
         NamedWitness::Any => text.push('_'),
         NamedWitness::Flag(flag) => text.push_str(flag_word(*flag)),
-        NamedWitness::Ints { kind, range } => push_ints(text, *kind, range),
-        NamedWitness::Chars { low, high } => push_chars(text, *low, *high),
+        NamedWitness::Ints { kind, range } => push_ints(text, style, *kind, range),
+        NamedWitness::Chars { low, high } => push_chars(text, style, *low, *high),
         NamedWitness::Text(shown) => push_referred(text, shown),
         NamedWitness::Else(_) => text.push('_'),
-        NamedWitness::Tuple(parts) => push_tuple(text, parts),
+        NamedWitness::Tuple(parts) => push_tuple(text, style, parts),
         NamedWitness::UnitForm(name) => push_form_name(text, name),
-        NamedWitness::TupleForm { name, parts } => push_tuple_form(text, name, parts),
-        NamedWitness::BraceForm { name, fields } => push_brace_form(text, name, fields),
-        NamedWitness::Point { .. } => push_points(text, witness),
+        NamedWitness::TupleForm { name, parts } => push_tuple_form(text, style, name, parts),
+        NamedWitness::BraceForm { name, fields } => push_brace_form(text, style, name, fields),
+        NamedWitness::Point { .. } => push_points(text, style, witness),
         NamedWitness::Row {
             front,
             longer,
             back,
         } => {
             text.push('[')?;
-            let later = push_parts(text, false, front)?;
+            let later = push_parts(text, style, false, front)?;
             let later = push_rest(text, later, *longer)?;
-            push_parts(text, later, back)?;
+            push_parts(text, style, later, back)?;
             text.push(']')?;
             Ok(())
         }
@@ -148,17 +153,18 @@ pub fn push_pattern(text: &mut String, witness: &NamedWitness<'_>) -> Result<(),
 #[cycle(pattern)]
 fn push_parts(
     text: &mut String,
+    style: Style,
     before: bool,
     parts: &[NamedWitness<'_>],
 ) -> Result<bool, AllocError>
     ensures text { OnOk result (string_bytes text.new
-        ≡ string_bytes text.old ++ listed before (part_texts (witnesses_view parts.now))) }
-    ensures later { IfOk result (λ b. b ≡ is_behind before (part_texts (witnesses_view parts.now))) }
+        ≡ string_bytes text.old ++ listed before (parts_by style (witnesses_view parts.now))) }
+    ensures later { IfOk result (λ b. b ≡ is_behind before (parts_by style (witnesses_view parts.now))) }
 {
     let mut later = before;
     for part in parts {
         push_between(text, later)?;
-        push_pattern(text, part)?;
+        push_pattern(text, style, part)?;
         later = true;
     }
     Ok(later)
@@ -166,14 +172,14 @@ fn push_parts(
 
 // Adds the fields, each with its name, and commas between them.
 #[cycle(pattern)]
-fn push_fields(text: &mut String, fields: &[NamedField<'_>]) -> Result<(), AllocError>
+fn push_fields(text: &mut String, style: Style, fields: &[NamedField<'_>]) -> Result<(), AllocError>
     ensures { OnOk result (string_bytes text.new
-        ≡ string_bytes text.old ++ listed false (field_texts (fields_view fields.now))) }
+        ≡ string_bytes text.old ++ listed false (fields_by style (fields_view fields.now))) }
 {
     let mut later = false;
     for field in fields {
         push_between(text, later)?;
-        push_field(text, field)?;
+        push_field(text, style, field)?;
         later = true;
     }
     Ok(())
@@ -181,25 +187,25 @@ fn push_fields(text: &mut String, fields: &[NamedField<'_>]) -> Result<(), Alloc
 
 // Adds a field with its name.
 #[cycle(pattern)]
-fn push_field(text: &mut String, field: &NamedField<'_>) -> Result<(), AllocError>
+fn push_field(text: &mut String, style: Style, field: &NamedField<'_>) -> Result<(), AllocError>
     ensures { OnOk result (string_bytes text.new
         ≡ string_bytes text.old ++ field_text (field_view field.now).name
-        (pattern_text (field_view field.now).witness)) }
+        (text_by style (field_view field.now).witness)) }
 {
     push_name(text, field.name)?;
     text.push_str(": ")?;
-    push_pattern(text, &field.witness)?;
+    push_pattern(text, style, &field.witness)?;
     Ok(())
 }
 
 // Adds a tuple.
 #[cycle(pattern)]
-fn push_tuple(text: &mut String, parts: &[NamedWitness<'_>]) -> Result<(), AllocError>
+fn push_tuple(text: &mut String, style: Style, parts: &[NamedWitness<'_>]) -> Result<(), AllocError>
     ensures { OnOk result (string_bytes text.new ≡ string_bytes text.old
-        ++ tuple_text (part_texts (witnesses_view parts.now))) }
+        ++ tuple_text (parts_by style (witnesses_view parts.now))) }
 {
     text.push('(')?;
-    push_parts(text, false, parts)?;
+    push_parts(text, style, false, parts)?;
     text.push_str(tuple_end(parts))?;
     Ok(())
 }
@@ -208,15 +214,16 @@ fn push_tuple(text: &mut String, parts: &[NamedWitness<'_>]) -> Result<(), Alloc
 #[cycle(pattern)]
 fn push_tuple_form(
     text: &mut String,
+    style: Style,
     name: &FormName<'_>,
     parts: &[NamedWitness<'_>],
 ) -> Result<(), AllocError>
     ensures { OnOk result (string_bytes text.new ≡ string_bytes text.old
-        ++ (name_text (name_view name.now) ++ bracketed (part_texts (witnesses_view parts.now)))) }
+        ++ (name_text (name_view name.now) ++ bracketed (parts_by style (witnesses_view parts.now)))) }
 {
     push_form_name(text, name)?;
     text.push('(')?;
-    push_parts(text, false, parts)?;
+    push_parts(text, style, false, parts)?;
     text.push(')')?;
     Ok(())
 }
@@ -225,28 +232,29 @@ fn push_tuple_form(
 #[cycle(pattern)]
 fn push_brace_form(
     text: &mut String,
+    style: Style,
     name: &FormName<'_>,
     fields: &[NamedField<'_>],
 ) -> Result<(), AllocError>
     ensures { OnOk result (string_bytes text.new ≡ string_bytes text.old
-        ++ (name_text (name_view name.now) ++ braced (field_texts (fields_view fields.now)))) }
+        ++ (name_text (name_view name.now) ++ braced (fields_by style (fields_view fields.now)))) }
 {
     push_form_name(text, name)?;
-    push_braces(text, fields)?;
+    push_braces(text, style, fields)?;
     Ok(())
 }
 
 // Adds named fields in their braces.
 #[cycle(pattern)]
-fn push_braces(text: &mut String, fields: &[NamedField<'_>]) -> Result<(), AllocError>
+fn push_braces(text: &mut String, style: Style, fields: &[NamedField<'_>]) -> Result<(), AllocError>
     ensures { OnOk result (string_bytes text.new
-        ≡ string_bytes text.old ++ braced (field_texts (fields_view fields.now))) }
+        ≡ string_bytes text.old ++ braced (fields_by style (fields_view fields.now))) }
 {
     if fields.is_empty() {
         return text.push_str(" {}");
     }
     text.push_str(" { ")?;
-    push_fields(text, fields)?;
+    push_fields(text, style, fields)?;
     text.push_str(" }")?;
     Ok(())
 }
@@ -254,8 +262,8 @@ fn push_braces(text: &mut String, fields: &[NamedField<'_>]) -> Result<(), Alloc
 // Adds a reference to a text, which is the literal of the text alone.
 fn push_alone(text: &mut String, inner: &NamedWitness<'_>) -> Result<(), AllocError>
     requires { is_literal false (witness_view inner.now) ≡ true }
-    ensures { OnOk result (string_bytes text.new
-        ≡ string_bytes text.old ++ pattern_text (OfPoint false (witness_view inner.now))) }
+    ensures { (style : Style) → OnOk result (string_bytes text.new
+        ≡ string_bytes text.old ++ text_by style (OfPoint false (witness_view inner.now))) }
 {
     let NamedWitness::Text(shown) = inner else {
         unreachable!();
@@ -265,9 +273,13 @@ fn push_alone(text: &mut String, inner: &NamedWitness<'_>) -> Result<(), AllocEr
 
 // Adds a witness that begins with a reference.
 #[cycle(pattern)]
-fn push_points(text: &mut String, witness: &NamedWitness<'_>) -> Result<(), AllocError>
+fn push_points(
+    text: &mut String,
+    style: Style,
+    witness: &NamedWitness<'_>,
+) -> Result<(), AllocError>
     requires { begins_with_point (witness_view witness.now) ≡ true }
-    ensures { OnOk result (string_bytes text.new ≡ string_bytes text.old ++ pattern_text (witness_view witness.now)) }
+    ensures { OnOk result (string_bytes text.new ≡ string_bytes text.old ++ text_by style (witness_view witness.now)) }
 {
     let NamedWitness::Point { mutable, inner } = witness else {
         unreachable!();
@@ -276,7 +288,7 @@ fn push_points(text: &mut String, witness: &NamedWitness<'_>) -> Result<(), Allo
         push_alone(text, inner)
     } else {
         push_marks(text, witness)?;
-        push_pattern(text, behind_marks(inner))?;
+        push_pattern(text, style, behind_marks(inner))?;
         Ok(())
     }
 }

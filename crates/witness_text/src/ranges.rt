@@ -7,8 +7,10 @@ ghost use Rattle.range_split.specs.Ranges.{plain_range};
 ghost use Rattle.witness_text.specs.Literals.{char_literal};
 ghost use Rattle.witness_text.specs.Ranges.{numbers_text, chars_text, is_above, is_below};
 ghost use Rattle.witness_text.specs.Ranges.{begins_above_literals, ends_below_literals, above_text, ints_text};
+ghost use Rattle.witness_text.specs.Arms.{from_greatest, up_to_least, several_text, arm_ints, is_one_char, arm_chars, ints_by, chars_by};
 
 use crate::literals::push_char;
+use crate::named::Style;
 use match_model::IntKind;
 use range_split::{End, Num, Range};
 use std::alloc::AllocError;
@@ -119,8 +121,8 @@ fn push_numbers(text: &mut String, range: &Range) -> Result<(), AllocError>
     }
 }
 
-// Adds a range of an integer type.
-pub fn push_ints(text: &mut String, kind: IntKind, range: &Range) -> Result<(), AllocError>
+// Adds a range of an integer type, as a report shows it.
+fn push_shown_ints(text: &mut String, kind: IntKind, range: &Range) -> Result<(), AllocError>
     ensures { OnOk result (string_bytes text.new ≡ string_bytes text.old ++ ints_text kind (plain_range range.now)) }
 {
     if begins_above_literals(kind, &range.low()) {
@@ -143,8 +145,8 @@ fn push_two_chars(text: &mut String, low: char, high: char) -> Result<(), AllocE
     Ok(())
 }
 
-// Adds a range of characters.
-pub fn push_chars(
+// Adds a range of characters, as a report shows it.
+fn push_shown_chars(
     text: &mut String,
     low: Option<char>,
     high: Option<char>,
@@ -169,5 +171,98 @@ pub fn push_chars(
             }
             push_two_chars(text, low, high)
         }
+    }
+}
+
+// The numbers from the greatest literal on, which is the nearest literal to what lies above.
+fn from_greatest(kind: IntKind) -> &'static str
+    ensures { result.now ≡ from_greatest kind }
+{
+    match kind {
+        IntKind::ISize => "9223372036854775807..",
+        _ => "18446744073709551615..",
+    }
+}
+
+// Adds several numbers. A range beyond every literal begins or ends at the nearest one.
+fn push_several(text: &mut String, kind: IntKind, range: &Range) -> Result<(), AllocError>
+    ensures { OnOk result (string_bytes text.new ≡ string_bytes text.old ++ several_text kind (plain_range range.now)) }
+{
+    if begins_above_literals(kind, &range.low()) {
+        return text.push_str(from_greatest(kind));
+    }
+    if ends_below_literals(kind, &range.high()) {
+        return text.push_str("..=-9223372036854775808");
+    }
+    push_numbers(text, range)
+}
+
+// Adds numbers of an integer type as an arm has them: several stand in parentheses.
+fn push_arm_ints(text: &mut String, kind: IntKind, range: &Range) -> Result<(), AllocError>
+    ensures { OnOk result (string_bytes text.new ≡ string_bytes text.old ++ arm_ints kind (plain_range range.now)) }
+{
+    if range.is_single() {
+        return push_numbers(text, range);
+    }
+    text.push('(')?;
+    push_several(text, kind, range)?;
+    text.push(')')?;
+    Ok(())
+}
+
+// Adds characters as an arm has them: several stand in parentheses.
+fn push_arm_chars(
+    text: &mut String,
+    low: Option<char>,
+    high: Option<char>,
+) -> Result<(), AllocError>
+    ensures { OnOk result (string_bytes text.new ≡ string_bytes text.old ++ arm_chars low high) }
+{
+    if is_one_char(low, high) {
+        return push_shown_chars(text, low, high);
+    }
+    text.push('(')?;
+    push_shown_chars(text, low, high)?;
+    text.push(')')?;
+    Ok(())
+}
+
+// Whether the ends are one character.
+fn is_one_char(low: Option<char>, high: Option<char>) -> bool
+    ensures { result ≡ is_one_char low high }
+{
+    match (low, high) {
+        (Some(low), Some(high)) => low == high,
+        _ => false,
+    }
+}
+
+// Adds numbers of an integer type.
+pub fn push_ints(
+    text: &mut String,
+    style: Style,
+    kind: IntKind,
+    range: &Range,
+) -> Result<(), AllocError>
+    ensures { OnOk result (string_bytes text.new ≡ string_bytes text.old ++ ints_by style kind (plain_range range.now)) }
+{
+    match style {
+        Style::Shown => push_shown_ints(text, kind, range),
+        Style::Arm => push_arm_ints(text, kind, range),
+    }
+}
+
+// Adds characters.
+pub fn push_chars(
+    text: &mut String,
+    style: Style,
+    low: Option<char>,
+    high: Option<char>,
+) -> Result<(), AllocError>
+    ensures { OnOk result (string_bytes text.new ≡ string_bytes text.old ++ chars_by style low high) }
+{
+    match style {
+        Style::Shown => push_shown_chars(text, low, high),
+        Style::Arm => push_arm_chars(text, low, high),
     }
 }

@@ -9,6 +9,7 @@ ghost use Rattle.witness_text.specs.Texts.{pattern_text};
 ghost use Rattle.witness_text.specs.Reported.{witness_data, witnesses_data, overlap_data};
 
 use crate::NamedWitness;
+use crate::named::Style;
 use crate::pattern::push_pattern;
 use crate::quoting::{push_comma, push_quoted};
 use crate::tree::{push_number_text, push_tree};
@@ -26,7 +27,7 @@ fn push_pattern_text(
         ≡ string_bytes text.old ++ compact_text (string (pattern_text (witness_view witness.now)))) }
 {
     let mut shown = String::new(alloc);
-    push_pattern(&mut shown, witness)?;
+    push_pattern(&mut shown, Style::Shown, witness)?;
     push_quoted(alloc, text, shown.as_str())?;
     Ok(())
 }

@@ -39,8 +39,8 @@ returns-in-Some g c = λ fs h.
     }))
     (omega (arith, length-map c.args.f.arms.items arm_view, c.len.ensures))
 
-pub add_judged-requires : goal.add_judged-requires
-add_judged-requires g c =
+pub add_fine-requires : goal.add_fine-requires
+add_fine-requires g c =
     let x = c.args.source.now in
     let at = c.requires.1.0 in (
       record {

@@ -12,7 +12,7 @@ match_of-requires g c = record { fine = (g.whole, c.requires.0) }
 pub verdict_on-requires-clause-few : goal.verdict_on-requires-clause-few
 verdict_on-requires-clause-few g c =
     few_arms c.args.source.now g.whole (function_view c.args.f) c.in_ok-m.m (2 ^ 32) (c.in_ok-m.ensures g.whole c.requires.0)
-    (few_held c.args.f.arms.items (2 ^ 32) c.requires.1)
+    (few_held c.args.f.arms.items (2 ^ 32) c.requires.1.0)
 
 pub verdict_on-requires-clause-shown : goal.verdict_on-requires-clause-shown
 verdict_on-requires-clause-shown g c = (g.whole, function_view c.args.f, c.in_ok-m.ensures g.whole c.requires.0)
@@ -20,7 +20,7 @@ verdict_on-requires-clause-shown g c = (g.whole, function_view c.args.f, c.in_ok
 pub tree_of-requires-clause-few : goal.tree_of-requires-clause-few
 tree_of-requires-clause-few g c =
     few_arms c.args.source.now g.whole (function_view c.args.f) c.in_ok-m.m (2 ^ 32) (c.in_ok-m.ensures g.whole c.requires.0)
-    (few_held c.args.f.arms.items (2 ^ 32) c.requires.1)
+    (few_held c.args.f.arms.items (2 ^ 32) c.requires.1.0)
 
 pub tree_of-requires-clause-shown : goal.tree_of-requires-clause-shown
 tree_of-requires-clause-shown g c = (g.whole, function_view c.args.f, c.in_ok-m.ensures g.whole c.requires.0)
@@ -37,6 +37,7 @@ returns g c = λ fs h.
     let made = c.in_ok-m.ensures g.whole c.requires.0 in
     c.add_found.ensures c.args.command c.args.number f fs h
     (record {
+      asked = c.requires.1.1;
       fine = c.requires.0;
       type_is = made.shown.type_is;
       verdict = c.in_ok-judgement.ensures g.whole f made;

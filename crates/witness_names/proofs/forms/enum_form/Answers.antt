@@ -33,5 +33,5 @@ returns c =
     ) in
     let told = enum_told file.0 file.1 table file.2 t c.args.variant o c.requires.is c.requires.there
     c.in_ok-owner.ensures in
-    form_joined (table_program table) t (type_variant (table_program table) t c.args.variant) _ _ (sym (some
+    form_joined c.args.paths (table_program table) t (type_variant (table_program table) t c.args.variant) _ _ (sym (some
     ∙ told)) c.variant_name.ensures

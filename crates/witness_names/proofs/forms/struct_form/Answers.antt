@@ -18,5 +18,5 @@ returns c =
     let file = c.requires.file in
     let s = c.requires.is in
     let some = c.in_ok-kind.ensures.form file.0 file.1 (FoundStruct s.0) file.2 (c.args.ty, refl, c.requires.of, s.2) in
-    struct_told file.0 file.1 c.args.table.now file.2 (table_type c.args.table.now c.args.ty) c.args.variant s _ _
+    struct_told file.0 file.1 c.args.table.now file.2 (table_type c.args.table.now c.args.ty) c.args.variant c.args.paths s _ _
     (search rules) some (search rules)

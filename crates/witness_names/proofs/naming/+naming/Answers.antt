@@ -27,7 +27,7 @@ name_fields-returns-in_default t c =
     let o = node_types program (table_type table c.args.ty) c.args.variant in
     let none = sym c.field_name.ensures ∙ ap (λ (n : Option (Bor (List ℕ))). option_map (λ s. s.now) n)
     c.in_default.is in
-    ended _ _ _ (no_name program v o c.args.parts.now c.loop-part.i c.loop-part.part-index none) c.loop-part.invariant
+    ended _ _ _ (no_name c.args.paths program v o c.args.parts.now c.loop-part.i c.loop-part.part-index none) c.loop-part.invariant
 
 pub name_fields-field-place-requires-clause-there : goal.name_fields-field-place-requires-clause-there
 name_fields-field-place-requires-clause-there t c =
@@ -48,7 +48,7 @@ name_fields-loop-part-preserved t c =
       | name_fields-then-i-count+in-Some+in_ok-witness+in_ok-push w ↦
           let named = sym w.field_name.ensures ∙ ap (λ (n : Option (Bor (List ℕ))). option_map (λ s. s.now) n)
           w.in-Some.is in
-          let next = next_field program o ps i k v c.part-item.result _ (witness_view w.in_ok-witness.witness) _
+          let next = next_field c.args.paths program o ps i k v c.part-item.result _ (witness_view w.in_ok-witness.witness) _
           c.loop-part-test.true c.part-item.is
           w.field-place.ensures.type_is w.in_ok-witness.ensures named in
           let index = w.i-is ∙ add-one i in
@@ -63,13 +63,13 @@ name_fields-loop-part-preserved t c =
             name = w.in-Some.name.now;
             witness = witness_view
                 w.in_ok-witness.witness;
-          } ∷ trees_from program v o ps j (k + 1)) (sym index)) c.loop-part.invariant
+          } ∷ trees_from c.args.paths program v o ps j (k + 1)) (sym index)) c.loop-part.invariant
       | name_fields-else-i-count w ↦
           let past = subst (λ n. n ≤ i) c.fields-count.ensures w.if-i-count.false in
-          stayed _ _ _ _ _ (ap (λ (f : Vec NamedField Global). map field_view f.items) w.fields-is) (no_field program
+          stayed _ _ _ _ _ (ap (λ (f : Vec NamedField Global). map field_view f.items) w.fields-is) (no_field c.args.paths program
           v o ps i k past)
-          (ap (λ j. trees_from program v o ps j (k + 1)) w.i-is
-          ∙ no_field program v o ps i (k + 1) past) c.loop-part.invariant
+          (ap (λ j. trees_from c.args.paths program v o ps j (k + 1)) w.i-is
+          ∙ no_field c.args.paths program v o ps i (k + 1) past) c.loop-part.invariant
     ]
 
 pub name_fields-returns : goal.name_fields-returns
@@ -78,7 +78,7 @@ name_fields-returns t c =
     let program = table_program table in
     let v = type_variant program (table_type table c.args.ty) c.args.variant in
     let o = node_types program (table_type table c.args.ty) c.args.variant in
-    ended _ _ _ (no_witness program v o c.args.parts.now c.loop-part.i c.loop-part.part-index c.loop-part-test.false)
+    ended _ _ _ (no_witness c.args.paths program v o c.args.parts.now c.loop-part.i c.loop-part.part-index c.loop-part-test.false)
     c.loop-part.invariant
 
 pub name_points-returns : goal.name_points-returns
@@ -94,9 +94,9 @@ name_points-returns t c =
     c.in_ok-all.ensures
     ∙ ap (λ (ks : List Bool). put_behind ks (witness_view c.in_ok-last.last)) c.in_ok-kinds.ensures
     ∙ ap (put_behind (point_kinds (plain_witness c.args.witness.now) here))
-    (c.in_ok-last.ensures ∙ c.behind_points.ensures.named
-    ∙ behind_step program here u c.in-Some._mutable inner (plain_witness c.args.witness.now) there is)
-    ∙ named_points program (plain_witness c.args.witness.now) here
+    (c.in_ok-last.ensures ∙ c.behind_points.ensures.named c.args.paths
+    ∙ behind_step c.args.paths program here u c.in-Some._mutable inner (plain_witness c.args.witness.now) there is)
+    ∙ named_points c.args.paths program (plain_witness c.args.witness.now) here
 
 pub name_parts-loop-part-preserved : goal.name_parts-loop-part-preserved
 name_parts-loop-part-preserved t c =
@@ -108,7 +108,7 @@ name_parts-loop-part-preserved t c =
     let k = c.loop-part.part-index in
     elim c.if-i-count.branch [
       | name_parts-then-i-count+in_ok-witness+in_ok-push w ↦
-          let next = next_part program o ps i k c.part-item.result _ (witness_view w.in_ok-witness.witness)
+          let next = next_part c.args.paths program o ps i k c.part-item.result _ (witness_view w.in_ok-witness.witness)
           c.loop-part-test.true c.part-item.is
           w.field-place.ensures.type_is w.in_ok-witness.ensures in
           let index = w.i-is ∙ add-one i in
@@ -116,11 +116,11 @@ name_parts-loop-part-preserved t c =
           ∙ (ap (map witness_view) w.in_ok-push.ensures.items
           ∙ map-append witness_view c.loop-part.named.items _) in
           moved _ _ _ _ _ _ grown (next ∙ ap (λ j. witness_view w.in_ok-witness.witness
-          ∷ parts_from program o ps j (k + 1)) (sym index)) c.loop-part.invariant
+          ∷ parts_from c.args.paths program o ps j (k + 1)) (sym index)) c.loop-part.invariant
       | name_parts-else-i-count w ↦
           let past = subst (λ n. n ≤ i) c.fields-count.ensures w.if-i-count.false in
-          stayed _ _ _ _ _ (ap (λ (f : Vec NamedWitness Global). map witness_view f.items) w.named-is) (no_part
+          stayed _ _ _ _ _ (ap (λ (f : Vec NamedWitness Global). map witness_view f.items) w.named-is) (no_part c.args.paths
           program o ps i k past)
-          (ap (λ j. parts_from program o ps j (k + 1)) w.i-is
-          ∙ no_part program o ps i (k + 1) past) c.loop-part.invariant
+          (ap (λ j. parts_from c.args.paths program o ps j (k + 1)) w.i-is
+          ∙ no_part c.args.paths program o ps i (k + 1) past) c.loop-part.invariant
     ]

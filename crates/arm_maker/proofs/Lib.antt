@@ -1,0 +1,10 @@
+pub mod Counts
+pub mod Lower
+pub mod Agreeing
+pub mod Typed
+pub mod KeysAgree
+pub mod Apart
+pub mod Sorted
+pub mod Rests
+pub mod Comparing
+pub mod PartKeys
