@@ -9,6 +9,7 @@ from running import NO_MEMORY, WORDS, clean, line, report, run
 CASES = [[["variant", "E::A"], 1], [["variant", "E::B"], 2], [["else"], 3]]
 TREE = [["switch", "$", CASES], ["take", 0, []], ["take", 1, []], ["take", 2, []]]
 ROW = {"text": "&[false, .., true]", "tree": ["point", "&", ["row", [["flag", False]], True, [["flag", True]]]]}
+ROW_ARMS = ["&[Option::Some((-128..=-1))]", "&[Option::Some(_), .., Option::None]", "&[Option::Some(_), .., Option::Some((-128..=-1))]"]
 HELD = [{"mode": "ref", "name": "a", "value": "7"}, {"mode": "ref", "name": "t", "value": "[8, 9]"}]
 DEMO = {"arms": 5, "exhaustive": 1, "functions": 1, "overlaps": 1, "unreachable": 1, "witnesses": 0}
 # Words, source, and what is written where there is memory.
@@ -19,6 +20,9 @@ SOURCES = {
     "`check` on rows": (
         ["check", "f.rs"], function("&[bool]", "[]=>1,[true,..]=>2,[..,false]=>3"),
         (1, report({"exhaustive": False, "name": "f", "overlaps": [], "unreachable": [], "witnesses": [ROW]}))),
+    "`arms` on rows": (
+        ["arms", "f.rs"], function("&[Option<i8>]", "[]=>1,[None,..]=>2,[..,Some(0..=127)]=>3"),
+        (1, report({"arms": ROW_ARMS, "name": "f"}))),
     "`eval` with a bound rest": (
         ["eval", "f.rs", "f", "&[7, 8, 9]"], function("&[u8]", "[a,t @ ..]=>1,[]=>2"),
         (0, line({"arm": 0, "asked": [], "bindings": HELD, "outcome": "took"}))),

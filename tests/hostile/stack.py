@@ -88,8 +88,20 @@ def one(tried, program, folder, kilobytes, name, source, ends):
         tried.add(what, f"status {status}", None if fine else shown, f"`{command}`, {name}")
 
 
+def arms_of(tried, program, folder, kilobytes, name, text):
+    """The arm to add to the source that lies there: the missing value, or rule 50 where that is too deep."""
+    status, written = run(program, ["arms", "f.rs"], folder, **with_stack(kilobytes))
+    ends = b'{"arms":["%s"],"name":"f"}]}\n' % text.encode()
+    if text.count("&") > LEVELS:
+        ends = b'"name":"arm-too-large","rule":50}}]}\n'
+    shown = f"it ended with {status} and wrote {written[:100]!r}"
+    fine = status == FOUND and written.endswith(ends)
+    tried.add(f"deep sources, {kilobytes} kB of stack", f"status {status}", None if fine else shown, f"`arms`, {name}")
+
+
 def try_all(tried, program, folder):
     for kilobytes, rows in ((1024, deep()), (512, half())):
         for name, source, text, tree in rows:
             one(tried, program, folder, kilobytes, name, source, missing(text, tree))
+            arms_of(tried, program, folder, kilobytes, name, text)
     one(tried, program, folder, 256, f"{MANY:,} structs", many(), b"")

@@ -1,0 +1,1 @@
+fn f(x:Option<bool>){match x{Some(true) if g()=>1,None=>2}}

@@ -1,0 +1,1 @@
+fn f(x:&!){match *x{}} fn g(x:&!){match x{}}

@@ -1,0 +1,1 @@
+enum E{A,B,C} fn f(x:E){match x{E::A=>1,E::B=>2}}

@@ -1,0 +1,1 @@
+fn f(x:u8){match x{300=>1}} fn g(x:u8){match x{_=>1}}

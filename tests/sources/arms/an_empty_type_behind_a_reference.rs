@@ -1,0 +1,1 @@
+fn f(x:Result<u8,!>){match x{Ok(_)=>1}} fn g(x:&Result<u8,!>){match x{Ok(_)=>1}}

@@ -1,0 +1,1 @@
+enum Option{None,Some(bool)} fn f(x:&Option){match x{Option::None=>1}}

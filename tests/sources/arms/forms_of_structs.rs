@@ -1,0 +1,1 @@
+struct S{a:bool,b:()} struct T(); struct U; fn f(x:(S,T,U,(bool,))){match x{(S{a:true,..},_,_,_)=>1}}

@@ -1,0 +1,1 @@
+#[non_exhaustive] enum C{A,B} fn f(x:(C,C)){match x{(C::A,C::A)=>1}}

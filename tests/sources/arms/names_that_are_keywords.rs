@@ -1,0 +1,1 @@
+enum r#in{r#match,r#fn{r#let:bool}} fn f(x:r#in){match x{r#in::r#match=>1}}

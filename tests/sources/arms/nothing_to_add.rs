@@ -1,0 +1,1 @@
+fn f(x:u8){match x{0..=100=>1,100..=255=>2,_=>3}}struct S;fn g(x:bool){match x{true|false=>1}}

@@ -1,0 +1,1 @@
+fn f(x:usize){match x{0..=18446744073709551615=>1}} fn g(x:usize){match x{0.. =>1}}

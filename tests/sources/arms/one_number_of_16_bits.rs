@@ -1,0 +1,1 @@
+fn f(x:usize){match x{0..=65534=>1}}

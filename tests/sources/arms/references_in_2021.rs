@@ -1,0 +1,1 @@
+fn f(x:&(u8,&bool)){match x{(0,&true)=>1}}

@@ -1,0 +1,1 @@
+struct Some(bool); struct None; fn g(x:(Option<None>,Some)){match x{(Option::None,_)=>1,(_,Some(true))=>2}}

@@ -1,0 +1,1 @@
+fn f(x:(&str,&str)){match x{("a","\"")=>1}}

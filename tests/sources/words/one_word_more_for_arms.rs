@@ -1,0 +1,1 @@
+fn f(x:bool){match x{true=>1}}
