@@ -1,83 +1,74 @@
 -- A type without a value by stable marks has none.
-use Rattle.std.proofs.Common.{◌≡◌, ℕ, zero, suc, Bool, true, false, ◌||◌, List, [], ◌∷◌, Option, Some, None, ℤ, nat_eq, length, refl, ap, sym, ◌∙◌, slice_get}
+use Rattle.std.proofs.Common.{◌≡◌, ℕ, zero, suc, Bool, true, false, ◌||◌, List, [], ◌∷◌, Some, None, ℤ, nat_eq, length, refl, ap, ◌∙◌, slice_get, not, ◌&&◌}
 use Rattle.std.specs.List.{list_any}
-use Rattle.match_model.specs.Types.{DeclaredItem, OptionOwner, ResultOwner, MType, BoolType, CharType, StrType, IntType, OpaqueType, TupleType, PointType, SliceType, ArrayType, NamedType, MTypes, no_types, more_types}
-use Rattle.match_model.specs.Declarations.{MVariant, MItem, StructItem, EnumItem, OtherItem, MProgram, form_types, node_types, item_types, variant_types, item_is_marked}
+use Rattle.match_model.specs.Types.{MType, BoolType, CharType, StrType, NeverType, IntType, OpaqueType, TupleType, PointType, SliceType, ArrayType, NamedType, MTypes, no_types, more_types}
+use Rattle.match_model.specs.Declarations.{MVariant, MProgram, form_types, node_types, variant_types, variants_of, is_constructorless}
 use Rattle.match_model.specs.Values.{MValue, Flag, Num, Text, Node, Point, Row, Thing, Later, Unseen, MValues, no_values, more_values, values_list}
 use Rattle.match_model.specs.Typing.{is_value, are_values, all_are_values, item_type, some_if}
-use Rattle.match_model.specs.Emptiness.{has_value, all_have_value, item_has_value, IsStable}
-use Rattle.match_model.proofs.Basics.{both, and_true, or_left, or_right, found, nat_equal, nothing, third_of_result}
+use Rattle.match_model.specs.Emptiness.{has_value, all_have_value, some_variant_has_value}
+use Rattle.match_model.proofs.Basics.{both, and_true, or_left, or_right, found, nat_equal}
 
 -- of the variants, one has all its fields
-variants_by : (marks : List Bool) (vs : List MVariant) (k : ℕ) (ts : MTypes) →
-    variant_types (slice_get vs k) ≡ Some ts → all_have_value marks ts ≡ true →
-    list_any (λ v. all_have_value marks (form_types v.form)) vs ≡ true
-variants_by marks [] k ts e h = cc
-variants_by marks (v ∷ vs) zero ts e h =
+variants_by : (sure : Bool) (marked : MType → Bool) (vs : List MVariant) (k : ℕ) (ts : MTypes) →
+    variant_types (slice_get vs k) ≡ Some ts → all_have_value sure marked ts ≡ true →
+    list_any (λ v. all_have_value sure marked (form_types v.form)) vs ≡ true
+variants_by sure marked [] k ts e h = cc
+variants_by sure marked (v ∷ vs) zero ts e h =
     let same : form_types v.form ≡ ts = cc in
-    or_left _ _ (ap (all_have_value marks) same ∙ h)
-variants_by marks (v ∷ vs) (suc k) ts e h = or_right _ _ (variants_by marks vs k ts e h)
+    or_left _ _ (ap (all_have_value sure marked) same ∙ h)
+variants_by sure marked (v ∷ vs) (suc k) ts e h = or_right _ _ (variants_by sure marked vs k ts e h)
 
--- what the variant's fields say of the item
-item_by : (marks : List Bool) (o : Option MItem) (k : ℕ) (ts : MTypes) → item_types o k ≡ Some ts → all_have_value marks ts ≡ true →
-    item_has_value marks o ≡ true
-item_by marks None k ts e h = cc
-item_by marks (Some OtherItem) k ts e h = cc
-item_by marks (Some (StructItem v)) zero ts e h = let same : form_types v.form ≡ ts = cc in ap (all_have_value marks) same ∙ h
-item_by marks (Some (StructItem v)) (suc k) ts e h = cc
-item_by marks (Some (EnumItem name marked vs)) k ts e h = or_right marked _ (variants_by marks vs k ts e h)
+-- no named type is left to mark
+abbrev pub Stable : MProgram → (sure : Bool) → (marked : MType → Bool) → Type 0
+Stable program sure marked = (t : MType) → some_variant_has_value program sure marked t ≡ true → marked t ≡ true
 
 -- the types of a node's parts, when they all have values
-node_by : (program : MProgram) (marks : List Bool) → IsStable program marks → (t : MType) (k : ℕ) (ts : MTypes) →
-    node_types program t k ≡ Some ts → all_have_value marks ts ≡ true → has_value marks t ≡ true
-node_by program marks s (TupleType us) zero ts e h = let same : us ≡ ts = cc in ap (all_have_value marks) same ∙ h
-node_by program marks s (NamedType (DeclaredItem i) args) k ts e h = s i (item_by marks (slice_get program.items i) k ts e h)
-node_by program marks s (NamedType OptionOwner args) k ts e h = refl
-node_by program marks s (NamedType ResultOwner no_types) zero ts e h = cc
-node_by program marks s (NamedType ResultOwner (more_types t no_types)) zero ts e h = cc
-node_by program marks s (NamedType ResultOwner (more_types t (more_types u (more_types w ws)))) zero ts e h = cc
-node_by program marks s (NamedType ResultOwner (more_types t (more_types u no_types))) zero ts e h =
-    let same : more_types t no_types ≡ ts = cc in
-    or_left _ _ (both (has_value marks t) true (ap (all_have_value marks) same ∙ h)).0
-node_by program marks s (NamedType ResultOwner no_types) (suc zero) ts e h = cc
-node_by program marks s (NamedType ResultOwner (more_types t no_types)) (suc zero) ts e h = cc
-node_by program marks s (NamedType ResultOwner (more_types t (more_types u (more_types w ws)))) (suc zero) ts e h = cc
-node_by program marks s (NamedType ResultOwner (more_types t (more_types u no_types))) (suc zero) ts e h =
-    let same : more_types u no_types ≡ ts = cc in
-    or_right (has_value marks t) _ (or_left _ _ (both (has_value marks u) true (ap (all_have_value marks) same ∙ h)).0)
-node_by program marks s (NamedType ResultOwner args) (suc (suc k)) ts e h = absurd (nothing ts (sym (third_of_result args k) ∙ e))
-node_by program marks s _ _ ts e h = cc
+node_by : (program : MProgram) (sure : Bool) (marked : MType → Bool) → Stable program sure marked → (t : MType) (k : ℕ) (ts : MTypes) →
+    node_types program t k ≡ Some ts → all_have_value sure marked ts ≡ true → has_value sure marked t ≡ true
+node_by program sure marked s (TupleType us) zero ts e h = let same : us ≡ ts = cc in ap (all_have_value sure marked) same ∙ h
+node_by program sure marked s (NamedType owner args) k ts e h =
+    s (NamedType owner args) (or_right _ _ (or_right _ _ (variants_by sure marked (variants_of program (NamedType owner args)) k ts e h)))
+node_by program sure marked s _ _ ts e h = cc
 
-flag_has : (marks : List Bool) (program : MProgram) (b : Bool) (t : MType) → is_value program true t (Flag b) ≡ true → has_value marks t ≡ true
-flag_has marks program b BoolType h = refl
-flag_has marks program b _ h = cc
+flag_has : (sure : Bool) (marked : MType → Bool) (program : MProgram) (b : Bool) (t : MType) → is_value program sure t (Flag b) ≡ true → has_value sure marked t ≡ true
+flag_has sure marked program b BoolType h = refl
+flag_has sure marked program b _ h = cc
 
-num_has : (marks : List Bool) (program : MProgram) (n : ℤ) (t : MType) → is_value program true t (Num n) ≡ true → has_value marks t ≡ true
-num_has marks program n CharType h = refl
-num_has marks program n (IntType kind) h = refl
-num_has marks program n _ h = cc
+num_has : (sure : Bool) (marked : MType → Bool) (program : MProgram) (n : ℤ) (t : MType) → is_value program sure t (Num n) ≡ true → has_value sure marked t ≡ true
+num_has sure marked program n CharType h = refl
+num_has sure marked program n (IntType kind) h = refl
+num_has sure marked program n _ h = cc
 
-text_has : (marks : List Bool) (program : MProgram) (u : List ℕ) (t : MType) → is_value program true t (Text u) ≡ true → has_value marks t ≡ true
-text_has marks program u StrType h = refl
-text_has marks program u _ h = cc
+text_has : (sure : Bool) (marked : MType → Bool) (program : MProgram) (u : List ℕ) (t : MType) → is_value program sure t (Text u) ≡ true → has_value sure marked t ≡ true
+text_has sure marked program u StrType h = refl
+text_has sure marked program u _ h = cc
 
-point_has : (marks : List Bool) (program : MProgram) (m : Bool) (v : MValue) (t : MType) → is_value program true t (Point m v) ≡ true → has_value marks t ≡ true
-point_has marks program m v (PointType n t) h = refl
-point_has marks program m v _ h = cc
+point_by : (sure b : Bool) → (sure ≡ false → b ≡ true) → (sure || b) ≡ true
+point_by true b f = refl
+point_by false b f = f refl
 
-thing_has : (marks : List Bool) (program : MProgram) (t : MType) → is_value program true t Thing ≡ true → has_value marks t ≡ true
-thing_has marks program (OpaqueType name args) h = refl
-thing_has marks program _ h = cc
+behind_is : (program : MProgram) (sure n m : Bool) (u : MType) (v : MValue) → is_value program sure (PointType n u) (Point m v) ≡ true → is_value program false u v ≡ true
+behind_is program sure true true u v h = h
+behind_is program sure false false u v h = h
+behind_is program sure true false u v h = cc
+behind_is program sure false true u v h = cc
 
-marked_has : (marks : List Bool) (o : Option MItem) → item_is_marked o ≡ true → item_has_value marks o ≡ true
-marked_has marks None h = cc
-marked_has marks (Some OtherItem) h = cc
-marked_has marks (Some (StructItem v)) h = cc
-marked_has marks (Some (EnumItem name marked vs)) h = or_left marked _ h
+no_unseen : (b : Bool) → (b && false) ≡ true → ⊥
+no_unseen true h = cc
+no_unseen false h = cc
 
-later_has : (marks : List Bool) (program : MProgram) → IsStable program marks → (t : MType) → is_value program true t Later ≡ true → has_value marks t ≡ true
-later_has marks program s (NamedType (DeclaredItem i) args) h = s i (marked_has marks (slice_get program.items i) h)
-later_has marks program s _ h = cc
+swapped : (a b : Bool) → (a && b) ≡ true → (b && a) ≡ true
+swapped true true h = refl
+swapped true false h = cc
+swapped false b h = cc
+
+thing_has : (sure : Bool) (marked : MType → Bool) (program : MProgram) (t : MType) → is_value program sure t Thing ≡ true → has_value sure marked t ≡ true
+thing_has sure marked program (OpaqueType name args) h = refl
+thing_has sure marked program _ h = cc
+
+later_has : (sure : Bool) (marked : MType → Bool) (program : MProgram) → Stable program sure marked → (t : MType) → is_value program sure t Later ≡ true → has_value sure marked t ≡ true
+later_has sure marked program s (NamedType owner args) h = s (NamedType owner args) (or_left _ _ h)
+later_has sure marked program s _ h = cc
 
 pub type_if_is : (b : Bool) (u item : MType) → some_if b u ≡ Some item → (b ≡ true) × (u ≡ item)
 type_if_is true u item e = (refl, cc)
@@ -87,40 +78,45 @@ type_if_is false u item e = absurd (not_some e)
     not_some k = cc
 
 -- the items of a row
-row_by : (marks : List Bool) (t item : MType) (n : ℕ) → item_type t n ≡ Some item → (nat_eq n 0 || has_value marks item) ≡ true → has_value marks t ≡ true
-row_by marks (SliceType u) item n e h = refl
-row_by marks (ArrayType u m) item n e h =
+row_by : (sure : Bool) (marked : MType → Bool) (t item : MType) (n : ℕ) → item_type t n ≡ Some item → (nat_eq n 0 || has_value sure marked item) ≡ true → has_value sure marked t ≡ true
+row_by sure marked (SliceType u) item n e h = refl
+row_by sure marked (ArrayType u m) item n e h =
     let r = type_if_is (nat_eq n m) u item e in
     rw (r.1, ← nat_equal n m r.0) h
-row_by marks _ item n e h = cc
+row_by sure marked _ item n e h = cc
 
-module _ (program : MProgram) (marks : List Bool) (stable : IsStable program marks) where
+module _ (program : MProgram) (sure : Bool) (marked : MType → Bool) (stable : Stable program sure marked) where
   mutual
-    pub value_has : (v : MValue) (t : MType) → is_value program true t v ≡ true → has_value marks t ≡ true
-    value_has (Flag b) t h = flag_has marks program b t h
-    value_has (Num n) t h = num_has marks program n t h
-    value_has (Text u) t h = text_has marks program u t h
+    pub value_has : (v : MValue) (t : MType) → is_value program sure t v ≡ true → has_value sure marked t ≡ true
+    value_has (Flag b) t h = flag_has sure marked program b t h
+    value_has (Num n) t h = num_has sure marked program n t h
+    value_has (Text u) t h = text_has sure marked program u t h
     value_has (Node k parts) t h =
-        let r = found (node_types program t k) (λ ts. are_values program true ts parts) h in
-        node_by program marks stable t k r.0 r.1 (values_have parts r.0 r.2)
-    value_has (Point m v) t h = point_has marks program m v t h
+        let r = found (node_types program t k) (λ ts. are_values program sure ts parts) h in
+        node_by program sure marked stable t k r.0 r.1 (values_have parts r.0 r.2)
+    value_has (Point m v) (PointType n u) h =
+        point_by sure (has_value sure marked u) (λ e. value_has v u (ap (λ b. is_value program b u v) e ∙ behind_is program sure n m u v h))
+    value_has (Point m v) _ h = cc
     value_has (Row items) t h =
-        let r = found (item_type t (length (values_list items))) (λ u. all_are_values program true u items) h in
-        row_by marks t r.0 (length (values_list items)) r.1 (items_have items r.0 r.2)
-    value_has Thing t h = thing_has marks program t h
-    value_has Later t h = later_has marks program stable t h
-    value_has Unseen t h = cc
+        let r = found (item_type t (length (values_list items))) (λ u. all_are_values program sure u items) h in
+        row_by sure marked t r.0 (length (values_list items)) r.1 (items_have items r.0 r.2)
+    value_has Thing t h = thing_has sure marked program t h
+    value_has Later t h = later_has sure marked program stable t h
+    value_has Unseen NeverType h = (both (not sure) true h).0
+    value_has Unseen (NamedType owner args) h =
+        stable (NamedType owner args) (or_right _ _ (or_left _ _ (swapped (not sure) (is_constructorless program (NamedType owner args)) h)))
+    value_has Unseen _ h = absurd (no_unseen (not sure) h)
 
-    pub values_have : (vs : MValues) (ts : MTypes) → are_values program true ts vs ≡ true → all_have_value marks ts ≡ true
+    pub values_have : (vs : MValues) (ts : MTypes) → are_values program sure ts vs ≡ true → all_have_value sure marked ts ≡ true
     values_have no_values no_types h = refl
     values_have no_values (more_types t ts) h = cc
     values_have (more_values v vs) no_types h = cc
     values_have (more_values v vs) (more_types t ts) h =
-        let b = both (is_value program true t v) (are_values program true ts vs) h in
+        let b = both (is_value program sure t v) (are_values program sure ts vs) h in
         and_true _ _ (value_has v t b.0) (values_have vs ts b.1)
 
-    items_have : (vs : MValues) (t : MType) → all_are_values program true t vs ≡ true → (nat_eq (length (values_list vs)) 0 || has_value marks t) ≡ true
+    items_have : (vs : MValues) (t : MType) → all_are_values program sure t vs ≡ true → (nat_eq (length (values_list vs)) 0 || has_value sure marked t) ≡ true
     items_have no_values t h = refl
     items_have (more_values v vs) t h =
-        let b = both (is_value program true t v) (all_are_values program true t vs) h in
+        let b = both (is_value program sure t v) (all_are_values program sure t vs) h in
         or_right _ _ (value_has v t b.0)

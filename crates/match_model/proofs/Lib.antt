@@ -20,3 +20,8 @@ pub mod TextOutside
 pub mod TextOrder
 pub mod OneOverlaps
 pub mod Falling
+pub mod Instances
+pub mod Valued
+pub mod Rounds
+pub mod Decided
+pub mod Filled

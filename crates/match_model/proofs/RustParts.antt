@@ -2,47 +2,85 @@
 use Rattle.std.proofs.Common.{◌≡◌, ◌≢◌, ◌↔◌, ◌<◌, nat_lt, ◌+◌, ◌^◌, ℤ, inl, inr, ℕ, zero, suc, Bool, true, false, ◌&&◌, ◌||◌, List, [], ◌∷◌, Option, Some, None, is_some, nat_eq, length, refl, ap, ◌∙◌, sym, arith, slice_get, add-zero, lit<}
 use Rattle.std.proofs.lemmas.Bool.Decides.{nat_tests}
 use Rattle.std.specs.List.{list_all}
-use Rattle.match_model.specs.Types.{DeclaredItem, OptionOwner, ResultOwner, MType, BoolType, CharType, StrType, NeverType, IntType, OpaqueType, TupleType, PointType, SliceType, ArrayType, NamedType, MTypes, no_types, more_types, types_list}
-use Rattle.match_model.specs.Declarations.{MVariant, MItem, StructItem, EnumItem, OtherItem, MProgram, node_types, item_types, variant_types, item_is_marked, is_marked, some_variants, result_variants}
+use Rattle.match_model.specs.Types.{MOwner, DeclaredItem, OptionOwner, ResultOwner, MOpaque, StringName, F32Name, F64Name, BoxName, VecName, RcName, ArcName, ParameterName, MType, BoolType, CharType, StrType, NeverType, IntType, OpaqueType, TupleType, PointType, SliceType, ArrayType, NamedType, MTypes, no_types, more_types, types_list}
+use Rattle.match_model.specs.Declarations.{MVariant, MItem, StructItem, EnumItem, OtherItem, MProgram, node_types, item_types, variant_types, item_is_marked, is_marked, declared, argument, parameter, filled, filled_all, opaque_or}
 use Rattle.match_model.specs.Values.{MValue, Flag, Num, Text, Node, Point, Row, Later, MValues, no_values, more_values, values_list, parts_of}
 use Rattle.match_model.specs.Texts.{is_scalar}
 use Rattle.match_model.specs.Numbers.{has_number}
 use Rattle.match_model.specs.Typing.{is_value, are_values, all_are_values, is_bool, is_str, item_type, some_if}
 use Rattle.match_model.specs.Constructors.{MCtor, SingleCtor, PointCtor, LaterCtor, OtherTextCtor, VariantCtor, FlagCtor, NumbersCtor, TextCtor, RowCtor, WildCtor, OrCtor, MSet, PointSet, Elementary, OneSingle, OnePoint, OneLater, OneVariant, OneFlag, OneNumber, OneText, OneLength, elementary_ctor, builds_one, is_of_set}
 use Rattle.match_model.specs.ContextLaws.{PartsLaw, PartsAre, ArityIs, TypeFixesParts, parts_count}
-use Rattle.match_model.specs.RustTypes.{rust_set, item_set, rust_context, rust_sub, rust_arity, count_of_types, part_type, type_or, inner_type, is_type, are_types, IsSoundProgram, RustValue}
+use Rattle.match_model.specs.RustTypes.{rust_set, item_set, rust_context, rust_sub, rust_arity, count_of_types, part_type, type_or, inner_type, is_type, are_types, opaque_arguments, IsSoundProgram, RustValue}
 use Rattle.match_model.specs.Emptiness.{IsRustType}
 use Rattle.match_model.proofs.RustValues.{one_number}
-use Rattle.match_model.proofs.Basics.{both, and_true, nat_equal, text_equal, nothing, third_of_option, third_of_result}
+use Rattle.match_model.proofs.Basics.{both, and_true, nat_equal, text_equal, filled_count, named_there, named_some}
 
 untrue : false ≡ true → ⊥
 untrue e = cc
+
+argument_is : (program : MProgram) (args : MTypes) (n : ℕ) → are_types program args ≡ true → is_type program (argument args n) ≡ true
+argument_is program no_types n h = refl
+argument_is program (more_types t ts) zero h = (both _ _ h).0
+argument_is program (more_types t ts) (suc n) h = argument_is program ts n (both (is_type program t) _ h).1
+
+counted_again : (n m k : ℕ) → n ≡ m → nat_eq m k ≡ true → nat_eq n k ≡ true
+counted_again n m k e h = rw e h
+
+module _ (program : MProgram) (args : MTypes) (fine : are_types program args ≡ true) where
+  opaque_filled : (name : MOpaque) (ts : MTypes) → are_types program ts ≡ true → nat_eq (length (types_list ts)) (opaque_arguments name) ≡ true →
+      is_type program (opaque_or args name ts) ≡ true
+  opaque_filled (ParameterName n) ts h k = argument_is program args n fine
+  opaque_filled StringName ts h k = and_true _ _ h k
+  opaque_filled F32Name ts h k = and_true _ _ h k
+  opaque_filled F64Name ts h k = and_true _ _ h k
+  opaque_filled BoxName ts h k = and_true _ _ h k
+  opaque_filled VecName ts h k = and_true _ _ h k
+  opaque_filled RcName ts h k = and_true _ _ h k
+  opaque_filled ArcName ts h k = and_true _ _ h k
+
+  mutual
+    -- arguments in the place of parameters make types of types
+    pub filled_is : (t : MType) → is_type program t ≡ true → is_type program (filled args t) ≡ true
+    filled_is BoolType d = refl
+    filled_is CharType d = refl
+    filled_is StrType d = refl
+    filled_is NeverType d = refl
+    filled_is (IntType kind) d = refl
+    filled_is (OpaqueType name ts) d =
+        let b = both _ _ d in
+        opaque_filled name (filled_all args ts) (all_filled ts b.0)
+        (counted_again (length (types_list (filled_all args ts))) (length (types_list ts)) (opaque_arguments name) (filled_count args ts) b.1)
+    filled_is (TupleType ts) d =
+        let b = both _ _ d in
+        and_true _ _ (all_filled ts b.0) (ap (λ n. nat_lt n (2 ^ 32)) (filled_count args ts) ∙ b.1)
+    filled_is (PointType m t) d = filled_is t d
+    filled_is (SliceType t) d = filled_is t d
+    filled_is (ArrayType t n) d = let b = both _ _ d in and_true _ _ (filled_is t b.0) b.1
+    filled_is (NamedType owner ts) d = let b = both _ _ d in and_true _ _ b.0 (all_filled ts b.1)
+
+    pub all_filled : (ts : MTypes) → are_types program ts ≡ true → are_types program (filled_all args ts) ≡ true
+    all_filled no_types d = refl
+    all_filled (more_types t ts) d = let b = both (is_type program t) _ d in and_true _ _ (filled_is t b.0) (all_filled ts b.1)
+
+-- the field types of an item are types, and few
+declared_fields : (program : MProgram) → IsSoundProgram program → (owner : MOwner) (k : ℕ) (ts : MTypes) →
+    item_types (declared program owner) k ≡ Some ts → (are_types program ts ≡ true) × (length (types_list ts) < 2 ^ 32)
+declared_fields program sound (DeclaredItem i) k ts e = (sound.fields i k ts e, sound.few i k ts e)
+declared_fields program sound OptionOwner zero ts e = let same : no_types ≡ ts = cc in rw (← same) (refl, lit< tt)
+declared_fields program sound OptionOwner (suc zero) ts e = let same : more_types (parameter 0) no_types ≡ ts = cc in rw (← same) (refl, lit< tt)
+declared_fields program sound OptionOwner (suc (suc k)) ts e = cc
+declared_fields program sound ResultOwner zero ts e = let same : more_types (parameter 0) no_types ≡ ts = cc in rw (← same) (refl, lit< tt)
+declared_fields program sound ResultOwner (suc zero) ts e = let same : more_types (parameter 1) no_types ≡ ts = cc in rw (← same) (refl, lit< tt)
+declared_fields program sound ResultOwner (suc (suc k)) ts e = cc
 
 -- the types of the parts of a node are types
 pub types_of_node : (program : MProgram) → IsSoundProgram program → (t : MType) (k : ℕ) (ts : MTypes) → is_type program t ≡ true →
     node_types program t k ≡ Some ts → are_types program ts ≡ true
 types_of_node program sound (TupleType us) zero ts d e = let same : us ≡ ts = cc in ap (are_types program) (sym same) ∙ (both _ _ d).0
-types_of_node program sound (NamedType (DeclaredItem i) args) k ts d e = sound.fields i k ts e
-types_of_node program sound (NamedType OptionOwner args) zero ts d e = let same : no_types ≡ ts = cc in ap (are_types program) (sym same)
-types_of_node program sound (NamedType OptionOwner no_types) (suc zero) ts d e = cc
-types_of_node program sound (NamedType OptionOwner (more_types t no_types)) (suc zero) ts d e =
-    let same : more_types t no_types ≡ ts = cc in
-    ap (are_types program) (sym same) ∙ (both _ true d).0
-types_of_node program sound (NamedType OptionOwner (more_types t (more_types u us))) (suc zero) ts d e = cc
-types_of_node program sound (NamedType ResultOwner no_types) zero ts d e = cc
-types_of_node program sound (NamedType ResultOwner (more_types t no_types)) zero ts d e = cc
-types_of_node program sound (NamedType ResultOwner (more_types t (more_types u (more_types w ws)))) zero ts d e = cc
-types_of_node program sound (NamedType ResultOwner (more_types t (more_types u no_types))) zero ts d e =
-    let same : more_types t no_types ≡ ts = cc in
-    ap (are_types program) (sym same) ∙ and_true _ true (both _ _ (both _ true d).0).0 refl
-types_of_node program sound (NamedType ResultOwner no_types) (suc zero) ts d e = cc
-types_of_node program sound (NamedType ResultOwner (more_types t no_types)) (suc zero) ts d e = cc
-types_of_node program sound (NamedType ResultOwner (more_types t (more_types u (more_types w ws)))) (suc zero) ts d e = cc
-types_of_node program sound (NamedType ResultOwner (more_types t (more_types u no_types))) (suc zero) ts d e =
-    let same : more_types u no_types ≡ ts = cc in
-    ap (are_types program) (sym same) ∙ (both _ _ (both _ true d).0).1
-types_of_node program sound (NamedType OptionOwner args) (suc (suc k)) ts d e = absurd (nothing ts (sym (third_of_option args k) ∙ e))
-types_of_node program sound (NamedType ResultOwner args) (suc (suc k)) ts d e = absurd (nothing ts (sym (third_of_result args k) ∙ e))
+types_of_node program sound (NamedType owner args) k ts d e =
+    let there = named_there program owner args k ts e in
+    ap (are_types program) (sym there.2)
+    ∙ all_filled program args (both _ _ d).1 there.0 (declared_fields program sound owner k there.0 there.1).0
 types_of_node program sound _ _ ts d e = cc
 
 -- values are of types one by one exactly where there are as many, and each is of the type at its number
@@ -124,9 +162,7 @@ flag_item (Some (EnumItem name marked (v ∷ vs))) b h = untrue h
 
 flag_type : (program : MProgram) (t : MType) (b : Bool) → is_of_set (rust_set program t) (OneFlag b) ≡ true → is_bool t ≡ true
 flag_type program BoolType b h = refl
-flag_type program (NamedType (DeclaredItem i) args) b h = absurd (flag_item (slice_get program.items i) b h)
-flag_type program (NamedType OptionOwner args) b h = cc
-flag_type program (NamedType ResultOwner args) b h = cc
+flag_type program (NamedType owner args) b h = absurd (flag_item (declared program owner) b h)
 flag_type program _ b h = cc
 
 number_item : (o : Option MItem) (n : ℤ) → is_of_set (item_set o) (OneNumber n) ≡ true → ⊥
@@ -145,9 +181,7 @@ or_again false false h = h
 number_type : (program : MProgram) (t : MType) (n : ℤ) → is_of_set (rust_set program t) (OneNumber n) ≡ true → has_number program.width t n ≡ true
 number_type program CharType n h = or_again _ _ h
 number_type program (IntType kind) n h = h
-number_type program (NamedType (DeclaredItem i) args) n h = absurd (number_item (slice_get program.items i) n h)
-number_type program (NamedType OptionOwner args) n h = cc
-number_type program (NamedType ResultOwner args) n h = cc
+number_type program (NamedType owner args) n h = absurd (number_item (declared program owner) n h)
 number_type program _ n h = cc
 
 text_item : (o : Option MItem) (u : List ℕ) → is_of_set (item_set o) (OneText u) ≡ true → ⊥
@@ -160,9 +194,7 @@ text_item (Some (EnumItem name marked (v ∷ vs))) b h = untrue h
 
 text_type : (program : MProgram) (t : MType) (u : List ℕ) → is_of_set (rust_set program t) (OneText u) ≡ true → (is_str t && list_all is_scalar u) ≡ true
 text_type program StrType u h = h
-text_type program (NamedType (DeclaredItem i) args) u h = absurd (text_item (slice_get program.items i) u h)
-text_type program (NamedType OptionOwner args) u h = cc
-text_type program (NamedType ResultOwner args) u h = cc
+text_type program (NamedType owner args) u h = absurd (text_item (declared program owner) u h)
 text_type program _ u h = cc
 
 later_item : (o : Option MItem) → is_of_set (item_set o) OneLater ≡ true → item_is_marked o ≡ true
@@ -174,9 +206,7 @@ later_item (Some (EnumItem name false [])) h = h
 later_item (Some (EnumItem name marked (v ∷ vs))) h = h
 
 later_type : (program : MProgram) (t : MType) → is_of_set (rust_set program t) OneLater ≡ true → is_marked program t ≡ true
-later_type program (NamedType (DeclaredItem i) args) h = later_item (slice_get program.items i) h
-later_type program (NamedType OptionOwner args) h = h
-later_type program (NamedType ResultOwner args) h = h
+later_type program (NamedType owner args) h = later_item (declared program owner) h
 later_type program _ h = cc
 
 point_item : (o : Option MItem) → item_set o ≡ PointSet → ⊥
@@ -215,42 +245,11 @@ node_item (Some (EnumItem name true [])) _ _ (of_variant k) h = absurd (omega (a
 node_item (Some (EnumItem name false [])) _ _ (of_variant k) h = cc
 node_item (Some (EnumItem name marked (v ∷ vs))) _ _ (of_variant k) h = variant_there (v ∷ vs) k (below k (suc (length vs)) h)
 
-two_or_more : (k : ℕ) → nat_lt (suc (suc k)) 2 ≡ true → ⊥
-two_or_more k h = let e : suc (suc k) < 2 = below (suc (suc k)) 2 h in omega (arith, e)
-
-one_there : (program : MProgram) (args : MTypes) → (are_types program args && nat_eq (length (types_list args)) 1) ≡ true → is_some (variant_types (slice_get (some_variants args) 0)) ≡ true
-one_there program no_types d = cc
-one_there program (more_types t no_types) d = refl
-one_there program (more_types t (more_types u us)) d =
-    absurd (not_one (length (types_list us)) (both (are_types program (more_types t (more_types u us))) _ d).1)
-  where
-    not_one : (n : ℕ) → nat_eq (suc (suc n)) 1 ≡ true → ⊥
-    not_one n h = let e : suc (suc n) ≡ 1 = nat_equal _ _ h in omega (arith, e)
-
-two_there : (program : MProgram) (args : MTypes) → (are_types program args && nat_eq (length (types_list args)) 2) ≡ true →
-    (is_some (variant_types (slice_get (result_variants args) 0)) ≡ true) × (is_some (variant_types (slice_get (result_variants args) 1)) ≡ true)
-two_there program no_types d = cc
-two_there program (more_types t no_types) d = absurd (untrue (both (are_types program (more_types t no_types)) false d).1)
-two_there program (more_types t (more_types u no_types)) d = (refl, refl)
-two_there program (more_types t (more_types u (more_types w ws))) d =
-    absurd (not_two (length (types_list ws)) (both (are_types program (more_types t (more_types u (more_types w ws)))) _ d).1)
-  where
-    not_two : (n : ℕ) → nat_eq (suc (suc (suc n))) 2 ≡ true → ⊥
-    not_two n h = let e : suc (suc (suc n)) ≡ 2 = nat_equal _ _ h in omega (arith, e)
-
 node_type : (program : MProgram) (t : MType) (e : Elementary) (k : ℕ) → is_type program t ≡ true → OfNode e k → is_of_set (rust_set program t) e ≡ true →
     is_some (node_types program t k) ≡ true
 node_type program (TupleType ts) _ _ d of_single h = refl
 node_type program (TupleType ts) _ _ d (of_variant k) h = absurd (untrue h)
-node_type program (NamedType (DeclaredItem i) args) e k d n h = node_item (slice_get program.items i) e k n h
-node_type program (NamedType OptionOwner args) _ _ d of_single h = absurd (untrue h)
-node_type program (NamedType OptionOwner args) _ _ d (of_variant zero) h = refl
-node_type program (NamedType OptionOwner args) _ _ d (of_variant (suc zero)) h = one_there program args d
-node_type program (NamedType OptionOwner args) _ _ d (of_variant (suc (suc k))) h = absurd (two_or_more k h)
-node_type program (NamedType ResultOwner args) _ _ d of_single h = absurd (untrue h)
-node_type program (NamedType ResultOwner args) _ _ d (of_variant zero) h = (two_there program args d).0
-node_type program (NamedType ResultOwner args) _ _ d (of_variant (suc zero)) h = (two_there program args d).1
-node_type program (NamedType ResultOwner args) _ _ d (of_variant (suc (suc k))) h = absurd (two_or_more k h)
+node_type program (NamedType owner args) e k d n h = named_some program owner args k ∙ node_item (declared program owner) e k n h
 node_type program _ _ _ d of_single h = cc
 node_type program _ _ _ d (of_variant k) h = cc
 
@@ -316,9 +315,7 @@ row_of program (ArrayType u m) n h = ap (λ b. some_if b u) (flipped m n h)
   where
     flipped : (a b : ℕ) → nat_eq a b ≡ true → nat_eq b a ≡ true
     flipped a b h = grind (arith, nat_tests)
-row_of program (NamedType (DeclaredItem i) args) n h = absurd (row_item (slice_get program.items i) n h)
-row_of program (NamedType OptionOwner args) n h = absurd (untrue h)
-row_of program (NamedType ResultOwner args) n h = absurd (untrue h)
+row_of program (NamedType owner args) n h = absurd (row_item (declared program owner) n h)
 row_of program _ n h = absurd (untrue h)
 
 row_law_by : (program : MProgram) (t : MType) (sure : Bool) (items : MValues) (n : ℕ) → n ≡ length (values_list items) → item_type t n ≡ Some (inner_type t) →
@@ -375,7 +372,7 @@ no_point program o h = absurd (point_item o h)
 
 point_law : (program : MProgram) (t : MType) → rust_set program t ≡ PointSet → PointLaw program t
 point_law program (PointType mutable t) h = (mutable, λ sure m v. point_kind program t mutable sure m v)
-point_law program (NamedType (DeclaredItem i) args) h = no_point program (slice_get program.items i) h
+point_law program (NamedType owner args) h = no_point program (declared program owner) h
 point_law program BoolType h = absurd (untrue (ap is_points h))
 point_law program CharType h = absurd (untrue (ap is_points h))
 point_law program (IntType kind) h = absurd (untrue (ap is_points h))
@@ -385,8 +382,6 @@ point_law program (OpaqueType name args) h = absurd (untrue (ap is_points h))
 point_law program (TupleType ts) h = absurd (untrue (ap is_points h))
 point_law program (SliceType t) h = absurd (untrue (ap is_points h))
 point_law program (ArrayType t n) h = absurd (untrue (ap is_points h))
-point_law program (NamedType OptionOwner args) h = absurd (untrue (ap is_points h))
-point_law program (NamedType ResultOwner args) h = absurd (untrue (ap is_points h))
 
 -- the types of parts are types
 inner_is : (program : MProgram) (t : MType) → is_type program t ≡ true → is_type program (inner_type t) ≡ true
@@ -427,35 +422,21 @@ sub_is program sound t (OneNumber n) i d = d
 sub_is program sound t (OneText u) i d = d
 sub_is program sound t (OneLength n) i d = inner_is program t d
 
-few_none : (o : Option MTypes) → o ≡ None → count_of_types o < 2 ^ 32
-few_none None e = lit< tt
-few_none (Some ts) e = cc
-
 -- there are fewer than 2^32 fields
 few_of : (program : MProgram) → IsSoundProgram program → (t : MType) (k : ℕ) → is_type program t ≡ true → count_of_types (node_types program t k) < 2 ^ 32
 few_of program sound (TupleType ts) zero d = few_by (length (types_list ts)) (both _ _ d).1
   where
     few_by : (n : ℕ) → nat_lt n (2 ^ 32) ≡ true → n < 2 ^ 32
     few_by n h = grind (arith, nat_tests)
-few_of program sound (NamedType (DeclaredItem i) args) k d = go (item_types (slice_get program.items i) k) refl
+few_of program sound (NamedType owner args) k d = go (node_types program (NamedType owner args) k) refl
   where
-    go : (o : Option MTypes) → item_types (slice_get program.items i) k ≡ o → count_of_types o < 2 ^ 32
+    go : (o : Option MTypes) → node_types program (NamedType owner args) k ≡ o → count_of_types o < 2 ^ 32
     go None e = lit< tt
-    go (Some ts) e = sound.few i k ts e
-few_of program sound (NamedType OptionOwner args) zero d = lit< tt
-few_of program sound (NamedType OptionOwner no_types) (suc zero) d = lit< tt
-few_of program sound (NamedType OptionOwner (more_types t no_types)) (suc zero) d = lit< tt
-few_of program sound (NamedType OptionOwner (more_types t (more_types u us))) (suc zero) d = lit< tt
-few_of program sound (NamedType ResultOwner no_types) zero d = lit< tt
-few_of program sound (NamedType ResultOwner (more_types t no_types)) zero d = lit< tt
-few_of program sound (NamedType ResultOwner (more_types t (more_types u no_types))) zero d = lit< tt
-few_of program sound (NamedType ResultOwner (more_types t (more_types u (more_types w ws)))) zero d = lit< tt
-few_of program sound (NamedType ResultOwner no_types) (suc zero) d = lit< tt
-few_of program sound (NamedType ResultOwner (more_types t no_types)) (suc zero) d = lit< tt
-few_of program sound (NamedType ResultOwner (more_types t (more_types u no_types))) (suc zero) d = lit< tt
-few_of program sound (NamedType ResultOwner (more_types t (more_types u (more_types w ws)))) (suc zero) d = lit< tt
-few_of program sound (NamedType OptionOwner args) (suc (suc k)) d = few_none (variant_types (slice_get (some_variants args) (suc k))) (third_of_option args k)
-few_of program sound (NamedType ResultOwner args) (suc (suc k)) d = few_none (variant_types (slice_get (result_variants args) (suc (suc k)))) (third_of_result args k)
+    go (Some ts) e =
+        let there = named_there program owner args k ts e in
+        let few = (declared_fields program sound owner k there.0 there.1).1 in
+        let same : length (types_list ts) ≡ length (types_list there.0) = ap (λ us. length (types_list us)) (sym there.2) ∙ filled_count args there.0 in
+        rw same few
 few_of program sound _ _ d = lit< tt
 
 few_law : (program : MProgram) → IsSoundProgram program → (t : MType) (e : Elementary) → is_type program t ≡ true → TypeFixesParts e →

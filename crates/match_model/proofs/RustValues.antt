@@ -2,8 +2,8 @@
 use Rattle.std.proofs.Common.{◌≡◌, ℕ, zero, suc, ℤ, pos, negsuc, ◌<◌, Bool, true, false, not, ◌&&◌, ◌||◌, List, [], ◌∷◌, length, Option, Some, None, is_some, IsTrue, int_lt, nat_eq, refl, sym, ap, ◌∙◌, arith, slice_get}
 use Rattle.std.specs.List.{list_all}
 use Rattle.std.proofs.lemmas.Bool.Decides.{nat_tests}
-use Rattle.match_model.specs.Types.{DeclaredItem, OptionOwner, ResultOwner, MType, BoolType, CharType, StrType, NeverType, IntType, OpaqueType, TupleType, PointType, SliceType, ArrayType, NamedType, no_types, more_types}
-use Rattle.match_model.specs.Declarations.{MVariant, MItem, StructItem, EnumItem, OtherItem, MProgram, node_types, item_types, variant_types, item_is_marked, item_is_bare, is_constructorless}
+use Rattle.match_model.specs.Types.{MType, BoolType, CharType, StrType, NeverType, IntType, OpaqueType, TupleType, PointType, SliceType, ArrayType, NamedType}
+use Rattle.match_model.specs.Declarations.{MVariant, MItem, StructItem, EnumItem, OtherItem, MProgram, node_types, item_types, variant_types, item_is_marked, item_is_bare, is_constructorless, declared}
 use Rattle.match_model.specs.Values.{MValue, Flag, Num, Text, Node, Point, Row, Thing, Later, Unseen, MValues, values_list}
 use Rattle.match_model.specs.Texts.{is_scalar}
 use Rattle.match_model.specs.Numbers.{MRange, in_range, closed, kind_range}
@@ -15,8 +15,8 @@ use Rattle.match_model.specs.Made.{IsMadeRange, IsMadeSet}
 use Rattle.match_model.specs.Typing.{is_value, are_values, all_are_values, item_type, some_if}
 use Rattle.match_model.specs.Constructors.{SingleSet, PointSet, FlagSet, TextSet, VariantSet, NumberSet, RowSet, OpaqueSet, NothingSet, Elementary, OneSingle, OnePoint, OneLater, OneVariant, OneFlag, OneNumber, OneText, OneLength, builds_one, is_of_set, in_either}
 use Rattle.match_model.specs.ContextLaws.{BuiltOnce, ValueIs, RangesAscend, ValuesLaw}
-use Rattle.match_model.specs.RustTypes.{rust_set, item_set, is_declared, is_type, RustValue, rust_context}
-use Rattle.match_model.proofs.Basics.{flag_equal, flag_itself, text_equal, text_itself, nat_equal, nat_itself, within, third_of_option, third_of_result, untrue}
+use Rattle.match_model.specs.RustTypes.{rust_set, item_set, is_declared, is_type, are_types, RustValue, rust_context}
+use Rattle.match_model.proofs.Basics.{flag_equal, flag_itself, text_equal, text_itself, nat_equal, nat_itself, both, within, named_some}
 
 flag_built : (b : Bool) → BuiltOnce FlagSet (Flag b)
 flag_built b = record { by = OneFlag b; of_set = refl; build = flag_itself b; only = only }
@@ -106,13 +106,8 @@ item_node (Some (EnumItem name marked (v ∷ vs))) k sure parts h =
 node_built : (program : MProgram) (t : MType) (k : ℕ) (sure : Bool) (parts : MValues) →
     is_some (node_types program t k) ≡ true → ValueIs (rust_set program t) sure (Node k parts)
 node_built program (TupleType ts) zero sure parts h = single_built 0 parts refl
-node_built program (NamedType (DeclaredItem i) args) k sure parts h = item_node (slice_get program.items i) k sure parts h
-node_built program (NamedType OptionOwner args) zero sure parts h = variant_built 2 false 0 parts (omega arith)
-node_built program (NamedType OptionOwner args) (suc zero) sure parts h = variant_built 2 false 1 parts (omega arith)
-node_built program (NamedType ResultOwner args) zero sure parts h = variant_built 2 false 0 parts (omega arith)
-node_built program (NamedType ResultOwner args) (suc zero) sure parts h = variant_built 2 false 1 parts (omega arith)
-node_built program (NamedType OptionOwner args) (suc (suc k)) sure parts h = absurd (untrue (sym (ap is_some (third_of_option args k)) ∙ h))
-node_built program (NamedType ResultOwner args) (suc (suc k)) sure parts h = absurd (untrue (sym (ap is_some (third_of_result args k)) ∙ h))
+node_built program (NamedType owner args) k sure parts h =
+    item_node (declared program owner) k sure parts (sym (named_some program owner args k) ∙ h)
 node_built program _ _ sure parts h = cc
 
 later_is : (o : Option MItem) (sure : Bool) → item_is_marked o ≡ true → ValueIs (item_set o) sure Later
@@ -135,7 +130,7 @@ unseen_is : (program : MProgram) (t : MType) (sure : Bool) → (not sure && is_c
     ValueIs (rust_set program t) sure Unseen
 unseen_is program t true h = cc
 unseen_is program NeverType false h = (refl, refl)
-unseen_is program (NamedType (DeclaredItem i) args) false h = unseen_item (slice_get program.items i) h
+unseen_is program (NamedType owner args) false h = unseen_item (declared program owner) h
 unseen_is program _ false h = cc
 
 some_of : {A : Type 0} (o : Option A) (f : A → Bool) → (elim o [ None ↦ false | Some x ↦ f x ]) ≡ true → is_some o ≡ true
@@ -168,7 +163,7 @@ rust_value_is program (ArrayType t n) sure (Row items) h =
     flipped : (a b : ℕ) → nat_eq b a ≡ true → nat_eq a b ≡ true
     flipped a b h = grind (arith, nat_tests)
 rust_value_is program (OpaqueType name args) sure Thing h = refl
-rust_value_is program (NamedType (DeclaredItem i) args) sure Later h = later_is (slice_get program.items i) sure h
+rust_value_is program (NamedType owner args) sure Later h = later_is (declared program owner) sure h
 rust_value_is program t sure Unseen h = unseen_is program t sure h
 rust_value_is program _ sure _ h = cc
 
@@ -182,7 +177,7 @@ no_opaque_item (Some (EnumItem name marked (v ∷ vs))) h = cc
 
 thing_is : (program : MProgram) (t : MType) (sure : Bool) → rust_set program t ≡ OpaqueSet → is_value program sure t Thing ≡ true
 thing_is program (OpaqueType name args) sure h = refl
-thing_is program (NamedType (DeclaredItem i) args) sure h = absurd (no_opaque_item (slice_get program.items i) h)
+thing_is program (NamedType owner args) sure h = absurd (no_opaque_item (declared program owner) h)
 thing_is program _ sure h = cc
 
 bare_item : (o : Option MItem) → is_declared o ≡ true → item_set o ≡ NothingSet → item_is_bare o ≡ true
@@ -196,8 +191,7 @@ bare_item (Some (EnumItem name marked (v ∷ vs))) d h = cc
 unseen_value : (program : MProgram) (t : MType) → is_type program t ≡ true → rust_set program t ≡ NothingSet →
     is_value program false t Unseen ≡ true
 unseen_value program NeverType d h = refl
-unseen_value program (NamedType (DeclaredItem i) no_types) d h = bare_item (slice_get program.items i) d h
-unseen_value program (NamedType (DeclaredItem i) (more_types t ts)) d h = cc
+unseen_value program (NamedType owner args) d h = bare_item (declared program owner) (both _ (are_types program args) d).0 h
 unseen_value program _ d h = cc
 
 item_ascends : (o : Option MItem) → RangesAscend (item_set o)
@@ -216,9 +210,7 @@ chars_ascend (negsuc a) (negsuc b) h k = grind (arith, nat_tests)
 
 ascends : (program : MProgram) (t : MType) → RangesAscend (rust_set program t)
 ascends program CharType = chars_ascend
-ascends program (NamedType (DeclaredItem i) args) = item_ascends (slice_get program.items i)
-ascends program (NamedType OptionOwner args) = tt
-ascends program (NamedType ResultOwner args) = tt
+ascends program (NamedType owner args) = item_ascends (declared program owner)
 ascends program _ = tt
 
 -- the numbers of the types can be held
@@ -255,9 +247,7 @@ made : (program : MProgram) (t : MType) → IsMadeSet (rust_set program t)
 made program CharType =
     (record { up = refl; low = (refl, refl); high = (refl, refl) }, record { up = refl; low = (refl, refl); high = (refl, refl) })
 made program (IntType kind) = (kind_made program.width kind, tt)
-made program (NamedType (DeclaredItem i) args) = item_made (slice_get program.items i)
-made program (NamedType OptionOwner args) = tt
-made program (NamedType ResultOwner args) = tt
+made program (NamedType owner args) = item_made (declared program owner)
 made program _ = tt
 
 pub rust_values_law : (program : MProgram) → ValuesLaw (λ t. IsTrue (is_type program t)) (RustValue program) (rust_context program)

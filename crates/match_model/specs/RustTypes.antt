@@ -1,8 +1,8 @@
 -- What the context of Rust's types tells: their constructors, the number of their parts, and the types of these (Rust
 -- Reference, Types; the documentation of `rustc_pattern_analysis`, constructors).
 use Rattle.std.specs.Prelude.{◌≡◌, ◌<◌, ◌^◌, ℕ, suc, Bool, true, false, ◌&&◌, List, [], ◌∷◌, length, nat_eq, nat_lt, Option, Some, None, slice_get, IsTrue}
-use Rattle.match_model.specs.Types.{DeclaredItem, OptionOwner, ResultOwner, MOpaque, StringName, F32Name, F64Name, BoxName, VecName, RcName, ArcName, MType, BoolType, CharType, StrType, NeverType, IntType, OpaqueType, TupleType, PointType, SliceType, ArrayType, NamedType, MTypes, no_types, more_types, types_list}
-use Rattle.match_model.specs.Declarations.{MVariant, MItem, StructItem, EnumItem, OtherItem, MProgram, node_types, item_types}
+use Rattle.match_model.specs.Types.{DeclaredItem, MOpaque, StringName, F32Name, F64Name, BoxName, VecName, RcName, ArcName, ParameterName, MType, BoolType, CharType, StrType, NeverType, IntType, OpaqueType, TupleType, PointType, SliceType, ArrayType, NamedType, MTypes, no_types, more_types, types_list}
+use Rattle.match_model.specs.Declarations.{MVariant, MItem, StructItem, EnumItem, OtherItem, MProgram, declared, node_types, item_types}
 use Rattle.match_model.specs.Values.{MValue}
 use Rattle.match_model.specs.Numbers.{MRange, numbers_of}
 use Rattle.match_model.specs.Typing.{is_value}
@@ -28,8 +28,7 @@ item_set (Some (EnumItem name marked variants)) = enum_set marked variants
 item_set (Some OtherItem) = NothingSet
 item_set None = NothingSet
 
--- the constructors of a type; `Option` and `Result` have two variants, whatever their arguments, which only a type of the
--- program has right
+-- the constructors of a type
 abbrev pub rust_set : MProgram → MType → MSet
 rust_set program BoolType = FlagSet
 rust_set program CharType = number_set (numbers_of program.width CharType)
@@ -41,9 +40,7 @@ rust_set program (TupleType types) = SingleSet
 rust_set program (PointType mutable t) = PointSet
 rust_set program (SliceType t) = RowSet None
 rust_set program (ArrayType t n) = RowSet (Some n)
-rust_set program (NamedType (DeclaredItem i) arguments) = item_set (slice_get program.items i)
-rust_set program (NamedType OptionOwner arguments) = VariantSet 2 false
-rust_set program (NamedType ResultOwner arguments) = VariantSet 2 false
+rust_set program (NamedType owner arguments) = item_set (declared program owner)
 
 -- how many types there are, none where nothing is found
 abbrev pub count_of_types : Option MTypes → ℕ
@@ -104,6 +101,7 @@ opaque_arguments BoxName = 1
 opaque_arguments VecName = 1
 opaque_arguments RcName = 1
 opaque_arguments ArcName = 1
+opaque_arguments (ParameterName n) = 0
 
 -- the item is a struct or an enum
 abbrev pub is_declared : Option MItem → Bool
@@ -113,8 +111,8 @@ is_declared (Some OtherItem) = false
 is_declared None = false
 
 abbrev mutual
-  -- the type is one of the program's: its names are declared and have the right number of arguments, which is none for a
-  -- declared one; whether a place of it has a size is not asked
+  -- the type is one of the program's: its names are declared, and what its arguments are is asked alone, since a parameter without one
+  -- is opaque; whether a place of it has a size is not asked either
   pub is_type : MProgram → MType → Bool
   is_type program (OpaqueType name arguments) =
       are_types program arguments && nat_eq (length (types_list arguments)) (opaque_arguments name)
@@ -122,10 +120,7 @@ abbrev mutual
   is_type program (PointType mutable t) = is_type program t
   is_type program (SliceType t) = is_type program t
   is_type program (ArrayType t n) = is_type program t && nat_lt n (2 ^ 32)
-  is_type program (NamedType (DeclaredItem i) no_types) = is_declared (slice_get program.items i)
-  is_type program (NamedType (DeclaredItem i) (more_types t ts)) = false
-  is_type program (NamedType OptionOwner arguments) = are_types program arguments && nat_eq (length (types_list arguments)) 1
-  is_type program (NamedType ResultOwner arguments) = are_types program arguments && nat_eq (length (types_list arguments)) 2
+  is_type program (NamedType owner arguments) = is_declared (declared program owner) && are_types program arguments
   is_type program _ = true
 
   -- the types are all the program's
@@ -133,10 +128,14 @@ abbrev mutual
   are_types program no_types = true
   are_types program (more_types t ts) = is_type program t && are_types program ts
 
--- the program's declarations stand for types: the fields are types, fewer than 2^32 each, and every declared type has a
--- finite value at an unsure place (our own choice: an endless type is refused, and a declared one has no arguments)
+-- the field types of all items are types
+abbrev pub FieldsAreTypes : MProgram → Type 0
+FieldsAreTypes program = (i k : ℕ) (ts : MTypes) → item_types (slice_get program.items i) k ≡ Some ts → IsTrue (are_types program ts)
+
+-- the program's declarations stand for types: the fields are types, fewer than 2^32 each, and of every declared type some instance
+-- has a finite value at an unsure place (our own choice: an endless type is refused)
 pub record IsSoundProgram (program : MProgram) : Type 0 where
-  pub fields : (i k : ℕ) (ts : MTypes) → item_types (slice_get program.items i) k ≡ Some ts → IsTrue (are_types program ts)
+  pub fields : FieldsAreTypes program
   pub few : (i k : ℕ) (ts : MTypes) → item_types (slice_get program.items i) k ≡ Some ts → length (types_list ts) < 2 ^ 32
   pub finite : (i : ℕ) → IsTrue (is_declared (slice_get program.items i)) →
-      (v : MValue) × IsTrue (is_value program false (NamedType (DeclaredItem i) no_types) v)
+      (arguments : MTypes) × (v : MValue) × IsTrue (is_value program false (NamedType (DeclaredItem i) arguments) v)

@@ -7,9 +7,11 @@ pub data MOwner : Type 0 where
   DeclaredItem : ℕ → MOwner
   OptionOwner ResultOwner : MOwner
 
--- the types that a pattern can only bind or ignore (our own choice)
+-- the types that a pattern can only bind or ignore (our own choice). One is a type parameter of a declaration, by its number; the
+-- arguments of a named type replace it there
 pub data MOpaque : Type 0 where
   StringName F32Name F64Name BoxName VecName RcName ArcName : MOpaque
+  ParameterName : (number : ℕ) → MOpaque
 
 mutual
   -- a type; `mutable` tells `&mut` from `&`, and a named type has its type arguments

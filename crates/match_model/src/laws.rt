@@ -7,7 +7,7 @@ ghost use Rattle.match_model.specs.Laws.{ExhaustiveWhereNothingIsLeft, Ascending
 ghost use Rattle.match_model.specs.Laws.{TextOutside, TextsAreOrderedAsBytes};
 ghost use Rattle.match_model.specs.ContextViews.{LawsAreCarried};
 ghost use Rattle.match_model.specs.Weights.{StepsLowerWeights};
-ghost use Rattle.match_model.specs.Emptiness.{RustPartsLaw, RustEmptyLaw, RustUnsureLaw};
+ghost use Rattle.match_model.specs.Emptiness.{RustPartsLaw, RustEmptyLaw, RustUnsureLaw, ValuedOrNone, FiniteOrNone};
 ghost use Rattle.match_model.specs.Readings.{ReadingsAgree};
 ghost use Rattle.match_model.specs.Uniqueness.{WalkIsOne, MeaningIsOne, UnreachableListIsOne, PiecesAreOne, WitnessListIsOne, OverlapListIsOne};
 
@@ -68,11 +68,18 @@ pub fn rust_parts()
     ensures { RustPartsLaw }
 {}
 
-/// Marks that came about one by one and are stable tell exactly which types have no value at a sure place; at an unsure
-/// place every type has one.
+/// Marks by which no type is left to mark tell exactly which types have no value at a sure place; at an unsure place
+/// every type has one.
 pub fn rust_emptiness()
     ensures sure { RustEmptyLaw }
     ensures unsure { RustUnsureLaw }
+{}
+
+/// Emptiness is decided. A type of a sound program has a value at a sure place or none. A named type has one at an
+/// unsure place or none, in every program whose fields are types.
+pub fn emptiness_is_decided()
+    ensures sure { ValuedOrNone }
+    ensures unsure { FiniteOrNone }
 {}
 
 /// A tree asks one list of nodes, ends in one way, and so means one thing alone for a value and answers.
