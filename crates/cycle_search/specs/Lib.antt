@@ -3,3 +3,4 @@ pub mod Numbers
 pub mod Searched
 pub mod Components
 pub mod Laws
+pub mod Groups

@@ -2,6 +2,7 @@
 ghost use Rattle.std.specs.Prelude.{◌≡◌, ◌<◌, ◌≤◌, ◌^◌, ℕ, IsTrue, IsNone, IfOk, IfSome, Ok, true, false, length, slice_index};
 ghost use Rattle.std.specs.List.{All};
 ghost use Rattle.cycle_search.specs.Graphs.{plain_graph, HasTargetsBelow, Reaches, IsFirstOnCycle, HasNoCycle};
+ghost use Rattle.cycle_search.specs.Groups.{HasOneOnCycle, HasNoneOnCycle, IsFirstGroup};
 ghost use Rattle.cycle_search.specs.Numbers.{NeverRises};
 
 use crate::components::component_numbers;
@@ -27,6 +28,51 @@ pub fn first_on_cycle(alloc: Global, edges: &[Vec<u32>]) -> Result<Option<u32>, 
         }
     }
     Ok(None)
+}
+
+/// The first of these groups of nodes, counted from 0, that has a node which reaches itself by one edge or more.
+///
+/// Nodes and edges are those of [`first_on_cycle`]. A node may stand in several groups.
+pub fn first_group_on_cycle(
+    alloc: Global,
+    edges: &[Vec<u32>],
+    groups: &[Vec<u32>],
+) -> Result<Option<usize>, NoMemory>
+    requires targets { All (HasTargetsBelow (length edges.now)) edges.now }
+    requires few { length edges.now ≤ 2 ^ 32 }
+    requires groups { All (HasTargetsBelow (length edges.now)) groups.now }
+    ensures found { IfOk result (λ answer. IfSome answer (IsFirstGroup (plain_graph edges.now) groups.now)) }
+    ensures none { IfOk result (λ answer. IsNone answer → All (HasNoneOnCycle (plain_graph edges.now)) groups.now) }
+{
+    let numbers = falling_numbers(alloc, edges)?;
+    for (i, group) in groups.iter().enumerate() {
+        if some_reaches_itself(alloc, edges, &numbers, group)? {
+            return Ok(Some(i));
+        }
+    }
+    Ok(None)
+}
+
+// Tells whether a node of the list reaches itself.
+fn some_reaches_itself(
+    alloc: Global,
+    edges: &[Vec<u32>],
+    numbers: &[u32],
+    group: &Vec<u32>,
+) -> Result<bool, AllocError>
+    requires targets { All (HasTargetsBelow (length edges.now)) edges.now }
+    requires len { length numbers.now ≡ length edges.now }
+    requires falling { NeverRises (plain_graph edges.now) numbers.now }
+    requires group { HasTargetsBelow (length edges.now) group.now }
+    ensures yes { result ≡ Ok true → HasOneOnCycle (plain_graph edges.now) group.now }
+    ensures no { result ≡ Ok false → HasNoneOnCycle (plain_graph edges.now) group.now }
+{
+    for node in group {
+        if reaches_itself(alloc, edges, numbers, *node)? {
+            return Ok(true);
+        }
+    }
+    Ok(false)
 }
 
 // Tells whether a node reaches itself. It is searched from only where one of its edges goes to an equal number.

@@ -15,4 +15,4 @@ mod cycle;
 pub mod laws;
 mod way;
 
-pub use cycle::first_on_cycle;
+pub use cycle::{first_group_on_cycle, first_on_cycle};
