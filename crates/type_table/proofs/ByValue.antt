@@ -1,14 +1,14 @@
 -- Ways in the graph of items and nodes are the ways in which a type reaches others by value.
 use Rattle.std.proofs.Common.{◌≡◌, ◌⊎◌, inl, inr, ⊎_elim, ℕ, ◌+◌, ◌-◌, ◌<◌, ◌≤◌, Bool, true, false, cond, List, [], ◌∷◌, ◌++◌, map, length, Option, Some, None, refl, sym, ap, subst, ◌∙◌, suc, zero, arith, get_or}
 use Rattle.std.specs.Prelude.{slice_get, nat_lt, nat_eq, option_map, IfSome, IsNone, is_some}
-use Rattle.std.specs.List.{Contains}
+use Rattle.std.specs.List.{Contains, list_all}
 use Rattle.std.proofs.lemmas.Bool.{ltb-true, cases_lt, lt-ltb, le-ltb, eqb-true}
 use Rattle.std.proofs.lemmas.List.{append-nil, length-map, get_or_past, get_or_append_left, get_or-append-add}
 use Rattle.std.proofs.lemmas.List.Elements.{Contains-append_left, Contains-append_right, Contains-append_cases}
 use Rattle.std.proofs.lemmas.Option.{slice_get-map, slice_get_past, get_or_from_slice_get, slice_get_read}
 use Rattle.match_model.specs.declared.Width.{Width}
 use Rattle.match_model.specs.Types.{MType, MTypes, no_types, types_list, types_of, DeclaredItem, OptionOwner, ResultOwner, NeverType, TupleType, ArrayType, NamedType}
-use Rattle.match_model.specs.Declarations.{MVariant, MItem, MProgram, node_types, item_types, item_variants, variant_types}
+use Rattle.match_model.specs.Declarations.{MVariant, MItem, MProgram, node_types, item_types, item_variants, filled_variant, variant_types}
 use Rattle.cycle_search.specs.Graphs.{IsEdge, Reaches as ReachesBy, by_edge, by_way, IsFirstOnCycle, HasNoCycle}
 use Rattle.cycle_search.proofs.Ways.{joined}
 use Rattle.type_names.specs.declared.meanings.Base.{Base}
@@ -25,15 +25,16 @@ use Rattle.type_table.specs.declared.entries.VariantEntry.{VariantEntry}
 use Rattle.type_table.specs.declared.entries.Entry.{Entry}
 use Rattle.type_table.specs.declared.entries.Entry.TheVariants as entry_kinds
 use Rattle.type_table.specs.Nodes.{AreNodes, types_in, type_at, type_there, head_type, fits_head}
-use Rattle.type_table.specs.Entries.{entry_told, variant_entry}
-use Rattle.type_table.specs.Bodies.{node_atoms, form_atoms, variant_body}
-use Rattle.type_table.specs.Edges.{item_edges, node_edges, edges_of, variants_edges, entry_edges}
+use Rattle.type_table.specs.Entries.{entry_told, variant_entry, entry_below}
+use Rattle.type_table.specs.Bodies.{form_atoms}
+use Rattle.type_table.specs.Edges.{node_atoms, variant_edges, item_edges, node_edges, edges_of, variants_edges, entry_edges}
 use Rattle.type_table.specs.Faults.{HasByValue, as_part, as_item, Reaches, in_one, in_more, ContainsItself, FirstThat}
 use Rattle.type_table.specs.Possible.{program_in}
 use Rattle.type_table.specs.Readings.{tuple_part, option_part, result_part, part_type}
 use Rattle.type_table.specs.Readers.{type_owner}
 use Rattle.type_table.specs.Tables.{part_of, field_type, field_number, number_with}
 use Rattle.type_table.proofs.NodeLemmas.{type_of_node, get_below, count_types, item_at, map_has}
+use Rattle.type_table.proofs.PlainTypes.{variants_in}
 use Rattle.type_table.proofs.FieldLemmas.{base_field, base_owner, tuple_field, option_field, result_field, entry_field}
 
 -- a place of the list has it
@@ -98,7 +99,7 @@ module _ (count : ℕ) (v : VariantEntry) where
   listed_number : (b i p : ℕ) → slice_get (map {B = ℕ} (λ f. f.ty) v.fields.items) i ≡ Some p → option_map {U = ℕ} (λ f. f.ty) (slice_get v.fields.items i) ≡ Some p
   listed_number b i p h = sym (slice_get-map (λ f. f.ty) v.fields.items i) ∙ h
 
-  pub body_field : (b : ℕ) → At (variant_body count v) b → FieldNode count v b
+  pub body_field : (b : ℕ) → At (variant_edges count v) b → FieldNode count v b
   body_field b h = by v.form refl h
     where
       from_atoms : (k : FormKind) → number_with k ≡ number_with form_kinds.Tuple → v.form ≡ k → At (node_atoms count (map (λ f. f.ty) v.fields.items)) b → FieldNode count v b
@@ -116,7 +117,7 @@ module _ (count : ℕ) (v : VariantEntry) where
       by form_kinds.Tuple e at = from_atoms form_kinds.Tuple refl e at
       by form_kinds.Brace e at = from_atoms form_kinds.Brace refl e at
 
-  pub field_body : (i p : ℕ) → field_number v i ≡ Some p → At (variant_body count v) (count + p)
+  pub field_body : (i p : ℕ) → field_number v i ≡ Some p → At (variant_edges count v) (count + p)
   field_body i p h = by v.form h
     where
       number : (o : Option FieldEntry) → slice_get v.fields.items i ≡ o → option_map {U = ℕ} (λ f. f.ty) o ≡ Some p → At (map {B = ℕ} (λ f. f.ty) v.fields.items) p
@@ -138,23 +139,23 @@ variants_told types (entry_kinds.Struct id variant) = refl
 variants_told types _ = refl
 
 entry_edges_are : (count : ℕ) (e : Entry) → entry_edges count e ≡ variants_edges count (entry_variants e)
-entry_edges_are count (entry_kinds.Struct id variant) = sym (append-nil (variant_body count variant))
+entry_edges_are count (entry_kinds.Struct id variant) = sym (append-nil (variant_edges count variant))
 entry_edges_are count _ = refl
 
 variants_edge : (count : ℕ) (vs : List VariantEntry) (b : ℕ) → Contains (variants_edges count vs) b → (k : ℕ) × (v : VariantEntry) × (slice_get vs k ≡ Some v) × FieldNode count v b
 variants_edge count [] b h = absurd (none_in b h)
 variants_edge count (v ∷ vs) b h = ⊎_elim
-    (λ here. (0, v, refl, body_field count v b (at_of (variant_body count v) b here)))
+    (λ here. (0, v, refl, body_field count v b (at_of (variant_edges count v) b here)))
     (λ later. let w = variants_edge count vs b later in (suc w.0, w.1, w.2, w.3))
-    (Contains-append_cases (variant_body count v) (variants_edges count vs) b h)
+    (Contains-append_cases (variant_edges count v) (variants_edges count vs) b h)
 
 edge_variants : (count : ℕ) (vs : List VariantEntry) (k : ℕ) (v : VariantEntry) (i p : ℕ) → slice_get vs k ≡ Some v → field_number v i ≡ Some p → Contains (variants_edges count vs) (count + p)
 edge_variants count [] k v i p at h = absurd cc
 edge_variants count (w ∷ vs) zero v i p at h =
     let same : w ≡ v = cc in
-    Contains-append_left (variant_body count w) (variants_edges count vs) (count + p)
-    (contains_of (variant_body count w) (count + p) (field_body count w i p (ap (λ (x : VariantEntry). field_number x i) same ∙ h)))
-edge_variants count (w ∷ vs) (suc k) v i p at h = Contains-append_right (variant_body count w) (variants_edges count vs) (count + p) (edge_variants count vs k v i p at h)
+    Contains-append_left (variant_edges count w) (variants_edges count vs) (count + p)
+    (contains_of (variant_edges count w) (count + p) (field_body count w i p (ap (λ (x : VariantEntry). field_number x i) same ∙ h)))
+edge_variants count (w ∷ vs) (suc k) v i p at h = Contains-append_right (variant_edges count w) (variants_edges count vs) (count + p) (edge_variants count vs k v i p at h)
 
 -- the field types of an item are those of its entry
 entry_types : (types : List MType) (e : Entry) (k : ℕ) → item_types (Some (entry_told types e).item) k ≡ variant_types (option_map (variant_entry types) (slice_get (entry_variants e) k))
@@ -345,7 +346,7 @@ no_parts (p ∷ ps) e = let f : length (p ∷ ps) ≡ 0 = eqb-true (length (p �
 field_item : (program : MProgram) (i k j : ℕ) (u : MType) → field_type program (NamedType (DeclaredItem i) no_types) k j ≡ Some u → i < length program.items
 field_item program i k j u f = by (slice_get program.items i) refl f
   where
-    by : (o : Option MItem) → slice_get program.items i ≡ o → part_of (item_types o k) j ≡ Some u → i < length program.items
+    by : (o : Option MItem) → slice_get program.items i ≡ o → part_of (variant_types (slice_get (map (filled_variant no_types) (item_variants o)) k)) j ≡ Some u → i < length program.items
     by None e g = absurd cc
     by (Some x) e g = get_below program.items i x e
 
@@ -363,7 +364,7 @@ contains_within program i r =
     not_array : (u : MType) (n : ℕ) → NamedType (DeclaredItem i) no_types ≡ ArrayType u n → ⊥
     not_array u n e = absurd cc
 
-module _ (width : Width) (nodes : List Node) (entries : List Entry) (are : AreNodes nodes) where
+module _ (width : Width) (nodes : List Node) (entries : List Entry) (are : AreNodes nodes) (below : list_all (entry_below (length nodes)) entries ≡ true) where
   abbrev count : ℕ
   count = length entries
 
@@ -415,6 +416,12 @@ module _ (width : Width) (nodes : List Node) (entries : List Entry) (are : AreNo
   item_there : (i : ℕ) (e : Entry) → slice_get entries i ≡ Some e → slice_get program.items i ≡ Some (entry_told types e).item
   item_there i e at = map_has (λ e. (entry_told types e).item) entries i e at
 
+  -- the type of a field is that of the entry's
+  field_is : (i : ℕ) (e : Entry) (k j : ℕ) → slice_get entries i ≡ Some e → field_type program (own i) k j ≡ part_of (item_types (Some (entry_told types e).item) k) j
+  field_is i e k j at =
+      ap (λ (vs : List MVariant). part_of (variant_types (slice_get vs k)) j) (variants_in width nodes entries are below i no_types)
+      ∙ ap (λ (o : Option MItem). part_of (item_types o k) j) (item_there i e at)
+
   -- a step by value, or from a declared type's node to its item
   abbrev Step : ℕ → ℕ → Type 0
   Step a b = (HasByValue program (number_type a) (number_type b) × (length entries ≤ b)) ⊎ ((number_type a ≡ number_type b) × (length entries ≤ a) × (b < length entries))
@@ -429,7 +436,7 @@ module _ (width : Width) (nodes : List Node) (entries : List Entry) (are : AreNo
       let e = item_at entries a lt in
       let f = edge_field (length entries) types e.0 b (subst (λ (xs : List ℕ). Contains xs b) (out_item a e.0 e.1) edge) in
       by_value a f.0 b (own a) (of_item a lt) f.1
-      (has_field program (own a) (type_at types f.0) (f.2, f.3, ap (λ (o : Option MItem). part_of (item_types o f.2) f.3) (item_there a e.0 e.1) ∙ f.4))
+      (has_field program (own a) (type_at types f.0) (f.2, f.3, field_is a e.0 f.2 f.3 e.1 ∙ f.4))
 
   node_step : (n b : ℕ) → IsEdge graph (length entries + n) b → Step (length entries + n) b
   node_step n b edge = ⊎_elim here past (cases_lt n (length nodes))
@@ -500,7 +507,7 @@ module _ (width : Width) (nodes : List Node) (entries : List Entry) (are : AreNo
       fields : FieldOf program (own i) u → WayTo i u × (i < length entries)
       fields f =
           let e = declared_below i f.0 f.1 u f.2 in
-          let edge = field_edge (length entries) types e.0 f.0 f.1 u (ap (λ (o : Option MItem). part_of (item_types o f.0) f.1) (sym (item_there i e.0 e.1)) ∙ f.2) in
+          let edge = field_edge (length entries) types e.0 f.0 f.1 u (sym (field_is i e.0 f.0 f.1 e.1) ∙ f.2) in
           ((edge.0, edge.1, by_edge (subst (λ (xs : List ℕ). Contains xs (length entries + edge.0)) (sym (out_item i e.0 e.1)) edge.2)), get_below entries i e.0 e.1)
 
   -- a declared type's node goes to its item

@@ -11,20 +11,23 @@ use Rattle.type_names.specs.declared.meanings.Owner.TheVariants as owners
 use Rattle.type_table.specs.declared.nodes.Head.{Head}
 use Rattle.type_table.specs.declared.nodes.Head.TheVariants as heads
 use Rattle.type_table.specs.declared.nodes.Node.{Node}
+use Rattle.type_names.specs.declared.meanings.FormKind.{FormKind}
+use Rattle.type_names.specs.declared.meanings.FormKind.TheVariants as form_kinds
+use Rattle.type_table.specs.declared.entries.FieldEntry.{FieldEntry}
 use Rattle.type_table.specs.declared.entries.VariantEntry.{VariantEntry}
 use Rattle.type_table.specs.declared.entries.Entry.{Entry}
 use Rattle.type_table.specs.declared.entries.Entry.TheVariants as entry_kinds
 use Rattle.type_table.specs.Nodes.{AreNodes, are_below}
-use Rattle.type_table.specs.Entries.{variant_below, entry_below}
-use Rattle.type_table.specs.Bodies.{variant_body}
-use Rattle.type_table.specs.Edges.{node_edges, edges_of, variants_edges, entry_edges}
+use Rattle.type_table.specs.Entries.{field_below, variant_below, entry_below}
+use Rattle.type_table.specs.Bodies.{form_atoms}
+use Rattle.type_table.specs.Edges.{node_atoms, variant_edges, node_edges, edges_of, variants_edges, entry_edges}
 use Rattle.type_table.proofs.NodeLemmas.{get_below}
 use Rattle.type_table.proofs.FieldLemmas.{all_at}
-use Rattle.type_table.proofs.BodyLemmas.{within_parts, within_variant}
+use Rattle.type_table.proofs.BodyLists.{below_more}
 
 -- the edges of one variant more
 pub edges_more : (count i : ℕ) (vs : List VariantEntry) (v : VariantEntry) (old new more : List ℕ) → i < length vs → v ≡ get_or vs i v →
-    old ≡ variants_edges count (take i vs) → more ≡ variant_body count v → new ≡ old ++ more → new ≡ variants_edges count (take (i + 1) vs)
+    old ≡ variants_edges count (take i vs) → more ≡ variant_edges count v → new ≡ old ++ more → new ≡ variants_edges count (take (i + 1) vs)
 edges_more count i vs v old new more lt is before here e =
     let front : take (i + 1) vs ≡ take i vs ++ v ∷ [] = take_more vs i v lt ∙ ap (λ (y : VariantEntry). take i vs ++ y ∷ []) (sym is) in
     e
@@ -32,37 +35,58 @@ edges_more count i vs v old new more lt is before here e =
     ∙ (ap (λ (xs : List ℕ). variants_edges count (take i vs) ++ xs) here
     ∙ sym (ap (variants_edges count) front ∙ pushed (take i vs))))
   where
-    pushed : (xs : List VariantEntry) → variants_edges count (xs ++ v ∷ []) ≡ variants_edges count xs ++ variant_body count v
-    pushed [] = append-nil (variant_body count v)
-    pushed (x ∷ xs) = ap (λ (ys : List ℕ). variant_body count x ++ ys) (pushed xs) ∙ sym (append_assoc (variant_body count x) (variants_edges count xs) (variant_body count v))
+    pushed : (xs : List VariantEntry) → variants_edges count (xs ++ v ∷ []) ≡ variants_edges count xs ++ variant_edges count v
+    pushed [] = append-nil (variant_edges count v)
+    pushed (x ∷ xs) = ap (λ (ys : List ℕ). variant_edges count x ++ ys) (pushed xs) ∙ sym (append_assoc (variant_edges count x) (variants_edges count xs) (variant_edges count v))
 
 -- the edges go to nodes that there are
 module _ (count n : ℕ) where
+  within_parts : (parts : List ℕ) → are_below parts n ≡ true → list_all (λ a. nat_lt a (count + n)) (node_atoms count parts) ≡ true
+  within_parts [] h = refl
+  within_parts (p ∷ ps) h =
+      let halves = and_parts (nat_lt p n) (are_below ps n) h in
+      let lt : p < n = ltb-true p n halves.0 in
+      rw (lt-ltb (count + p) (count + n) (omega arith), within_parts ps halves.1) refl
+
+  within_fields : (fs : List FieldEntry) → list_all (field_below n) fs ≡ true → list_all (λ a. nat_lt a (count + n)) (node_atoms count (map (λ f. f.ty) fs)) ≡ true
+  within_fields [] h = refl
+  within_fields (f ∷ fs) h =
+      let halves = and_parts (nat_lt f.ty n) (list_all (field_below n) fs) h in
+      let lt : f.ty < n = ltb-true f.ty n halves.0 in
+      rw (lt-ltb (count + f.ty) (count + n) (omega arith), within_fields fs halves.1) refl
+
+  within_form : (k : FormKind) (w : ℕ → Bool) (atoms : List ℕ) → list_all w atoms ≡ true → list_all w (form_atoms k atoms) ≡ true
+  within_form form_kinds.Unit w atoms h = refl
+  within_form _ w atoms h = h
+
+  within_variant : (v : VariantEntry) → variant_below n v ≡ true → list_all (λ a. nat_lt a (count + n)) (variant_edges count v) ≡ true
+  within_variant v h = within_form v.form (λ a. nat_lt a (count + n)) (node_atoms count (map (λ f. f.ty) v.fields.items)) (within_fields v.fields.items h)
+
   variants_within : (vs : List VariantEntry) → list_all (variant_below n) vs ≡ true → list_all (λ a. nat_lt a (count + n)) (variants_edges count vs) ≡ true
   variants_within [] h = refl
   variants_within (v ∷ vs) h =
       let halves = and_parts (variant_below n v) (list_all (variant_below n) vs) h in
-      all_joined (λ a. nat_lt a (count + n)) (variant_body count v) (variants_edges count vs) (within_variant count n v halves.0) (variants_within vs halves.1)
+      all_joined (λ a. nat_lt a (count + n)) (variant_edges count v) (variants_edges count vs) (within_variant v halves.0) (variants_within vs halves.1)
     where
       all_joined : (p : ℕ → Bool) (xs ys : List ℕ) → list_all p xs ≡ true → list_all p ys ≡ true → list_all p (xs ++ ys) ≡ true
       all_joined p [] ys f g = g
       all_joined p (x ∷ xs) ys f g = let parts = and_parts (p x) (list_all p xs) f in and_from (p x) (list_all p (xs ++ ys)) parts.0 (all_joined p xs ys parts.1 g)
 
   entry_edges_within : (e : Entry) → entry_below n e ≡ true → list_all (λ a. nat_lt a (count + n)) (entry_edges count e) ≡ true
-  entry_edges_within (entry_kinds.Struct id v) h = within_variant count n v (and_parts (nat_lt id n) (variant_below n v) h).1
+  entry_edges_within (entry_kinds.Struct id v) h = within_variant v (and_parts (nat_lt id n) (variant_below n v) h).1
   entry_edges_within (entry_kinds.Enum id name later variants) h = variants_within variants.items (and_parts (nat_lt id n) (list_all (variant_below n) variants.items) h).1
   entry_edges_within _ h = refl
 
   node_edges_within : (h : Head) (parts : List ℕ) → are_below parts n ≡ true → list_all (λ a. nat_lt a (count + n)) (node_edges count h parts) ≡ true
-  node_edges_within heads.Tuple parts below = within_parts count n parts below
-  node_edges_within (heads.Array len) parts below = within_parts count n parts below
+  node_edges_within heads.Tuple parts below = within_parts parts below
+  node_edges_within (heads.Array len) parts below = within_parts parts below
   node_edges_within (heads.Named (owners.Item i)) parts below = by (nat_lt i count) refl
     where
       by : (b : Bool) → nat_lt i count ≡ b → list_all (λ a. nat_lt a (count + n)) (cond b (i ∷ []) []) ≡ true
       by false e = refl
       by true e = let lt : i < count = ltb-true i count e in rw (lt-ltb i (count + n) (omega arith)) refl
-  node_edges_within (heads.Named owners.Option) parts below = within_parts count n parts below
-  node_edges_within (heads.Named owners.Result) parts below = within_parts count n parts below
+  node_edges_within (heads.Named owners.Option) parts below = within_parts parts below
+  node_edges_within (heads.Named owners.Result) parts below = within_parts parts below
   node_edges_within _ parts below = refl
 
 mapped_all : {A : Type 0} (p : List ℕ → Bool) (f : A → List ℕ) (xs : List A) → ((i : ℕ) (x : A) → slice_get xs i ≡ Some x → p (f x) ≡ true) → list_all p (map f xs) ≡ true
@@ -72,13 +96,6 @@ mapped_all p f (x ∷ xs) each = and_from (p (f x)) (list_all p (map f xs)) (eac
 lists_joined : (p : List ℕ → Bool) (xs ys : List (List ℕ)) → list_all p xs ≡ true → list_all p ys ≡ true → list_all p (xs ++ ys) ≡ true
 lists_joined p [] ys f g = g
 lists_joined p (x ∷ xs) ys f g = let parts = and_parts (p x) (list_all p xs) f in and_from (p x) (list_all p (xs ++ ys)) parts.0 (lists_joined p xs ys parts.1 g)
-
-below_more : (parts : List ℕ) (m n : ℕ) → m ≤ n → are_below parts m ≡ true → are_below parts n ≡ true
-below_more [] m n le h = refl
-below_more (p ∷ ps) m n le h =
-    let halves = and_parts (nat_lt p m) (are_below ps m) h in
-    let lt : p < m = ltb-true p m halves.0 in
-    and_from (nat_lt p n) (are_below ps n) (lt-ltb p n (omega arith)) (below_more ps m n le halves.1)
 
 module _ (nodes : List Node) (entries : List Entry) (are : AreNodes nodes) (below : list_all (entry_below (length nodes)) entries ≡ true) where
   graph_within : list_all (list_all (λ a. nat_lt a (length entries + length nodes))) (map (entry_edges (length entries)) entries ++ map (edges_of (length entries)) nodes) ≡ true

@@ -1,11 +1,11 @@
 -- The types of a table have fewer than 2^32 parts and variants, and each variant fewer than 2^32 fields.
-use Rattle.std.proofs.Common.{◌≡◌, ℕ, ◌<◌, zero, suc, true, List, map, Some, None, Option, length, refl, ap, ◌∙◌, arith}
+use Rattle.std.proofs.Common.{◌≡◌, ℕ, ◌<◌, zero, suc, true, List, map, Some, None, Option, length, refl, ap, sym, subst, ◌∙◌, arith}
 use Rattle.std.specs.Prelude.{slice_get, option_map}
 use Rattle.std.proofs.lemmas.Bool.{ltb-true}
 use Rattle.std.proofs.lemmas.List.{length-map}
 use Rattle.std.proofs.lemmas.List.Elements.{recursion_from_All}
 use Rattle.match_model.specs.Types.{DeclaredItem, OptionOwner, ResultOwner, MType, TupleType, NamedType, MTypes, no_types, more_types}
-use Rattle.match_model.specs.Declarations.{MItem, form_types, item_types}
+use Rattle.match_model.specs.Declarations.{MVariant, MItem, form_types, variant_types, item_types}
 use Rattle.match_model.specs.RustTypes.{is_type, count_of_types}
 use Rattle.match_model.proofs.Basics.{both}
 use Rattle.type_table.specs.declared.table.TypeTable.{TypeTable}
@@ -17,7 +17,8 @@ use Rattle.type_table.specs.Known.{IsFew}
 use Rattle.type_table.specs.Tables.{IsOf, table_types, table_type, table_program, count_of_item, count_of_type, fields_of_type}
 use Rattle.type_table.proofs.KindLemmas.{program_at}
 use Rattle.type_table.proofs.SoundTypes.{holds_at, fields_few, items_few}
-use Rattle.type_table.proofs.EmptyTypes.{same, rust_types}
+use Rattle.type_table.proofs.PlainTypes.{same_items, table_variants}
+use Rattle.type_table.proofs.EmptyTypes.{rust_types}
 
 pub none_few : 0 < 4294967296
 none_few = omega arith
@@ -59,7 +60,7 @@ module _ (t : TypeTable) where
       by None e = none_few
       by (Some ts) e =
           items_few (table_types t) t.items.items (recursion_from_All IsFew t.items.items t.whole.few) i k ts
-          (ap (λ (is : List MItem). item_types (slice_get is i) k) (same t) ∙ e)
+          (ap (λ (is : List MItem). item_types (slice_get is i) k) (same_items t) ∙ e)
 
   typed_count_few : (ty : MType) → is_type (table_program t) ty ≡ true → count_of_type (table_program t) ty < 4294967296
   typed_count_few (TupleType ts) h = ltb-true _ _ (both _ _ h).1
@@ -68,19 +69,18 @@ module _ (t : TypeTable) where
 
   option_fields_few : (arguments : MTypes) (k : ℕ) → fields_of_type (table_program t) (NamedType OptionOwner arguments) k < 4294967296
   option_fields_few arguments zero = none_few
-  option_fields_few no_types (suc k) = none_few
-  option_fields_few (more_types u no_types) (suc zero) = one_few
-  option_fields_few (more_types u no_types) (suc (suc k)) = none_few
-  option_fields_few (more_types u (more_types w us)) (suc k) = none_few
+  option_fields_few arguments (suc zero) = one_few
+  option_fields_few arguments (suc (suc k)) = none_few
 
   result_fields_few : (arguments : MTypes) (k : ℕ) → fields_of_type (table_program t) (NamedType ResultOwner arguments) k < 4294967296
-  result_fields_few (more_types u (more_types w no_types)) zero = one_few
-  result_fields_few (more_types u (more_types w no_types)) (suc zero) = one_few
-  result_fields_few _ _ = none_few
+  result_fields_few arguments zero = one_few
+  result_fields_few arguments (suc zero) = one_few
+  result_fields_few arguments (suc (suc k)) = none_few
 
   typed_fields_few : (ty : MType) (k : ℕ) → is_type (table_program t) ty ≡ true → fields_of_type (table_program t) ty k < 4294967296
   typed_fields_few (TupleType ts) zero h = ltb-true _ _ (both _ _ h).1
-  typed_fields_few (NamedType (DeclaredItem i) arguments) k h = item_fields_few i k
+  typed_fields_few (NamedType (DeclaredItem i) arguments) k h =
+      subst (λ (n : ℕ). n < 4294967296) (ap (λ (vs : List MVariant). count_of_types (variant_types (slice_get vs k))) (sym (table_variants t i arguments))) (item_fields_few i k)
   typed_fields_few (NamedType OptionOwner arguments) k h = option_fields_few arguments k
   typed_fields_few (NamedType ResultOwner arguments) k h = result_fields_few arguments k
   typed_fields_few _ _ h = none_few

@@ -77,8 +77,8 @@ entry_counted types _ = refl
 pub kind_of_item : (t : TypeTable) (i : ℕ) (item : MItem) (k : TyKind) → slice_get (table_program t).items i ≡ Some item → ItemKindIs item k → KindIs t (NamedType (DeclaredItem i) no_types) k
 kind_of_item t i item (kinds.Struct n) at h = (i, h.0, refl, at ∙ ap Some h.1, h.2)
 kind_of_item t i item (kinds.Enum count later) at h =
-    (DeclaredItem i, no_types, refl, ap is_struct at ∙ h.0, ap (λ (o : Option MItem). length (item_variants o)) at ∙ h.1, ap item_is_marked at ∙ h.2)
+    (DeclaredItem i, no_types, refl, ap is_struct at ∙ h.0, length-map _ _ ∙ (ap (λ (o : Option MItem). length (item_variants o)) at ∙ h.1), ap item_is_marked at ∙ h.2)
 kind_of_item t i item _ at h = absurd h
 
 pub kind_of_none : (t : TypeTable) (i : ℕ) → slice_get (table_program t).items i ≡ None → KindIs t (NamedType (DeclaredItem i) no_types) (kinds.Enum 0 false)
-kind_of_none t i at = (DeclaredItem i, no_types, refl, ap is_struct at, ap (λ (o : Option MItem). length (item_variants o)) at, ap item_is_marked at)
+kind_of_none t i at = (DeclaredItem i, no_types, refl, ap is_struct at, length-map _ _ ∙ ap (λ (o : Option MItem). length (item_variants o)) at, ap item_is_marked at)

@@ -67,17 +67,18 @@ first_named vs name other k before e same =
 
 -- a type of a table has few variants
 pub variants_few : (t : TypeTable) (u : MType) → length (variants_of (table_program t) u) < 4294967296
-variants_few t (NamedType (DeclaredItem i) arguments) = by (slice_get (table_program t).items i) (item_count_few t i)
+variants_few t (NamedType (DeclaredItem i) arguments) =
+    let count : length (variants_of (table_program t) (NamedType (DeclaredItem i) arguments)) ≡ length (item_variants (slice_get (table_program t).items i)) = length-map _ _ in
+    let few : length (item_variants (slice_get (table_program t).items i)) < 4294967296 = by (slice_get (table_program t).items i) (item_count_few t i) in
+    omega (arith, count, few)
   where
     by : (o : Option MItem) → count_of_item o < 4294967296 → length (item_variants o) < 4294967296
     by None few = none_few
     by (Some OtherItem) few = none_few
     by (Some (StructItem v)) few = one_few
     by (Some (EnumItem name marked variants)) few = few
-variants_few t (NamedType OptionOwner no_types) = one_few
-variants_few t (NamedType OptionOwner (more_types u no_types)) = omega arith
-variants_few t (NamedType OptionOwner (more_types u (more_types w ws))) = one_few
-variants_few t (NamedType ResultOwner (more_types u (more_types w no_types))) = omega arith
+variants_few t (NamedType OptionOwner arguments) = omega arith
+variants_few t (NamedType ResultOwner arguments) = omega arith
 variants_few t _ = none_few
 
 numbered_count : (i : ℕ) (ts : List MType) → length (numbered_names i ts) ≡ length ts

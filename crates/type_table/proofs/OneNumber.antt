@@ -7,7 +7,7 @@ use Rattle.std.proofs.lemmas.List.{length-map}
 use Rattle.std.proofs.lemmas.Slice.Eq.{bytes_eq-Decides}
 use Rattle.match_model.specs.declared.IntKind.{IntKind}
 use Rattle.match_model.specs.declared.IntKind.TheVariants as ints
-use Rattle.match_model.specs.Types.{MOwner, DeclaredItem, OptionOwner, ResultOwner, MOpaque, StringName, F32Name, F64Name, BoxName, VecName, RcName, ArcName, MType, BoolType, CharType, StrType, NeverType, IntType, OpaqueType, TupleType, PointType, SliceType, ArrayType, NamedType, MTypes, no_types, more_types, types_list}
+use Rattle.match_model.specs.Types.{MOwner, DeclaredItem, OptionOwner, ResultOwner, MOpaque, StringName, F32Name, F64Name, BoxName, VecName, RcName, ArcName, ParameterName, MType, BoolType, CharType, StrType, NeverType, IntType, OpaqueType, TupleType, PointType, SliceType, ArrayType, NamedType, MTypes, no_types, more_types, types_list}
 use Rattle.type_names.specs.declared.meanings.Base.{Base}
 use Rattle.type_names.specs.declared.meanings.Base.TheVariants as bases
 use Rattle.type_names.specs.declared.meanings.Opaque.{Opaque}
@@ -70,6 +70,7 @@ opaque_back BoxName = opaques.Box
 opaque_back VecName = opaques.Vec
 opaque_back RcName = opaques.Rc
 opaque_back ArcName = opaques.Arc
+opaque_back (ParameterName n) = opaques.Text
 
 abbrev owner_back : MOwner → Owner
 owner_back (DeclaredItem i) = owners.Item i

@@ -29,6 +29,7 @@ use Rattle.type_table.specs.Tables.{IsOf, table_types, table_type, table_program
 use Rattle.type_table.proofs.FieldLemmas.{all_at, base_field, tuple_field, option_field, result_field, entry_field, base_cases}
 use Rattle.type_table.proofs.KindLemmas.{parts_are, shape_of, parts_fit, program_at}
 use Rattle.type_table.proofs.NodeLemmas.{count_types}
+use Rattle.type_table.proofs.PlainTypes.{table_variants}
 
 twice : (t : TypeTable) (o : Option ℕ) → option_map (table_type t) (id_at o) ≡ option_map {U = MType} (type_at (table_types t)) o
 twice t None = refl
@@ -58,7 +59,8 @@ entry_types : (t : TypeTable) (n k i : ℕ) (ts : MTypes) →
 entry_types t n k i ts =
     field_types_at t (entry_variant_at (slice_get t.items.items n) k) i
     ∙ (ap (λ (o : Option MVariant). part_of (variant_types o) i) (entry_variants (table_types t) (slice_get t.items.items n) k)
-    ∙ ap (λ (o : Option MItem). part_of (variant_types (slice_get (item_variants o) k)) i) (sym (program_at t n)))
+    ∙ (ap (λ (o : Option MItem). part_of (variant_types (slice_get (item_variants o) k)) i) (sym (program_at t n))
+    ∙ ap (λ (vs : List MVariant). part_of (variant_types (slice_get vs k)) i) (sym (table_variants t n ts))))
 
 -- the numbers of the types of fields are of the table
 field_below_at : (m : ℕ) (v : VariantEntry) (i : ℕ) (id : TyId) → variant_below m v ≡ true → field_at (Some v) i ≡ Some id → id.index < m

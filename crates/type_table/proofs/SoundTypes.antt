@@ -1,15 +1,19 @@
 -- The types of a table are types of its program, and this is sound where no declared type is endless.
-use Rattle.std.proofs.Common.{◌≡◌, ℕ, ◌<◌, ◌≤◌, ◌^◌, zero, suc, true, List, [], ◌∷◌, map, Some, None, length, refl, ap, sym, subst, ◌∙◌, arith}
+use Rattle.std.proofs.Common.{◌≡◌, ◌⊎◌, inl, inr, ℕ, ◌<◌, ◌≤◌, ◌^◌, zero, suc, true, false, List, [], ◌∷◌, map, Some, None, length, refl, ap, sym, subst, ◌∙◌, arith}
 use Rattle.std.specs.Prelude.{slice_get, nat_lt, nat_eq}
 use Rattle.std.specs.List.{All, AllByRecursion, list_all}
 use Rattle.std.proofs.lemmas.List.{length-map}
 use Rattle.std.proofs.lemmas.List.Elements.{recursion_from_All}
 use Rattle.std.proofs.lemmas.Bool.{eqb-true}
 use Rattle.match_model.specs.declared.Width.{Width}
-use Rattle.match_model.specs.Types.{MType, MTypes, more_types, types_list, types_of}
+use Rattle.match_model.specs.Types.{DeclaredItem, MType, NamedType, MTypes, no_types, more_types, types_list, types_of}
 use Rattle.match_model.specs.Declarations.{MProgram, form_types, item_types, variant_types}
-use Rattle.match_model.specs.RustTypes.{is_type, are_types, is_declared, opaque_arguments, IsSoundProgram}
+use Rattle.match_model.specs.Values.{MValue}
+use Rattle.match_model.specs.Typing.{is_value}
+use Rattle.match_model.specs.RustTypes.{is_type, are_types, is_declared, opaque_arguments, FieldsAreTypes, IsSoundProgram}
 use Rattle.match_model.proofs.Basics.{both, and_true}
+use Rattle.match_model.proofs.Decided.{finite_or_none}
+use Rattle.match_model.proofs.Inhabited.{Found}
 use Rattle.type_names.specs.Views.{opaque_view}
 use Rattle.type_names.specs.declared.meanings.Base.TheVariants as bases
 use Rattle.type_names.specs.declared.meanings.Owner.TheVariants as owners
@@ -29,8 +33,6 @@ use Rattle.type_table.specs.Possible.{program_in}
 use Rattle.type_table.specs.Tables.{fields_with, fields_of_entry}
 use Rattle.type_table.proofs.KindLemmas.{count_back, fields_count}
 use Rattle.type_table.proofs.TypeTests.{items_pass, types_pass}
-use Rattle.type_table.proofs.EndlessItems.{fields_shaped}
-use Rattle.type_table.proofs.FiniteItems.{finite}
 
 -- what an entry declares, by its item
 declared_item : (types : List MType) (es : List Entry) (i : ℕ) → declares_type (slice_get es i) ≡ is_declared (slice_get (map (λ e. (entry_told types e).item) es) i)
@@ -55,7 +57,7 @@ counted ps n fits = ap (λ (m : ℕ). nat_eq m n) (count_back ps) ∙ fits
 
 module _ (program : MProgram) (entries : List Entry) (same : (i : ℕ) → declares_type (slice_get entries i) ≡ is_declared (slice_get program.items i)) where
   item_typed : (i : ℕ) (ps : List MType) → nat_eq (length ps) 0 ≡ true → declares_type (slice_get entries i) ≡ true → is_type program (head_type (heads.Named (owners.Item i)) ps) ≡ true
-  item_typed i [] fits known = sym (same i) ∙ known
+  item_typed i [] fits known = and_true _ _ (sym (same i) ∙ known) refl
   item_typed i (t ∷ ps) fits known = let e : length (t ∷ ps) ≡ 0 = eqb-true (length (t ∷ ps)) 0 fits in absurd (omega arith)
 
   head_typed : (h : Head) (ps : List MType) → fits_head h (length ps) ≡ true → is_known_head entries h (length ps) ≡ true → are_types program (types_of ps) ≡ true →
@@ -73,8 +75,8 @@ module _ (program : MProgram) (entries : List Entry) (same : (i : ℕ) → decla
       let one = one_typed program ps fits s in
       ap (λ (qs : List MType). is_type program (head_type (heads.Array n) qs)) one.1 ∙ and_true _ _ one.2 known
   head_typed (heads.Named (owners.Item i)) ps fits known s = item_typed i ps fits known
-  head_typed (heads.Named owners.Option) ps fits known s = and_true _ _ s (counted ps 1 fits)
-  head_typed (heads.Named owners.Result) ps fits known s = and_true _ _ s (counted ps 2 fits)
+  head_typed (heads.Named owners.Option) ps fits known s = s
+  head_typed (heads.Named owners.Result) ps fits known s = s
   head_typed _ ps fits known s = refl
 
 -- what holds of each holds of the one with this number
@@ -136,9 +138,18 @@ module _ (width : Width) (nodes : List Node) (entries : List Entry) (are : AreNo
   pub types_typed : (a : ℕ) → a < length nodes → is_type program (type_at (types_in nodes) a) ≡ true
   types_typed = types_pass (is_type program) (are_types program) refl (all_typed program) nodes are node_typed (length nodes) (omega arith)
 
+  fields_typed : FieldsAreTypes program
+  fields_typed i k ts h = items_pass (is_type program) (are_types program) refl (all_typed program) (types_in nodes) (length nodes) types_typed entries below i k ts h
+
   pub sound_program : NoneEndless program → IsSoundProgram program
   sound_program none = record {
-    fields = λ i k ts h. items_pass (is_type program) (are_types program) refl (all_typed program) (types_in nodes) (length nodes) types_typed entries below i k ts h;
+    fields = fields_typed;
     few = λ i k ts h. items_few (types_in nodes) entries (recursion_from_All IsFew entries few) i k ts h;
-    finite = finite program (fields_shaped width nodes entries are below) none;
+    finite = λ i declared. finite i declared (finite_or_none program fields_typed (DeclaredItem i) no_types (and_true _ _ declared refl));
   }
+    where
+      finite : (i : ℕ) → is_declared (slice_get program.items i) ≡ true →
+          Found program false (NamedType (DeclaredItem i) no_types) ⊎ ((v : MValue) → is_value program false (NamedType (DeclaredItem i) no_types) v ≡ false) →
+          (arguments : MTypes) × Found program false (NamedType (DeclaredItem i) arguments)
+      finite i declared (inl v) = (no_types, v)
+      finite i declared (inr endless) = absurd (none i (record { declared = declared; endless = endless }))

@@ -1,5 +1,5 @@
 -- What the entries of a table say of the items of a file.
-use Rattle.std.specs.Prelude.{ℕ, Bool, true, ◌&&◌, List, [], map, nat_lt, is_some, Option, Some, None}
+use Rattle.std.specs.Prelude.{◌≡◌, ℕ, Bool, true, ◌&&◌, List, [], map, nat_lt, is_some, slice_get, Option, Some, None}
 use Rattle.std.specs.Rc.{rc_str_bytes}
 use Rattle.std.specs.List.{list_all, enumerate_from}
 use Rattle.match_model.specs.Types.{MType, DeclaredItem, NamedType, no_types}
@@ -84,6 +84,16 @@ entry_below n (entries.Struct id variant) = nat_lt id n && variant_below n varia
 entry_below n (entries.Enum id name later variants) = nat_lt id n && list_all (variant_below n) variants.items
 entry_below n (entries.Function param deref) = nat_lt param n
 entry_below n entries.Import = true
+
+-- the number of the type that an item declares, if it does
+abbrev pub entry_id : Entry → Option ℕ
+entry_id (entries.Struct id variant) = Some id
+entry_id (entries.Enum id name later variants) = Some id
+entry_id _ = None
+
+-- each item that declares a type has the number of its own
+abbrev pub NameThemselves : List MType → List Entry → Type 0
+NameThemselves types items = (i : ℕ) (e : Entry) (id : ℕ) → slice_get items i ≡ Some e → entry_id e ≡ Some id → type_at types id ≡ NamedType (DeclaredItem i) no_types
 
 -- a variant of this name and form
 abbrev pub variant_named : List ℕ → MForm → MVariant

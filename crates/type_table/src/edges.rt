@@ -4,15 +4,13 @@ ghost use Rattle.std.specs.List.{All, list_all};
 ghost use Rattle.cycle_search.specs.Graphs.{plain_graph};
 ghost use Rattle.type_table.specs.Nodes.{AreNodes};
 ghost use Rattle.type_table.specs.Entries.{entry_below, variant_below};
-ghost use Rattle.type_table.specs.Bodies.{node_atoms};
-ghost use Rattle.type_table.specs.Edges.{item_edges, edges_of, variants_edges, entry_edges};
+ghost use Rattle.type_table.specs.Edges.{node_atoms, item_edges, edges_of, variant_edges, variants_edges, entry_edges};
 
-use crate::entries::{Entry, VariantEntry};
+use crate::entries::{Entry, FieldEntry, VariantEntry};
 use crate::nodes::{Head, Node};
-use crate::values::variant_atoms;
 use no_memory::NoMemory;
 use std::alloc::{AllocError, Global};
-use type_names::Owner;
+use type_names::{FormKind, Owner};
 
 /// Of each item, and behind them of each node, where its edges go.
 pub(crate) fn all_edges(
@@ -84,7 +82,7 @@ fn entry_edges(
     ensures { IfOk result (λ v. v.items ≡ entry_edges count entry.now) }
 {
     match entry {
-        Entry::Struct { variant, .. } => variant_atoms(alloc, count, size, variant),
+        Entry::Struct { variant, .. } => variant_edges(alloc, count, size, variant),
         Entry::Enum { variants, .. } => variants_edges(alloc, count, size, variants),
         Entry::Function { .. } => Ok(Vec::new(alloc)),
         Entry::Import => Ok(Vec::new(alloc)),
@@ -104,8 +102,38 @@ fn variants_edges(
 {
     let mut all = Vec::new(alloc);
     for variant in variants {
-        let fields = variant_atoms(alloc, count, size, variant)?;
+        let fields = variant_edges(alloc, count, size, variant)?;
         all.extend_from_slice(&fields)?;
+    }
+    Ok(all)
+}
+
+// The fields of a variant.
+fn variant_edges(
+    alloc: Global,
+    count: u32,
+    size: usize,
+    variant: &VariantEntry,
+) -> Result<Vec<u32>, AllocError>
+    requires below { variant_below size variant.now ≡ true }
+    requires few { count + size < 2 ^ 32 }
+    ensures { IfOk result (λ v. v.items ≡ variant_edges count variant.now) }
+{
+    match variant.form {
+        FormKind::Unit => Ok(Vec::new(alloc)),
+        FormKind::Tuple => field_edges(alloc, count, &variant.fields),
+        FormKind::Brace => field_edges(alloc, count, &variant.fields),
+    }
+}
+
+// The types of fields.
+fn field_edges(alloc: Global, count: u32, fields: &[FieldEntry]) -> Result<Vec<u32>, AllocError>
+    requires { All (λ f. count + f.ty < 2 ^ 32) fields.now }
+    ensures { IfOk result (λ v. v.items ≡ node_atoms count (map (λ f. f.ty) fields.now)) }
+{
+    let mut all = Vec::new(alloc);
+    for field in fields {
+        all.push(count + field.ty as u32)?;
     }
     Ok(all)
 }

@@ -1,9 +1,10 @@
 //! Which types of a table, and which variants of them, have no value where a place is sure to hold a valid one.
-ghost use Rattle.std.specs.Prelude.{◌≡◌, false, true, is_some};
+ghost use Rattle.std.specs.Prelude.{◌≡◌, is_some};
 ghost use Rattle.match_model.specs.Declarations.{node_types};
 ghost use Rattle.type_table.specs.Empty.{TellsEmpty, TellsVariantEmpty};
-ghost use Rattle.type_table.specs.Marks.{found_empty, found_variant_empty, table_marks, lacks_value};
-ghost use Rattle.type_table.specs.Tables.{IsOf, table_program, table_type, field_type};
+ghost use Rattle.type_table.specs.Marks.{found_empty, found_variant_empty, lacks_value, lacks_field};
+ghost use Rattle.type_table.specs.Parts.{part_there};
+ghost use Rattle.type_table.specs.Tables.{IsOf, table_program, table_type, fields_of_type};
 
 use crate::nodes::Head;
 use crate::table::{TyId, TypeTable};
@@ -16,7 +17,7 @@ impl TypeTable {
         ensures found { result ≡ found_empty self.now ty }
         ensures tells { TellsEmpty (table_program self.now) (table_type self.now ty) result }
     {
-        !self.values[self.items.len() + ty.index]
+        !self.values[ty.index]
     }
 
     /// Whether a variant of a type of this table has no value there. A tuple and a struct have the variant 0, and a
@@ -45,11 +46,11 @@ impl TypeTable {
         }
     }
 
-    // Whether a field of the variant, which is there, has no value.
+    // Whether a field of the variant has no value.
     fn has_empty_field(&self, ty: TyId, k: usize) -> bool
         requires of { IsOf self.now ty }
-        ensures { is_some (node_types (table_program self.now) (table_type self.now ty) k) ≡ true → result
-            ≡ found_variant_empty self.now ty k }
+        ensures { result
+            ≡ lacks_field self.now ty k (fields_of_type (table_program self.now) (table_type self.now ty) k) }
     {
         for i in 0..self.fields_there(ty, k) {
             if self.is_empty_field(ty, k, i) {
@@ -62,8 +63,7 @@ impl TypeTable {
     // Whether the field with this number is there and has no value.
     fn is_empty_field(&self, ty: TyId, k: usize, i: usize) -> bool
         requires of { IsOf self.now ty }
-        ensures { result
-            ≡ lacks_value (table_marks self.now) (field_type (table_program self.now) (table_type self.now ty) k i) }
+        ensures { result ≡ lacks_value self.now (part_there self.now ty k i) }
     {
         match self.field_there(ty, k, i) {
             Some(id) => self.is_empty(id),

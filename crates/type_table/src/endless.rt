@@ -1,13 +1,11 @@
 //! The first item whose type has no finite value.
-ghost use Rattle.std.specs.Prelude.{◌≡◌, ◌&&◌, true, not, List, length, IfOk, Some};
+ghost use Rattle.std.specs.Prelude.{◌≡◌, true, List, length, IfOk};
 ghost use Rattle.std.specs.List.{list_all};
 ghost use Rattle.match_model.specs.declared.Width.{Width};
-ghost use Rattle.match_model.specs.Types.{MType};
-ghost use Rattle.match_model.specs.RustTypes.{is_declared};
-ghost use Rattle.type_table.specs.Nodes.{AreNodes};
-ghost use Rattle.type_table.specs.Entries.{entry_below, entry_told};
+ghost use Rattle.type_table.specs.Nodes.{AreNodes, types_in};
+ghost use Rattle.type_table.specs.Entries.{entry_below, entry_id, NameThemselves};
 ghost use Rattle.type_table.specs.Faults.{IsEndless, FirstThat};
-ghost use Rattle.type_table.specs.Possible.{program_in};
+ghost use Rattle.type_table.specs.Possible.{program_in, lacks_own};
 
 use crate::entries::Entry;
 use crate::nodes::Node;
@@ -26,11 +24,12 @@ pub(crate) fn first_endless(
 ) -> Result<Option<usize>, NoMemory>
     requires are { AreNodes nodes.now }
     requires below { list_all (entry_below (length nodes.now)) items.now ≡ true }
+    requires own { NameThemselves (types_in nodes.now) items.now }
     ensures { IfOk result (FirstThat (IsEndless (program_in _width nodes.now items.now))) }
 {
     let values = counted_values(alloc, false, nodes, items)?;
     for (i, item) in items.iter().enumerate() {
-        if lacks_values(item, values[i]) {
+        if lacks_values(item, &values) {
             return Ok(Some(i));
         }
     }
@@ -38,19 +37,13 @@ pub(crate) fn first_endless(
 }
 
 // Whether the item declares a type, and no value of it was found.
-fn lacks_values(entry: &Entry, found: bool) -> bool
-    ensures { (types : List MType) → result ≡ (is_declared (Some (entry_told types entry.now).item) && not found) }
-{
-    declares(entry) && !found
-}
-
-// Whether the item declares a type.
-fn declares(entry: &Entry) -> bool
-    ensures { (types : List MType) → result ≡ is_declared (Some (entry_told types entry.now).item) }
+fn lacks_values(entry: &Entry, values: &[bool]) -> bool
+    requires below { entry_below (length values.now) entry.now ≡ true }
+    ensures { result ≡ lacks_own values.now (entry_id entry.now) }
 {
     match entry {
-        Entry::Struct { .. } => true,
-        Entry::Enum { .. } => true,
+        Entry::Struct { id, .. } => !values[*id],
+        Entry::Enum { id, .. } => !values[*id],
         Entry::Function { .. } => false,
         Entry::Import => false,
     }

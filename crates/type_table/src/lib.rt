@@ -11,9 +11,9 @@
 //! `fields`, `readers`) answer by these. `table_context` is the context of the types of a table, by their numbers
 //! ([`TypeTable::context_is_lawful`]). What a table keeps (`specs/Whole.antt`) stands in the table itself.
 //!
-//! `values` tells of each item and each type whether it has a value, by the least model of Horn clauses. By it
-//! `emptiness` tells which types and variants are empty. `known` asks whether tuples, variants and fields
-//! are fewer than 2^32.
+//! `values` tells of each type whether it has a value, by the least model of Horn clauses over the nodes. A declared
+//! type asks what the variants of its item do. By these values `emptiness` tells which types and variants are empty.
+//! `known` asks whether tuples, variants and fields are fewer than 2^32.
 //!
 //! `edges` has the types as a graph, whose edges go to what a type has by value; by its cycles `cyclic` finds the first
 //! item that contains itself, and `endless` finds the first without a finite value. `faults` finds the first item that

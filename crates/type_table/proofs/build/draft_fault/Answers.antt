@@ -3,9 +3,14 @@ use Rattle.std.specs.Prelude.{IfOk, option_map}
 use Rattle.match_model.specs.Declarations.{MProgram}
 use Rattle.decl_syntax.specs.Items.{ItemTree, item_view, file_view}
 use Rattle.type_table.specs.Faults.{Breaks, ContainsItself, IsEndless, FirstThat, LeastFault}
-use Rattle.type_table.specs.Nodes.{AreNodes}
+use Rattle.type_names.specs.Meanings.{means}
+use Rattle.type_table.specs.declared.nodes.Node.{Node}
+use Rattle.type_table.specs.declared.entries.Entry.{Entry}
+use Rattle.type_table.specs.Nodes.{AreNodes, types_in}
+use Rattle.type_table.specs.Entries.{NameThemselves}
 use Rattle.type_table.specs.Readings.{fault_pair}
 use Rattle.type_table.proofs.FirstFaults.{program_read}
+use Rattle.type_table.proofs.OwnTypes.{own_types}
 use Rattle.type_table.proofs.build.draft_fault.Goals as goal
 
 pub first_cyclic-requires-clause-are : goal.first_cyclic-requires-clause-are
@@ -13,6 +18,12 @@ first_cyclic-requires-clause-are c = subst AreNodes (sym c.as_slice-nodes.ensure
 
 pub first_endless-requires-clause-are : goal.first_endless-requires-clause-are
 first_endless-requires-clause-are c = subst AreNodes (sym c.as_slice-nodes.ensures.keys) c.requires.whole.are
+
+pub first_endless-requires-clause-own : goal.first_endless-requires-clause-own
+first_endless-requires-clause-own c =
+    subst (λ (ns : List Node). NameThemselves (types_in ns) c.deref-2.result.now) (sym c.as_slice-nodes.ensures.keys)
+    (subst (λ (es : List Entry). NameThemselves (types_in c.args.draft.now.nodes.keys) es) (sym c.deref-2.ensures.value)
+    (own_types (means (file_view c.args.file.now)) (file_view c.args.file.now) (types_in c.args.draft.now.nodes.keys) c.args.draft.now.items.items c.requires.told))
 
 pub least_fault-requires-clause-cyclic : goal.least_fault-requires-clause-cyclic
 least_fault-requires-clause-cyclic c =

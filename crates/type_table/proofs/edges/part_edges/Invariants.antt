@@ -1,5 +1,5 @@
 use Rattle.std.proofs.Common.{◌≡◌, take}
-use Rattle.type_table.specs.Bodies.{node_atoms}
+use Rattle.type_table.specs.Edges.{node_atoms}
 use Rattle.type_table.proofs.edges.part_edges.Given as goal
 
 abbrev pub invariant-loop-part : goal.invariant-loop-part

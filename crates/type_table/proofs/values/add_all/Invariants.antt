@@ -1,8 +1,7 @@
 use Rattle.std.proofs.Common.{◌≡◌, take}
-use Rattle.type_table.specs.Bodies.{node_atoms}
 use Rattle.type_table.proofs.values.add_all.Given as goal
 
 abbrev pub invariant-loop-part : goal.invariant-loop-part
 invariant-loop-part l = record {
-  atoms : l.body.items ≡ node_atoms l.count (take l.part-index l.parts);
+  atoms : l.body.items ≡ take l.part-index l.parts;
 }

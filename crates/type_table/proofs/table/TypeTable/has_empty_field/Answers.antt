@@ -1,22 +1,19 @@
-use Rattle.std.proofs.Common.{◌≡◌, ◌<◌, false, sym, ◌∙◌, arith, below_more}
-use Rattle.match_model.specs.Declarations.{node_types}
-use Rattle.type_table.specs.Marks.{table_marks, lacks_value}
-use Rattle.type_table.specs.Tables.{table_program, table_type, field_type}
-use Rattle.type_table.proofs.EmptyVariants.{no_field_lacks, some_field_lacks}
+use Rattle.std.proofs.Common.{◌≡◌, ◌<◌, ℕ, sym, ap, ◌∙◌, arith}
+use Rattle.type_table.specs.Marks.{lacks_field}
+use Rattle.type_table.specs.Tables.{table_program, table_type, fields_of_type}
+use Rattle.type_table.proofs.EmptyTypes.{some_lacks, none_more, none_past}
 use Rattle.type_table.proofs.table.TypeTable.has_empty_field.Goals as goal
 
 pub returns-then-is_empty_field : goal.returns-then-is_empty_field
-returns-then-is_empty_field c = λ there.
+returns-then-is_empty_field c =
     let table = c.args.self.now in
-    some_field_lacks (table_marks table) (node_types (table_program table) (table_type table c.args.ty) c.args.k) c.loop-i.i (sym c.is_empty_field.ensures ∙ c.if-is_empty_field.true)
+    let below : c.loop-i.i < fields_of_type (table_program table) (table_type table c.args.ty) c.args.k = omega (arith, c.loop-i-test.true, c.fields_there-i-end.ensures) in
+    sym (some_lacks table c.args.ty c.args.k (fields_of_type (table_program table) (table_type table c.args.ty) c.args.k) c.loop-i.i below (sym c.is_empty_field.ensures ∙ c.if-is_empty_field.true))
 
 pub loop-i-preserved : goal.loop-i-preserved
-loop-i-preserved c =
-    let table = c.args.self.now in
-    below_more (λ j. lacks_value (table_marks table) (field_type (table_program table) (table_type table c.args.ty) c.args.k j) ≡ false) c.loop-i.i c.loop-i.invariant (sym c.is_empty_field.ensures ∙ c.if-is_empty_field.false)
+loop-i-preserved c = none_more c.args.self.now c.args.ty c.args.k c.loop-i.i c.loop-i.invariant (sym c.is_empty_field.ensures ∙ c.if-is_empty_field.false)
 
 pub returns : goal.returns
-returns c = λ there.
+returns c =
     let table = c.args.self.now in
-    no_field_lacks (table_marks table) (node_types (table_program table) (table_type table c.args.ty) c.args.k) there
-    (λ j lt. let below : j < c.fields_there-i-end.result = omega (arith, lt, c.fields_there-i-end.ensures) in c.loop-i.invariant j (omega (arith, below)))
+    sym (none_past table c.args.ty c.args.k (fields_of_type (table_program table) (table_type table c.args.ty) c.args.k) c.loop-i.i (omega (arith, c.loop-i-test.false, c.fields_there-i-end.ensures)) c.loop-i.invariant)

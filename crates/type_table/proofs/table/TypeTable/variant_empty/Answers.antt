@@ -1,19 +1,23 @@
-use Rattle.std.proofs.Common.{not, sym, ap, ◌∙◌}
+use Rattle.std.proofs.Common.{◌≡◌, Bool, true, false, not, ◌||◌, is_some, refl, sym, ap, ◌∙◌}
 use Rattle.match_model.specs.Declarations.{node_types}
-use Rattle.type_table.specs.Marks.{table_marks}
-use Rattle.type_table.specs.Tables.{table_program, table_type}
+use Rattle.type_table.specs.Marks.{lacks_field}
+use Rattle.type_table.specs.Tables.{table_program, table_type, fields_of_type}
 use Rattle.type_table.proofs.EmptyTypes.{tells_variant}
-use Rattle.type_table.proofs.EmptyVariants.{not_there}
 use Rattle.type_table.proofs.table.TypeTable.variant_empty.Goals as goal
 
 pub returns-then-not-has_variant-clause-found : goal.returns-then-not-has_variant-clause-found
 returns-then-not-has_variant-clause-found c =
     let table = c.args.self.now in
     ap not c.if-not-has_variant.true
-    ∙ not_there (table_marks table) (node_types (table_program table) (table_type table c.args.ty) c.args.variant) (sym c.has_variant.ensures ∙ c.if-not-has_variant.true)
+    ∙ ap (λ (b : Bool). not b || lacks_field table c.args.ty c.args.variant (fields_of_type (table_program table) (table_type table c.args.ty) c.args.variant))
+    (sym c.if-not-has_variant.true ∙ c.has_variant.ensures)
 
 pub returns-else-not-has_variant-clause-found : goal.returns-else-not-has_variant-clause-found
-returns-else-not-has_variant-clause-found c = c.has_empty_field.ensures (sym c.has_variant.ensures ∙ c.if-not-has_variant.false)
+returns-else-not-has_variant-clause-found c =
+    let table = c.args.self.now in
+    c.has_empty_field.ensures
+    ∙ ap (λ (b : Bool). not b || lacks_field table c.args.ty c.args.variant (fields_of_type (table_program table) (table_type table c.args.ty) c.args.variant))
+    (sym c.if-not-has_variant.false ∙ c.has_variant.ensures)
 
 pub returns-then-not-has_variant-clause-tells : goal.returns-then-not-has_variant-clause-tells
 returns-then-not-has_variant-clause-tells c =
