@@ -1,11 +1,12 @@
 -- A struct or variant that was found and meets its type: its number, the number of its fields and their types.
-use Rattle.std.proofs.Common.{◌≡◌, ℕ, zero, suc, Bool, true, false, List, [], ◌∷◌, length, map, Option, Some, None, slice_get, nat_lt, nat_eq, refl, sym, ap, subst, ◌∙◌, arith}
+use Rattle.std.proofs.Common.{◌≡◌, ℕ, zero, suc, Bool, true, false, List, [], ◌∷◌, length, map, Option, Some, None, slice_get, nat_lt, refl, sym, ap, subst, ◌∙◌, arith}
 use Rattle.std.proofs.lemmas.Bool.Decides.{nat_tests}
 use Rattle.std.specs.Prelude.{option_map}
 use Rattle.std.proofs.lemmas.Option.{slice_get-map}
-use Rattle.match_model.specs.Types.{DeclaredItem, OptionOwner, ResultOwner, MType, NamedType, MTypes, no_types, more_types, types_list, types_of}
-use Rattle.match_model.specs.Declarations.{StructItem, EnumItem, form_types, variant_types, node_types}
-use Rattle.match_model.specs.RustTypes.{rust_set, enum_set, part_type, is_type, are_types}
+use Rattle.match_model.specs.Types.{DeclaredItem, OptionOwner, ResultOwner, MType, NamedType, MTypes, types_list, types_of}
+use Rattle.match_model.specs.Declarations.{MVariant, StructItem, EnumItem, filled_variant, form_types, variant_types, node_types}
+use Rattle.match_model.specs.RustTypes.{rust_set, enum_set, part_type, is_type}
+use Rattle.match_model.proofs.Basics.{variant_filled, form_counted}
 use Rattle.match_model.specs.Constructors.{SingleSet, VariantSet, belongs}
 use Rattle.decl_syntax.specs.Items.{FieldItem, FormTree, VariantTree, KindTree, Enum, Struct, Import, Function, ItemTree}
 use Rattle.decl_syntax.specs.Items as forms
@@ -17,7 +18,7 @@ use Rattle.pattern_rules.specs.Settings.{Setting, program}
 use Rattle.pattern_rules.specs.Namings.{numbered_names, form_names, variant_names, fields_found, found_ctor, found_number, meets}
 use Rattle.pattern_rules.specs.Nodes.{part_types}
 use Rattle.pattern_rules.specs.Builders.{types_or_none, node_ctor}
-use Rattle.pattern_rules.proofs.SameTypes.{numbers_are_one, both_right}
+use Rattle.pattern_rules.proofs.SameTypes.{numbers_are_one}
 use Rattle.pattern_laws.proofs.Fitting.{VariantFits}
 use Rattle.pattern_laws.proofs.FoundThere.{is_there}
 
@@ -74,7 +75,8 @@ struct_met s i arguments x e (Struct name form) k h =
     record {
       variant = rw item refl;
       single = λ z. refl;
-      count = rw (item, e, k) (form_count (means s.items) form);
+      count =
+          rw (item, e, k) (form_counted arguments (form_of (means s.items) form) ∙ form_count (means s.items) form);
       types = λ j. refl;
     }
 struct_met s i arguments x e (Enum name variants) k h = let no : is_there s.items (FoundStruct i) ≡ false = rw
@@ -95,6 +97,18 @@ variant_count names variants k = rw (slice_get-map (variant_of names) variants k
         (variant_names v)
     go None = refl
     go (Some v) = form_count names v.form
+
+-- arguments in the place of parameters take no field away
+filled_count : (arguments : MTypes) (vs : List MVariant) (k : ℕ) →
+    length (types_list (types_or_none (variant_types (slice_get (map (filled_variant arguments) vs) k)))) ≡ length
+    (types_list (types_or_none (variant_types (slice_get vs k))))
+filled_count arguments vs k = rw (variant_filled arguments vs k) (go (slice_get vs k))
+  where
+    go : (v : Option MVariant) →
+        length (types_list (types_or_none (variant_types (option_map (filled_variant arguments) v)))) ≡ length
+        (types_list (types_or_none (variant_types v)))
+    go None = refl
+    go (Some v) = form_counted arguments v.form
 
 -- the constructors of an enum with this variant
 enum_fits : (names : Means) (marked : Bool) (variants : List VariantTree) (k : ℕ) →
@@ -124,7 +138,10 @@ declared_met s i v arguments x e (Enum name variants) k h =
     record {
       variant = rw item fits.0;
       single = rw item fits.1;
-      count = rw (item, e, k) (variant_count (means s.items) variants v);
+      count =
+          rw (item, e, k)
+          (filled_count arguments (map (variant_of (means s.items)) variants) v
+          ∙ variant_count (means s.items) variants v);
       types = λ j. refl;
     }
 declared_met s i v arguments x e (Struct name form) k h = let lt : nat_lt v 0 ≡ true = rw (e, k) at h in absurd
@@ -134,32 +151,19 @@ declared_met s i v arguments x e (Import owner names) k h = let lt : nat_lt v 0 
 declared_met s i v arguments x e (Function name parameter deref arms) k h = let lt : nat_lt v 0 ≡ true = rw
     (e, k) at h in absurd (none_below v lt)
 
--- one type argument
-one_argument : (ts : MTypes) → nat_eq (length (types_list ts)) 1 ≡ true → (t : MType) × (ts ≡ more_types t no_types)
-one_argument no_types h = cc
-one_argument (more_types t no_types) h = (t, refl)
-one_argument (more_types t (more_types u us)) h = absurd
-    (let no : nat_eq (suc (suc (length (types_list us)))) 1 ≡ false = grind (arith, nat_tests) in cc)
+option_met : (s : Setting) (v : ℕ) (arguments : MTypes) → nat_lt v 2 ≡ true →
+    FormMet s (FoundVariant OptionOwner v) (NamedType OptionOwner arguments)
+option_met s zero arguments h = record { variant = refl; single = λ z. refl; count = refl; types = λ j. refl }
+option_met s (suc zero) arguments h = record { variant = refl; single = λ z. absurd cc; count = refl; types = λ j. refl }
+option_met s (suc (suc v)) arguments h = absurd
+    (let no : nat_lt (suc (suc v)) 2 ≡ false = grind (arith, nat_tests) in cc)
 
-two_arguments : (ts : MTypes) → nat_eq (length (types_list ts)) 2 ≡ true → (t : MType) × (u : MType)
-    × (ts ≡ more_types t (more_types u no_types))
-two_arguments no_types h = cc
-two_arguments (more_types t no_types) h = cc
-two_arguments (more_types t (more_types u no_types)) h = (t, u, refl)
-two_arguments (more_types t (more_types u (more_types w ws))) h = absurd
-    (let no : nat_eq (suc (suc (suc (length (types_list ws))))) 2 ≡ false = grind (arith, nat_tests) in cc)
-
-option_met : (s : Setting) (v : ℕ) (t : MType) → nat_lt v 2 ≡ true → FormMet s (FoundVariant OptionOwner v)
-    (NamedType OptionOwner (more_types t no_types))
-option_met s zero t h = record { variant = refl; single = λ z. refl; count = refl; types = λ j. refl }
-option_met s (suc zero) t h = record { variant = refl; single = λ z. absurd cc; count = refl; types = λ j. refl }
-option_met s (suc (suc v)) t h = absurd (let no : nat_lt (suc (suc v)) 2 ≡ false = grind (arith, nat_tests) in cc)
-
-result_met : (s : Setting) (v : ℕ) (t u : MType) → nat_lt v 2 ≡ true → FormMet s (FoundVariant ResultOwner v)
-    (NamedType ResultOwner (more_types t (more_types u no_types)))
-result_met s zero t u h = record { variant = refl; single = λ z. refl; count = refl; types = λ j. refl }
-result_met s (suc zero) t u h = record { variant = refl; single = λ z. absurd cc; count = refl; types = λ j. refl }
-result_met s (suc (suc v)) t u h = absurd (let no : nat_lt (suc (suc v)) 2 ≡ false = grind (arith, nat_tests) in cc)
+result_met : (s : Setting) (v : ℕ) (arguments : MTypes) → nat_lt v 2 ≡ true →
+    FormMet s (FoundVariant ResultOwner v) (NamedType ResultOwner arguments)
+result_met s zero arguments h = record { variant = refl; single = λ z. refl; count = refl; types = λ j. refl }
+result_met s (suc zero) arguments h = record { variant = refl; single = λ z. absurd cc; count = refl; types = λ j. refl }
+result_met s (suc (suc v)) arguments h = absurd
+    (let no : nat_lt (suc (suc v)) 2 ≡ false = grind (arith, nat_tests) in cc)
 
 -- what was found, is declared and meets a type of the program
 pub form_met : (s : Setting) (found : FoundTree) (u : MType) → meets found u ≡ true → is_there s.items found ≡ true →
@@ -183,20 +187,6 @@ form_met s (FoundVariant (DeclaredItem i) v) (NamedType (DeclaredItem j) argumen
         (NamedType (DeclaredItem i) arguments)
     go None e = let lt : nat_lt v 0 ≡ true = rw e at h in absurd (none_below v lt)
     go (Some x) e = declared_met s i v arguments x e x.kind refl h
-form_met s (FoundVariant OptionOwner v) (NamedType OptionOwner arguments) m h d = go
-    (one_argument arguments
-    (both_right (are_types (program s) arguments) (nat_eq (length (types_list arguments)) 1) d))
-  where
-    go : (t : MType) × (arguments ≡ more_types t no_types) → FormMet s (FoundVariant OptionOwner v)
-        (NamedType OptionOwner arguments)
-    go (t, e) = subst (λ ts. FormMet s (FoundVariant OptionOwner v) (NamedType OptionOwner ts)) (sym e)
-        (option_met s v t h)
-form_met s (FoundVariant ResultOwner v) (NamedType ResultOwner arguments) m h d = go
-    (two_arguments arguments
-    (both_right (are_types (program s) arguments) (nat_eq (length (types_list arguments)) 2) d))
-  where
-    go : (t : MType) × (u : MType) × (arguments ≡ more_types t (more_types u no_types)) →
-        FormMet s (FoundVariant ResultOwner v) (NamedType ResultOwner arguments)
-    go (t, u, e) = subst (λ ts. FormMet s (FoundVariant ResultOwner v) (NamedType ResultOwner ts)) (sym e)
-        (result_met s v t u h)
+form_met s (FoundVariant OptionOwner v) (NamedType OptionOwner arguments) m h d = option_met s v arguments h
+form_met s (FoundVariant ResultOwner v) (NamedType ResultOwner arguments) m h d = result_met s v arguments h
 form_met s found u m h d = cc

@@ -52,7 +52,6 @@ pub mod OneVerdict
 pub mod SomeJudged
 pub mod Renumbered
 pub mod PlainUids
-pub mod MarksExist
 pub mod SomeVerdict
 pub mod MadeRanges
 pub mod SameSelection

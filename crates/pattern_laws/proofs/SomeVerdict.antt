@@ -18,6 +18,7 @@ use Rattle.match_model.specs.Unreachable.{Entry}
 use Rattle.match_model.specs.Witness.{MWitness}
 use Rattle.match_model.proofs.RustValues.{rust_values_law}
 use Rattle.match_model.proofs.RustParts.{rust_parts}
+use Rattle.match_model.proofs.Decided.{sure_marks}
 use Rattle.match_model.proofs.Marked.{rust_empty, rust_unsure}
 use Rattle.decl_syntax.specs.Items.{ArmTree}
 use Rattle.decl_syntax.specs.Functions.{FunctionTree}
@@ -39,7 +40,6 @@ use Rattle.pattern_laws.proofs.TypedShown.{sub_is_type}
 use Rattle.pattern_laws.proofs.ParsedSound.{every_of}
 use Rattle.pattern_laws.proofs.Renumbered.{uids_differ, arms_differ, settled_same, at_same, arms_made, Everywhere, every_both, types_same}
 use Rattle.pattern_laws.proofs.PlainUids.{standing_shown}
-use Rattle.pattern_laws.proofs.MarksExist.{marks_exist}
 use Rattle.pattern_laws.proofs.SomeJudged.{some_judged}
 use Rattle.pattern_laws.proofs.JudgedShown.{shown_typed, judged_shown}
 
@@ -222,10 +222,10 @@ module _ (s : Setting) (f : FunctionTree) (sound : IsSoundProgram (program s))
       × IsVerdictOn s f exhaustive unreachable witnesses
   found =
       let rust = program s in
-      let marks = marks_exist rust in
+      let marks = sure_marks rust sound in
       let told = some_judged (IsRustType rust) (RustValue rust) (rust_context rust) (rust_values_law rust)
       (rust_parts rust sound) _ _
-      (rust_empty rust marks.0 sound marks.1 marks.2) (rust_unsure rust sound) whole
+      (rust_empty rust marks.0 sound marks.1) (rust_unsure rust sound) whole
       (shown_typed MType (λ t. t) (is_type rust) (rust_context rust) s f whole engine) engine.made in (
         told.0,
         map by_offset told.1,

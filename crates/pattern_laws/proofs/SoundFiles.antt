@@ -1,15 +1,19 @@
 -- The types of items that tokens spell, of which none breaks a rule on declarations, are sound.
-use Rattle.std.proofs.Common.{◌≡◌, ℕ, zero, suc, ◌<◌, Bool, true, false, not, ◌&&◌, List, [], ◌∷◌, map, length, Option, Some, None, slice_get, IsTrue, refl, sym, ap, subst, ◌∙◌, arith}
+use Rattle.std.proofs.Common.{◌≡◌, ◌⊎◌, inl, inr, ℕ, zero, suc, ◌<◌, Bool, true, false, not, ◌&&◌, List, [], ◌∷◌, map, length, Option, Some, None, slice_get, IsTrue, refl, sym, ap, subst, ◌∙◌}
 use Rattle.std.specs.Prelude.{is_some}
 use Rattle.std.specs.List.{Contains}
 use Rattle.std.proofs.lemmas.List.{length-map}
 use Rattle.std.proofs.lemmas.Option.{slice_get_read}
 use Rattle.range_split.proofs.Basics.{either_false}
 use Rattle.match_model.specs.declared.Width.{Width}
-use Rattle.match_model.specs.Types.{DeclaredItem, OptionOwner, ResultOwner, MType, BoolType, CharType, StrType, NeverType, IntType, OpaqueType, TupleType, PointType, SliceType, ArrayType, NamedType, MTypes, no_types, more_types, types_list, types_of}
+use Rattle.match_model.specs.Types.{DeclaredItem, MType, PointType, NamedType, MTypes, no_types, types_list, types_of}
 use Rattle.match_model.specs.Declarations.{MProgram, form_types, item_types, variant_types}
-use Rattle.match_model.specs.RustTypes.{is_type, are_types, IsSoundProgram}
-use Rattle.match_model.proofs.Basics.{both, and_true, nat_equal, nothing, untrue}
+use Rattle.match_model.specs.Values.{MValue}
+use Rattle.match_model.specs.Typing.{is_value}
+use Rattle.match_model.specs.RustTypes.{is_type, are_types, is_declared, FieldsAreTypes, IsSoundProgram}
+use Rattle.match_model.proofs.Basics.{and_true, nothing}
+use Rattle.match_model.proofs.Decided.{finite_or_none}
+use Rattle.match_model.proofs.Inhabited.{Found}
 use Rattle.decl_syntax.specs.Functions.{FunctionTree}
 use Rattle.decl_syntax.specs.Items.{FieldItem, FormTree, Unit, VariantTree, KindTree, Enum, Struct, Import, Function, ItemTree}
 use Rattle.decl_syntax.specs.Items as forms
@@ -20,8 +24,6 @@ use Rattle.type_names.specs.Meanings.{means}
 use Rattle.type_names.specs.Written.{type_of, field_of, form_of, variant_of, is_marked_by, kind_of, item_of, program_of}
 use Rattle.type_table.specs.Faults as declarations
 use Rattle.type_table.proofs.KindLemmas.{count_back}
-use Rattle.type_table.proofs.FiniteItems.{finite}
-use Rattle.type_table.proofs.UnsureFound.{is_shaped, are_shaped, FieldsShaped}
 use Rattle.pattern_rules.specs.Settings.{Setting, program}
 use Rattle.pattern_rules.specs.Faults.{function_of, parameter_type, is_reference, scrutinee_by}
 use Rattle.pattern_laws.specs.ParsedLaws.{FilesAreSound}
@@ -98,56 +100,30 @@ module _ (items : List ItemTree) (width : Width) where
 
 -- ---- finite values
 
-mutual
-  -- a type of the program has as many arguments as its variants ask for
-  shaped : (p : MProgram) (t : MType) → is_type p t ≡ true → is_shaped t ≡ true
-  shaped p BoolType h = refl
-  shaped p CharType h = refl
-  shaped p StrType h = refl
-  shaped p NeverType h = refl
-  shaped p (IntType kind) h = refl
-  shaped p (OpaqueType name ts) h = refl
-  shaped p (TupleType ts) h = all_shaped p ts (both (are_types p ts) _ h).0
-  shaped p (PointType mutable t) h = shaped p t h
-  shaped p (SliceType t) h = refl
-  shaped p (ArrayType t n) h = shaped p t (both (is_type p t) _ h).0
-  shaped p (NamedType (DeclaredItem i) no_types) h = refl
-  shaped p (NamedType (DeclaredItem i) (more_types t ts)) h = cc
-  shaped p (NamedType OptionOwner ts) h = refl
-  shaped p (NamedType ResultOwner no_types) h = cc
-  shaped p (NamedType ResultOwner (more_types t no_types)) h = untrue (both (are_types p (more_types t no_types)) _ h).1
-  shaped p (NamedType ResultOwner (more_types t (more_types u no_types))) h =
-      let each = both (is_type p t) (are_types p (more_types u no_types))
-      (both (are_types p (more_types t (more_types u no_types))) _ h).0 in
-      and_true _ _ (shaped p t each.0) (shaped p u (both (is_type p u) true each.1).0)
-  shaped p (NamedType ResultOwner (more_types t (more_types u (more_types w ts)))) h =
-      let count : length (types_list (more_types t (more_types u (more_types w ts)))) ≡ 2 =
-      nat_equal _ 2 (both (are_types p (more_types t (more_types u (more_types w ts)))) _ h).1 in
-      absurd (omega (arith, count))
-
-  all_shaped : (p : MProgram) (ts : MTypes) → are_types p ts ≡ true → are_shaped ts ≡ true
-  all_shaped p no_types h = refl
-  all_shaped p (more_types t ts) h =
-      let each = both (is_type p t) (are_types p ts) h in
-      and_true _ _ (shaped p t each.0) (all_shaped p ts each.1)
-
 module _ (items : List ItemTree) (width : Width) (narrow : AreNarrow items)
     (unbroken : declarations.BreaksNone items width) where
   declared_fine : (i k : ℕ) (ts : MTypes) → item_types (slice_get (program_of items width).items i) k ≡ Some ts →
       AreFine (program_of items width) ts
   declared_fine i k ts e = items_fine items width items narrow i k ts e
 
-  fields_shaped : FieldsShaped (program_of items width)
-  fields_shaped i k ts e = all_shaped (program_of items width) ts (declared_fine i k ts e).typed
+  fields_are_types : FieldsAreTypes (program_of items width)
+  fields_are_types i k ts e = (declared_fine i k ts e).typed
 
   sound_items : IsSoundProgram (program_of items width)
   sound_items = record {
-    fields = λ i k ts e. (declared_fine i k ts e).typed;
+    fields = fields_are_types;
     few = λ i k ts e. (declared_fine i k ts e).few;
-    finite =
-        finite (program_of items width) fields_shaped
-        (λ i endless. unbroken i 36 (declarations.endless_type refl endless));
+    finite = λ i declared. by i declared
+        (finite_or_none (program_of items width) fields_are_types (DeclaredItem i) no_types (and_true _ _ declared refl));
   }
+    where
+      by : (i : ℕ) → is_declared (slice_get (program_of items width).items i) ≡ true →
+          Found (program_of items width) false (NamedType (DeclaredItem i) no_types)
+          ⊎ ((v : MValue) → is_value (program_of items width) false (NamedType (DeclaredItem i) no_types) v ≡ false) →
+          (arguments : MTypes) × Found (program_of items width) false (NamedType (DeclaredItem i) arguments)
+      by i declared (inl v) = (no_types, v)
+      by i declared (inr endless) =
+          absurd (unbroken i 36 (declarations.endless_type refl (record { declared = declared; endless = endless })))
 
 -- ---- scrutinees
 

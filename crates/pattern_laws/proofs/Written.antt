@@ -17,6 +17,7 @@ use Rattle.match_model.specs.ArenaWays.{arena_ways, arena_arm, match_arms, InMat
 use Rattle.match_model.proofs.OneOverlaps.{one_overlap_list}
 use Rattle.match_model.proofs.RustValues.{rust_values_law}
 use Rattle.match_model.proofs.RustParts.{rust_parts}
+use Rattle.match_model.proofs.Decided.{sure_marks}
 use Rattle.match_model.proofs.Marked.{rust_empty, rust_unsure}
 use Rattle.decl_syntax.specs.Items.{ArmTree}
 use Rattle.decl_syntax.specs.Functions.{FunctionTree}
@@ -33,7 +34,6 @@ use Rattle.pattern_laws.specs.NumberedMatch.{numbered_match}
 use Rattle.pattern_laws.specs.TableLaws.{is_number_of}
 use Rattle.pattern_laws.proofs.ShownKept.{shown_arm}
 use Rattle.pattern_laws.proofs.JudgedShown.{each, in_domain, shown_typed}
-use Rattle.pattern_laws.proofs.MarksExist.{marks_exist}
 use Rattle.pattern_laws.proofs.SomeVerdict.{engine}
 use Rattle.pattern_laws.proofs.TableSeen.{engine_match}
 use Rattle.pattern_laws.specs.OverlapLaws.{IsOverlapListOn, OverlapsOfTableMatch, OverlapListOnIsOne, SomeOverlaps}
@@ -80,11 +80,11 @@ one_list s f os ps a b = one_overlap_list (Domain s f) (written_arms s f) os ps 
 pub some_overlaps : SomeOverlaps
 some_overlaps s f sound type_is arms =
     let rust = program s in
-    let marks = marks_exist rust in
+    let marks = sure_marks rust sound in
     let whole : MDeMatch MType = numbered_match s f in
     let shows : IsEngineMatch (λ t. t) (is_type rust) (rust_context rust) s f whole = engine s f sound type_is arms in
     let told = overlaps_exist (IsRustType rust) (RustValue rust) (rust_context rust) (rust_values_law rust)
-    (rust_parts rust sound) _ _ (rust_empty rust marks.0 sound marks.1 marks.2) (rust_unsure rust sound) whole
+    (rust_parts rust sound) _ _ (rust_empty rust marks.0 sound marks.1) (rust_unsure rust sound) whole
     (shown_typed MType (λ t. t) (is_type rust) (rust_context rust) s f whole shows) shows.made in (
       told.0,
       overlaps_of_shown (λ t. t) (is_type rust) (rust_context rust) s f whole shows told.0 told.1,

@@ -12,7 +12,7 @@ use Rattle.match_model.specs.Types.{MType, ArrayType, MTypes, no_types, more_typ
 use Rattle.match_model.specs.Typing.{is_str}
 use Rattle.match_model.specs.Declarations.{MItem, MProgram}
 use Rattle.match_model.specs.RustTypes.{is_type, are_types, is_declared}
-use Rattle.match_model.proofs.Basics.{both, and_true, nat_equal}
+use Rattle.match_model.proofs.Basics.{both, and_true}
 use Rattle.decl_syntax.specs.Types.{TypeTree, TypeTrees, none, more}
 use Rattle.decl_syntax.specs.Types as written
 use Rattle.decl_syntax.specs.Items.{KindTree, Enum, Struct, Import, Function, ItemTree}
@@ -107,14 +107,11 @@ module _ (program : MProgram) where
   meant_typed : (sized : Bool) (m : Meaning) (ts : MTypes) → is_meant program m ≡ true →
       nat_eq (length (types_list ts)) (argument_count m) ≡ true → are_types program ts ≡ true →
       is_type program (meant_type sized m ts) ≡ true
-  meant_typed sized (ItemName i) no_types d n h = d
-  meant_typed sized (ItemName i) (more_types t ts) d n h =
-      let e : length (types_list (more_types t ts)) ≡ 0 = nat_equal (length (types_list (more_types t ts))) 0 n in
-      absurd (omega (arith, e))
+  meant_typed sized (ItemName i) ts d n h = and_true _ _ d h
   meant_typed sized (BaseName t) ts d n h = base_typed sized t d
   meant_typed sized (OpaqueName o) ts d n h = and_true _ _ h n
-  meant_typed sized OptionName ts d n h = and_true _ _ h n
-  meant_typed sized ResultName ts d n h = and_true _ _ h n
+  meant_typed sized OptionName ts d n h = h
+  meant_typed sized ResultName ts d n h = h
 
   named_typed : (sized : Bool) (o : Option Meaning) (ts : MTypes) →
       ((m : Meaning) → o ≡ Some m → is_meant program m ≡ true) → are_types program ts ≡ true →

@@ -1,11 +1,11 @@
 -- The other rules that a node of a pattern can break by itself: on numbers, bindings and forms.
-use Rattle.std.specs.Prelude.{◌≡◌, ℕ, Bool, true, false, not, ◌&&◌, ◌||◌, nat_eq, List, [], Option, Some, None}
+use Rattle.std.specs.Prelude.{◌≡◌, ℕ, ◌+◌, Bool, true, false, not, ◌&&◌, ◌||◌, nat_eq, List, [], Option, Some, None}
 use Rattle.std.specs.List.{list_any, list_all, filter_map}
 use Rattle.std.specs.Str.{bytes_eq}
 use mathlib.Core.Bool.{beq}
 use Rattle.match_model.specs.declared.Mode.{Mode}
 use Rattle.match_model.specs.declared.Mode.TheVariants.{Move, Ref, RefMut}
-use Rattle.match_model.specs.Types.{MType, BoolType, CharType, StrType, NeverType, IntType, OpaqueType, TupleType, PointType, SliceType, ArrayType, NamedType, MTypes, no_types, more_types, MOpaque, StringName, F32Name, F64Name, BoxName, VecName, RcName, ArcName}
+use Rattle.match_model.specs.Types.{MType, BoolType, CharType, StrType, NeverType, IntType, OpaqueType, TupleType, PointType, SliceType, ArrayType, NamedType, MTypes, no_types, more_types, MOpaque, StringName, F32Name, F64Name, BoxName, VecName, RcName, ArcName, ParameterName}
 use Rattle.match_model.specs.Patterns.{Written, WrittenPlain, WrittenMut, WrittenRef, WrittenRefMut}
 use Rattle.match_model.specs.Matching.{to_move, mode_written}
 use Rattle.decl_syntax.specs.Patterns.{PatternTree, Shape, PatternTrees, PathTree}
@@ -79,7 +79,7 @@ binds_twice s n = is_earlier (bound_by s n)
     is_earlier None = false
     is_earlier (Some b) = is_among b.name n.before
 
--- which of the opaque types it is
+-- which of the opaque types it is; type parameters stand behind the others, by their numbers
 abbrev pub opaque_number : MOpaque → ℕ
 opaque_number StringName = 0
 opaque_number F32Name = 1
@@ -88,6 +88,7 @@ opaque_number BoxName = 3
 opaque_number VecName = 4
 opaque_number RcName = 5
 opaque_number ArcName = 6
+opaque_number (ParameterName n) = 7 + n
 
 abbrev mutual
   -- the two types are one
