@@ -16,6 +16,7 @@ use Rattle.type_names.specs.Finding.{FoundTree, FoundNothing, FoundTwice, FoundS
 use Rattle.type_names.proofs.Variants.{get_map}
 use Rattle.type_table.specs.Tables.{type_variant, fields_of_type, field_name_of}
 use Rattle.type_table.specs.Lookups as declared
+use Rattle.type_table.proofs.FilledForms.{names_filled}
 use Rattle.type_table.proofs.LookupLemmas.{fields_counted, name_at}
 use Rattle.pattern_rules.specs.Namings.{numbered_names, form_names, struct_names, variant_names, field_names, found_number, meets}
 use Rattle.pattern_rules.specs.NodeRules.{is_tuple}
@@ -78,37 +79,21 @@ enum_same names (Some x) k h = by x.kind refl
     by (Function name parameter deref arms) e = absurd (let g : is_some (form_at [] (Some k)) ≡ true = subst
         (λ (i : KindTree). is_some (form_at (map named_variant (kind_variants i)) (Some k)) ≡ true) e h in cc)
 
-none_such : (b : Bool) (n m : ℕ) → (b && nat_eq n m) ≡ true → n ≡ m
-none_such b n m h = numbers_are_one n m (both_right b (nat_eq n m) h)
-
 -- a variant of `Option`
 option_same : (items : List ItemTree) (k : ℕ) (ts : MTypes) (program : MProgram) →
-    IsTrue (is_type program (NamedType OptionOwner ts)) →
     field_names items (FoundVariant OptionOwner k) ≡ declared.field_names
     (type_variant program (NamedType OptionOwner ts) k)
-option_same items zero ts program h = refl
-option_same items (suc zero) (more_types t no_types) program h = refl
-option_same items (suc (suc k)) (more_types t no_types) program h = refl
-option_same items (suc k) no_types program h = absurd cc
-option_same items (suc k) (more_types t (more_types u us)) program h = let e : (suc (suc (length (types_list us)))) ≡
-    1 = none_such (are_types program (more_types t (more_types u us))) (suc (suc (length (types_list us)))) 1 h in
-    absurd (omega arith)
+option_same items zero ts program = refl
+option_same items (suc zero) ts program = refl
+option_same items (suc (suc k)) ts program = refl
 
 -- a variant of `Result`
 result_same : (items : List ItemTree) (k : ℕ) (ts : MTypes) (program : MProgram) →
-    IsTrue (is_type program (NamedType ResultOwner ts)) →
     field_names items (FoundVariant ResultOwner k) ≡ declared.field_names
     (type_variant program (NamedType ResultOwner ts) k)
-result_same items zero (more_types t (more_types u no_types)) program h = refl
-result_same items (suc zero) (more_types t (more_types u no_types)) program h = refl
-result_same items (suc (suc k)) (more_types t (more_types u no_types)) program h = refl
-result_same items k no_types program h = absurd cc
-result_same items k (more_types t no_types) program h = let one : ℕ = 1 in let two : ℕ = 2 in let e : one ≡ two =
-    none_such (are_types program (more_types t no_types)) 1 2 h in absurd (omega arith)
-result_same items k (more_types t (more_types u (more_types w ws))) program h = let e :
-    (suc (suc (suc (length (types_list ws))))) ≡ 2 = none_such
-    (are_types program (more_types t (more_types u (more_types w ws)))) (suc (suc (suc (length (types_list ws))))) 2 h
-    in absurd (omega arith)
+result_same items zero ts program = refl
+result_same items (suc zero) ts program = refl
+result_same items (suc (suc k)) ts program = refl
 
 -- the names of the fields of what was found are those of the variant of the type
 pub names_same : (items : List ItemTree) (width : Width) (told : FoundTree) (t : MType) →
@@ -122,6 +107,7 @@ names_same items width (FoundStruct i) (NamedType (DeclaredItem j) ts) there typ
     (sym (get_map (item_of (means items)) items i))
     ∙ ap (λ (n : ℕ). declared.field_names (slice_get (declared_variants (slice_get (map (item_of (means items)) items)
     n)) 0)) same
+    ∙ sym (names_filled ts (declared_variants (slice_get (map (item_of (means items)) items) j)) 0)
 names_same items width (FoundVariant (DeclaredItem i) k) (NamedType (DeclaredItem j) ts) there type met =
     let same : i ≡ j = numbers_are_one i j met in
     enum_same (means items) (slice_get items i) k there
@@ -129,10 +115,11 @@ names_same items width (FoundVariant (DeclaredItem i) k) (NamedType (DeclaredIte
     (sym (get_map (item_of (means items)) items i))
     ∙ ap (λ (n : ℕ). declared.field_names (slice_get (declared_variants (slice_get (map (item_of (means items)) items)
     n)) k)) same
+    ∙ sym (names_filled ts (declared_variants (slice_get (map (item_of (means items)) items) j)) k)
 names_same items width (FoundVariant OptionOwner k) (NamedType OptionOwner ts) there type met = option_same items k ts
-    (program_of items width) type
+    (program_of items width)
 names_same items width (FoundVariant ResultOwner k) (NamedType ResultOwner ts) there type met = result_same items k ts
-    (program_of items width) type
+    (program_of items width)
 names_same items width told t there type met = absurd cc
 
 -- the same by the program of a table

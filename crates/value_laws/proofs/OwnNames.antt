@@ -4,8 +4,8 @@ use Rattle.std.proofs.lemmas.Option.{slice_get-map}
 use Rattle.std.proofs.lemmas.Slice.Eq.{bytes_eq-Decides}
 use Rattle.std.specs.List.{list_any}
 use Rattle.match_model.specs.declared.Width.{Width}
-use Rattle.match_model.specs.Types.{DeclaredItem, OptionOwner, ResultOwner, MType, BoolType, CharType, StrType, NeverType, IntType, OpaqueType, TupleType, PointType, SliceType, ArrayType, NamedType, MTypes, no_types, more_types}
-use Rattle.match_model.specs.Declarations.{MField, MForm, UnitForm, TupleForm, BraceForm, MVariant, MItem, item_variants, variants_of, none_variant, some_variants, result_variants}
+use Rattle.match_model.specs.Types.{DeclaredItem, OptionOwner, ResultOwner, MType, BoolType, CharType, StrType, NeverType, IntType, OpaqueType, TupleType, PointType, SliceType, ArrayType, NamedType, MTypes}
+use Rattle.match_model.specs.Declarations.{MField, MForm, UnitForm, TupleForm, BraceForm, MVariant, MItem, filled_field, filled_form, filled_variant, parameter, option_item, result_item, item_variants, variants_of}
 use Rattle.decl_syntax.specs.Items.{FieldItem, FormTree, Unit, VariantTree, KindTree, Enum, Struct, Import, Function, ItemTree}
 use Rattle.decl_syntax.specs.Items as forms
 use Rattle.type_names.specs.Meanings.{Means, means}
@@ -18,9 +18,6 @@ use Rattle.type_table.specs.Faults.{BreaksNone, variant_twice, field_twice}
 
 pub same_name : (name : List ℕ) → bytes_eq name name ≡ true
 same_name name = (bytes_eq-Decides name name).1 refl
-
-some_same : {A : Type 0} {x y : A} → Some x ≡ Some y → x ≡ y
-some_same h = cc
 
 neither : (b c : Bool) → (b || c) ≡ false → (b ≡ false) × (c ≡ false)
 neither false c h = (refl, h)
@@ -126,32 +123,48 @@ kind_own names marked (Struct name form) v f =
 kind_own names marked (Import owner listed) v f = none_own
 kind_own names marked (Function name parameter deref arms) v f = none_own
 
+-- arguments in the place of parameters change no name
+
+names_kept : (args : MTypes) (vs : List MVariant) → map (λ (v : MVariant). v.name) (map (filled_variant args) vs) ≡ map (λ (v : MVariant). v.name) vs
+names_kept args [] = refl
+names_kept args (v ∷ vs) = ap (λ ns. v.name ∷ ns) (names_kept args vs)
+
+fields_kept : (args : MTypes) (fs : List MField) → map (λ (f : MField). f.name) (map (filled_field args) fs) ≡ map (λ (f : MField). f.name) fs
+fields_kept args [] = refl
+fields_kept args (f ∷ fs) = ap (λ ns. f.name ∷ ns) (fields_kept args fs)
+
+form_kept : (args : MTypes) (form : MForm) → FormIsOwn form → FormIsOwn (filled_form args form)
+form_kept args UnitForm own fields e = absurd cc
+form_kept args (TupleForm types) own fields e = absurd cc
+form_kept args (BraceForm fs) own fields e =
+    let same : map (filled_field args) fs ≡ fields = cc in
+    ap (λ (gs : List MField). repeats [] (map (λ (f : MField). f.name) gs)) (sym same) ∙ (ap (repeats []) (fields_kept args fs) ∙ own fs refl)
+
+variant_kept : (args : MTypes) (vs : List MVariant) (k : ℕ) (v : MVariant) → ((j : ℕ) (u : MVariant) → slice_get vs j ≡ Some u → FormIsOwn u.form) →
+    slice_get (map (filled_variant args) vs) k ≡ Some v → FormIsOwn v.form
+variant_kept args [] k v own e = absurd cc
+variant_kept args (u ∷ us) zero v own e =
+    let same : filled_variant args u ≡ v = cc in
+    subst (λ (w : MVariant). FormIsOwn w.form) same (form_kept args u.form (own 0 u refl))
+variant_kept args (u ∷ us) (suc k) v own e = variant_kept args us k v (λ j w at. own (suc j) w at) e
+
+filled_own : (args : MTypes) (vs : List MVariant) → AreOwn vs → AreOwn (map (filled_variant args) vs)
+filled_own args vs own = record {
+  variants = ap (repeats []) (names_kept args vs) ∙ own.variants;
+  fields = λ k v e. variant_kept args vs k v own.fields e;
+}
+
 -- `Option` and `Result`
 
-some_there : (ts : MTypes) (k : ℕ) (v : MVariant) → slice_get (some_variants ts) k ≡ Some v → FormIsOwn v.form
-some_there no_types k v h = absurd cc
-some_there (more_types t no_types) k v h = one_there _ k v (tuple_own (t ∷ [])) h
-some_there (more_types t (more_types u us)) k v h = absurd cc
+two_there : (u w : MVariant) (k : ℕ) (v : MVariant) → FormIsOwn u.form → FormIsOwn w.form → slice_get (u ∷ w ∷ []) k ≡ Some v → FormIsOwn v.form
+two_there u w zero v own other h = let same : u ≡ v = cc in subst (λ (x : MVariant). FormIsOwn x.form) same own
+two_there u w (suc k) v own other h = one_there w k v other h
 
-option_there : (ts : MTypes) (k : ℕ) (v : MVariant) → slice_get (none_variant ∷ some_variants ts) k ≡ Some v → FormIsOwn v.form
-option_there ts zero v h = let same : none_variant ≡ v = cc in subst (λ (w : MVariant). FormIsOwn w.form) same unit_own
-option_there ts (suc k) v h = some_there ts k v h
+option_own : AreOwn (item_variants (Some option_item))
+option_own = record { variants = refl; fields = λ k v h. two_there _ _ k v unit_own (tuple_own (parameter 0 ∷ [])) h }
 
-option_own : (ts : MTypes) → AreOwn (none_variant ∷ some_variants ts)
-option_own no_types = record { variants = refl; fields = option_there no_types }
-option_own (more_types t no_types) = record { variants = refl; fields = option_there (more_types t no_types) }
-option_own (more_types t (more_types u us)) = record { variants = refl; fields = option_there (more_types t (more_types u us)) }
-
-result_there : (t u : MType) (k : ℕ) (v : MVariant) → slice_get (result_variants (more_types t (more_types u no_types))) k ≡ Some v →
-    FormIsOwn v.form
-result_there t u zero v h = subst (λ (w : MVariant). FormIsOwn w.form) (some_same h) (tuple_own (t ∷ []))
-result_there t u (suc k) v h = one_there _ k v (tuple_own (u ∷ [])) h
-
-result_own : (ts : MTypes) → AreOwn (result_variants ts)
-result_own no_types = none_own
-result_own (more_types t no_types) = none_own
-result_own (more_types t (more_types u no_types)) = record { variants = refl; fields = result_there t u }
-result_own (more_types t (more_types u (more_types v vs))) = none_own
+result_own : AreOwn (item_variants (Some result_item))
+result_own = record { variants = refl; fields = λ k v h. two_there _ _ k v (tuple_own (parameter 0 ∷ [])) (tuple_own (parameter 1 ∷ [])) h }
 
 -- the types of a file whose items break no rule
 
@@ -182,9 +195,9 @@ module _ (items : List ItemTree) (width : Width) (none : BreaksNone items width)
 
   -- the names of the variants of a type, and of the fields of each, do not repeat
   pub type_own : (t : MType) → AreOwn (variants_of (program_of items width) t)
-  type_own (NamedType (DeclaredItem i) ts) = item_own i
-  type_own (NamedType OptionOwner ts) = option_own ts
-  type_own (NamedType ResultOwner ts) = result_own ts
+  type_own (NamedType (DeclaredItem i) ts) = filled_own ts (item_variants (slice_get (program_of items width).items i)) (item_own i)
+  type_own (NamedType OptionOwner ts) = filled_own ts (item_variants (Some option_item)) option_own
+  type_own (NamedType ResultOwner ts) = filled_own ts (item_variants (Some result_item)) result_own
   type_own BoolType = none_own
   type_own CharType = none_own
   type_own StrType = none_own

@@ -3,8 +3,8 @@ use Rattle.std.proofs.Common.{◌≡◌, ℕ, zero, suc, Bool, true, false, List
 use Rattle.std.specs.Prelude.{option_map, IfSome, if◌then◌else◌}
 use Rattle.std.proofs.lemmas.Option.{slice_get-map}
 use Rattle.match_model.specs.declared.Width.{Width}
-use Rattle.match_model.specs.Types.{MOwner, DeclaredItem, OptionOwner, ResultOwner, MType, BoolType, CharType, StrType, NeverType, IntType, OpaqueType, TupleType, PointType, SliceType, ArrayType, NamedType, MTypes, no_types, more_types}
-use Rattle.match_model.specs.Declarations.{MForm, UnitForm, TupleForm, BraceForm, MVariant, MItem, StructItem, EnumItem, OtherItem, MProgram, item_variants, none_variant, some_variants, result_variants}
+use Rattle.match_model.specs.Types.{MOwner, DeclaredItem, OptionOwner, ResultOwner, MType, BoolType, CharType, StrType, NeverType, IntType, OpaqueType, TupleType, PointType, SliceType, ArrayType, NamedType, MTypes, no_types}
+use Rattle.match_model.specs.Declarations.{MForm, UnitForm, TupleForm, BraceForm, MVariant, MItem, StructItem, EnumItem, OtherItem, MProgram, item_variants}
 use Rattle.decl_syntax.specs.Items.{FormTree, Unit, VariantTree, KindTree, Enum, Struct, Import, Function, ItemTree}
 use Rattle.decl_syntax.specs.Items as forms
 use Rattle.type_names.specs.declared.meanings.FormKind.{FormKind}
@@ -17,6 +17,7 @@ use Rattle.type_names.specs.Written.{form_of, variant_of, kind_of, item_of, is_m
 use Rattle.type_table.specs.declared.table.TypeTable.{TypeTable}
 use Rattle.type_table.specs.Readers.{type_owner, is_enum_item, enum_owner}
 use Rattle.type_table.specs.Tables.{IsTableOf, table_program, is_struct, is_struct_type, type_variant}
+use Rattle.type_table.proofs.PlainTypes.{table_variants}
 use Rattle.value_text.specs.Names.{form_with, unit_of, tuple_of, brace_of}
 use Rattle.value_text.specs.Lookups.{kind_of_form, kind_there, kind_numbered, if_unit, if_tuple, if_brace, parts_there, fields_there, IsBrace, IsDeclaredStruct}
 use Rattle.value_text.proofs.MeantValues.{form_types_are, types_back}
@@ -67,22 +68,17 @@ variants_at : (names : Means) (o : Option ItemTree) (k : ℕ) → is_struct (opt
 variants_at names None k h = refl
 variants_at names (Some i) k h = kind_variants names (is_marked_by i.attrs) i.kind k h
 
-option_kinds : (ts : MTypes) (k : ℕ) → is_some (slice_get (none_variant ∷ some_variants ts) k) ≡ true →
-    form_at (owner_variants [] OptionOwner) (Some k) ≡ kind_there (slice_get (none_variant ∷ some_variants ts) k)
-option_kinds ts zero h = refl
-option_kinds no_types (suc k) h = cc
-option_kinds (more_types t no_types) (suc zero) h = refl
-option_kinds (more_types t no_types) (suc (suc k)) h = cc
-option_kinds (more_types t (more_types u us)) (suc k) h = cc
+option_kinds : (program : MProgram) (ts : MTypes) (k : ℕ) →
+    form_at (owner_variants [] OptionOwner) (Some k) ≡ kind_there (type_variant program (NamedType OptionOwner ts) k)
+option_kinds program ts zero = refl
+option_kinds program ts (suc zero) = refl
+option_kinds program ts (suc (suc k)) = refl
 
-result_kinds : (ts : MTypes) (k : ℕ) → is_some (slice_get (result_variants ts) k) ≡ true →
-    form_at (owner_variants [] ResultOwner) (Some k) ≡ kind_there (slice_get (result_variants ts) k)
-result_kinds no_types k h = cc
-result_kinds (more_types t no_types) k h = cc
-result_kinds (more_types t (more_types u no_types)) zero h = refl
-result_kinds (more_types t (more_types u no_types)) (suc zero) h = refl
-result_kinds (more_types t (more_types u no_types)) (suc (suc k)) h = cc
-result_kinds (more_types t (more_types u (more_types v vs))) k h = cc
+result_kinds : (program : MProgram) (ts : MTypes) (k : ℕ) →
+    form_at (owner_variants [] ResultOwner) (Some k) ≡ kind_there (type_variant program (NamedType ResultOwner ts) k)
+result_kinds program ts zero = refl
+result_kinds program ts (suc zero) = refl
+result_kinds program ts (suc (suc k)) = refl
 
 -- an enum type is named by its owner
 enum_of_item : (b : Bool) (i : ℕ) (o : MOwner) → (if b then Some (DeclaredItem i) else None) ≡ Some o → DeclaredItem i ≡ o
@@ -118,7 +114,8 @@ module _ (items : List ItemTree) (width : Width) (table : TypeTable) (is : IsTab
   struct_told t s =
       let program = table_program table in
       let there : type_variant program t 0 ≡ Some s.1 =
-      ap (λ (u : MType). type_variant program u 0) s.2 ∙ ap (λ (o : Option MItem). slice_get (item_variants o) 0) s.3 in
+      ap (λ (u : MType). type_variant program u 0) s.2
+      ∙ (ap (λ (vs : List MVariant). slice_get vs 0) (table_variants table s.0 no_types) ∙ ap (λ (o : Option MItem). slice_get (item_variants o) 0) s.3) in
       item_struct (means items) (slice_get items s.0) s.1 (sym (item_at s.0) ∙ s.3) ∙ ap kind_there (sym there)
 
   variant_written : (o : MOwner) (ts : MTypes) (k : ℕ) →
@@ -127,9 +124,10 @@ module _ (items : List ItemTree) (width : Width) (table : TypeTable) (is : IsTab
       form_at (owner_variants items o) (Some k) ≡ kind_there (type_variant (table_program table) (NamedType o ts) k)
   variant_written (DeclaredItem i) ts k s h =
       variants_at (means items) (slice_get items i) k (sym (ap is_struct (item_at i)) ∙ s)
-      ∙ ap (λ (o : Option MItem). kind_there (slice_get (item_variants o) k)) (sym (item_at i))
-  variant_written OptionOwner ts k s h = option_kinds ts k h
-  variant_written ResultOwner ts k s h = result_kinds ts k h
+      ∙ (ap (λ (o : Option MItem). kind_there (slice_get (item_variants o) k)) (sym (item_at i))
+      ∙ ap (λ (vs : List MVariant). kind_there (slice_get vs k)) (sym (table_variants table i ts)))
+  variant_written OptionOwner ts k s h = option_kinds (table_program table) ts k
+  variant_written ResultOwner ts k s h = result_kinds (table_program table) ts k
 
   -- a variant of an enum is declared so
   pub enum_told : (t : MType) (k : ℕ) (o : MOwner) → is_struct_type (table_program table) t ≡ false →

@@ -4,7 +4,8 @@ use Rattle.std.specs.Prelude.{option_map, ◌&&◌, nat_lt, nat_le}
 use Rattle.std.proofs.lemmas.Bool.Decides.{nat_tests}
 use Rattle.match_model.specs.Types.{DeclaredItem, OptionOwner, ResultOwner, MType, BoolType, CharType, StrType, NeverType, IntType, OpaqueType, TupleType, PointType, SliceType, ArrayType, NamedType, MTypes, no_types, more_types, types_list}
 use Rattle.match_model.specs.Constructors.{LongerShape, MShape, RowCtor, PointCtor, MSet, SingleSet, PointSet, FlagSet, TextSet, OpaqueSet, NothingSet, VariantSet, NumberSet, RowSet, belongs}
-use Rattle.match_model.specs.Declarations.{MVariant, MItem, StructItem, EnumItem, OtherItem, MProgram, node_types, variant_types, some_variants, result_variants, none_variant, item_variants}
+use Rattle.match_model.specs.Declarations.{MVariant, MItem, StructItem, EnumItem, OtherItem, MProgram, node_types, variant_types, filled_all, declared, item_variants}
+use Rattle.match_model.proofs.Basics.{named_types}
 use Rattle.match_model.specs.OfType.{node_ctor, type_at_place}
 use Rattle.match_model.specs.Places.{MStep, ThroughStep, FieldStep, FrontStep, BackStep}
 use Rattle.match_model.specs.RustTypes.{count_of_types, type_or, part_type, rust_set, item_set, rust_arity, rust_sub, rust_context}
@@ -67,17 +68,6 @@ no_part_of_item (Some (EnumItem name false [])) k h = refl
 no_part_of_item (Some (EnumItem name true [])) k h = refl
 no_part_of_item (Some (EnumItem name marked (v ∷ vs))) k h = variants_past (v ∷ vs) k (suc (length vs)) (omega arith) h
 
-few_some : (ts : MTypes) → length (none_variant ∷ some_variants ts) ≤ 2
-few_some no_types = omega arith
-few_some (more_types t no_types) = omega arith
-few_some (more_types t (more_types u us)) = omega arith
-
-few_results : (ts : MTypes) → length (result_variants ts) ≤ 2
-few_results no_types = omega arith
-few_results (more_types t no_types) = omega arith
-few_results (more_types t (more_types u no_types)) = omega arith
-few_results (more_types t (more_types u (more_types v us))) = omega arith
-
 -- a variant that the set lacks has no parts
 no_part : (program : MProgram) (t : MType) (k : ℕ) → has_variant (rust_set program t) k ≡ false → node_types program t k ≡ None
 no_part program BoolType k h = refl
@@ -91,9 +81,8 @@ no_part program (TupleType ts) (suc k) h = refl
 no_part program (PointType mutable t) k h = refl
 no_part program (SliceType t) k h = refl
 no_part program (ArrayType t n) k h = refl
-no_part program (NamedType (DeclaredItem n) ts) k h = no_part_of_item (slice_get program.items n) k h
-no_part program (NamedType OptionOwner ts) k h = variants_past (none_variant ∷ some_variants ts) k 2 (few_some ts) h
-no_part program (NamedType ResultOwner ts) k h = variants_past (result_variants ts) k 2 (few_results ts) h
+no_part program (NamedType owner ts) k h =
+    named_types program owner ts k ∙ ap (option_map (filled_all ts)) (no_part_of_item (declared program owner) k h)
 
 -- a step to a part of a variant
 pub part_entered : (program : MProgram) (t : MType) (k i : ℕ) → behind_step program t (FieldStep k i) ≡ part_of (node_types program t k) i

@@ -4,7 +4,7 @@ use Rattle.std.specs.Prelude.{option_map, if◌then◌else◌}
 use Rattle.std.proofs.lemmas.Option.{slice_get-map}
 use Rattle.match_model.specs.declared.Width.{Width}
 use Rattle.match_model.specs.Types.{MOwner, DeclaredItem, OptionOwner, ResultOwner, MType, BoolType, CharType, StrType, NeverType, IntType, OpaqueType, TupleType, PointType, SliceType, ArrayType, NamedType, MTypes, no_types, more_types}
-use Rattle.match_model.specs.Declarations.{MVariant, MItem, StructItem, EnumItem, OtherItem, MProgram, item_variants, none_variant, some_variants, result_variants}
+use Rattle.match_model.specs.Declarations.{MVariant, MItem, StructItem, EnumItem, OtherItem, MProgram, item_variants}
 use Rattle.decl_syntax.specs.Items.{FormTree, Unit, VariantTree, KindTree, Enum, Struct, Import, Function, ItemTree}
 use Rattle.decl_syntax.specs.Items as forms
 use Rattle.type_names.specs.declared.meanings.FormKind.{FormKind}
@@ -17,6 +17,7 @@ use Rattle.type_table.specs.declared.table.TypeTable.{TypeTable}
 use Rattle.type_table.specs.Readers.{type_owner, is_enum_item, enum_owner, owner_name, item_name}
 use Rattle.type_table.specs.Tables.{IsTableOf, table_program, is_struct, is_struct_type, type_variant, variant_name_of}
 use Rattle.witness_text.specs.Trees.{NameTree, PlainName, VariantName}
+use Rattle.type_table.proofs.PlainTypes.{table_variants}
 use Rattle.witness_names.specs.declared.paths.Paths.{Paths}
 use Rattle.witness_names.specs.Named.{name_by, declared_name, built_in_name}
 use Rattle.witness_names.specs.Lookups.{kind_of_form, form_told, form_there, built_in_owner, IsDeclaredStruct}
@@ -71,22 +72,17 @@ variants_at : (names : Means) (o : Option ItemTree) (k : ℕ) → is_struct (opt
 variants_at names None k h = refl
 variants_at names (Some i) k h = kind_variants names (is_marked_by i.attrs) i.kind k h
 
-option_kinds : (ts : MTypes) (k : ℕ) → is_some (slice_get (none_variant ∷ some_variants ts) k) ≡ true →
-    form_at (owner_variants [] OptionOwner) (Some k) ≡ kind_there (slice_get (none_variant ∷ some_variants ts) k)
-option_kinds ts zero h = refl
-option_kinds no_types (suc k) h = cc
-option_kinds (more_types t no_types) (suc zero) h = refl
-option_kinds (more_types t no_types) (suc (suc k)) h = cc
-option_kinds (more_types t (more_types u us)) (suc k) h = cc
+option_kinds : (program : MProgram) (ts : MTypes) (k : ℕ) →
+    form_at (owner_variants [] OptionOwner) (Some k) ≡ kind_there (type_variant program (NamedType OptionOwner ts) k)
+option_kinds program ts zero = refl
+option_kinds program ts (suc zero) = refl
+option_kinds program ts (suc (suc k)) = refl
 
-result_kinds : (ts : MTypes) (k : ℕ) → is_some (slice_get (result_variants ts) k) ≡ true →
-    form_at (owner_variants [] ResultOwner) (Some k) ≡ kind_there (slice_get (result_variants ts) k)
-result_kinds no_types k h = cc
-result_kinds (more_types t no_types) k h = cc
-result_kinds (more_types t (more_types u no_types)) zero h = refl
-result_kinds (more_types t (more_types u no_types)) (suc zero) h = refl
-result_kinds (more_types t (more_types u no_types)) (suc (suc k)) h = cc
-result_kinds (more_types t (more_types u (more_types v vs))) k h = cc
+result_kinds : (program : MProgram) (ts : MTypes) (k : ℕ) →
+    form_at (owner_variants [] ResultOwner) (Some k) ≡ kind_there (type_variant program (NamedType ResultOwner ts) k)
+result_kinds program ts zero = refl
+result_kinds program ts (suc zero) = refl
+result_kinds program ts (suc (suc k)) = refl
 
 -- by the file
 
@@ -106,9 +102,10 @@ module _ (items : List ItemTree) (width : Width) (table : TypeTable) (is : IsTab
       form_at (owner_variants items o) (Some k) ≡ kind_there (type_variant (table_program table) (NamedType o ts) k)
   variant_written (DeclaredItem i) ts k s h =
       variants_at (means items) (slice_get items i) k (sym (ap is_struct (item_at i)) ∙ s)
-      ∙ ap (λ (o : Option MItem). kind_there (slice_get (item_variants o) k)) (sym (item_at i))
-  variant_written OptionOwner ts k s h = option_kinds ts k h
-  variant_written ResultOwner ts k s h = result_kinds ts k h
+      ∙ (ap (λ (o : Option MItem). kind_there (slice_get (item_variants o) k)) (sym (item_at i))
+      ∙ ap (λ (vs : List MVariant). kind_there (slice_get vs k)) (sym (table_variants table i ts)))
+  variant_written OptionOwner ts k s h = option_kinds (table_program table) ts k
+  variant_written ResultOwner ts k s h = result_kinds (table_program table) ts k
 
 -- names
 
@@ -231,7 +228,8 @@ module _ (items : List ItemTree) (width : Width) (table : TypeTable) (is : IsTab
       let program = table_program table in
       let there : type_variant program t k ≡ Some s.1 =
       ap (type_variant program t) z ∙ (ap (λ (u : MType). type_variant program u 0) s.2
-      ∙ ap (λ (o : Option MItem). slice_get (item_variants o) 0) s.3) in
+      ∙ (ap (λ (vs : List MVariant). slice_get vs 0) (table_variants table s.0 no_types)
+      ∙ ap (λ (o : Option MItem). slice_get (item_variants o) 0) s.3)) in
       let written : kind_there (type_variant program t k) ≡ Some kind = ap kind_there there ∙ sym (f
       ∙ struct_written items width table is s.0 s.1 s.3) in
       let alone : name_by paths program t name ≡ PlainName name = ap (λ (u : MType). name_by paths program u name) s.2
