@@ -1,6 +1,6 @@
--- The order of the arms to add: that of witnesses, but at a place a range below every literal of `isize` comes behind
--- all other numbers. So an arm that takes more than its witness shows stands behind the exact ones of its place (our
--- own choice).
+-- The order of the arms to add (our own choice). It is that of witnesses, with one exception. At a place a range below
+-- every literal of `isize` comes behind all other numbers. So an arm that takes more than its witness shows stands
+-- behind the exact ones of its place.
 use Rattle.std.specs.Prelude.{◌≡◌, ◌⊎◌, Bool, true, false, List, ◌∷◌, length}
 use Rattle.match_model.specs.Types.{MType, IntType}
 use Rattle.match_model.specs.Declarations.{MProgram, node_types}

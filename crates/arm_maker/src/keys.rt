@@ -1,5 +1,5 @@
-// The numbers by which witnesses of a type are put in the order of arms: one witness stands before another where its
-// numbers do, compared one by one.
+// The numbers by which witnesses of a type are put in the order of arms. One witness stands before another where its
+// numbers stand before the other's, compared one by one.
 ghost use Rattle.std.specs.Prelude.{◌≡◌, ◌++◌, ◌∷◌, [], true, suc, pos, chars, map, IfOk, OnOk};
 ghost use Rattle.match_model.specs.RustTypes.{inner_type};
 ghost use Rattle.match_model.specs.Declarations.{node_types};

@@ -1,5 +1,5 @@
-// Rows without those that repeat one in front of them, a row of their arm that has no guard and the same heads. No value
-// comes to such a row, and its heads add no constructor to a column, so that no rule tells whether it is there.
+// Rows without those that repeat one in front of them: a row of their arm that has no guard and the same heads. Such a
+// row is unreachable, and its heads add no constructor to a column. So no step of the lowering depends on it.
 ghost use Rattle.std.specs.Prelude.{◌≡◌, ◌++◌, ◌∷◌, [], List, map, true, IfOk, OnOk};
 ghost use Rattle.match_model.specs.Lists.{Among};
 ghost use Rattle.match_model.specs.Matrices.{MRow};

@@ -13,8 +13,8 @@ way_binding bs = record bare_way { bindings = bs }
 abbrev pub tries_binding : (arm : ℕ) → (guarded : Bool) → List (List Binding) → List Try
 tries_binding j guarded bss = map (λ bs. try_of j guarded (way_binding bs)) bss
 
--- the ways of an arm that its guard may be asked on: one for each answer up to the first that takes it, or one more than
--- there are answers
+-- how many ways of an arm its guard may be asked on: one for each answer up to the first that takes the arm; where none
+-- does, one more than there are answers
 abbrev pub ways_asked : (answers : List Bool) → ℕ
 ways_asked [] = 1
 ways_asked (true ∷ answers) = 1

@@ -72,8 +72,8 @@ fn tried<'a, T: Copy>(
     guards_asked(alloc, number, &ways, answers, asked)
 }
 
-// The ways of an arm that its guard may be asked on with these answers: those up to the first that takes the arm, or one
-// more than there are.
+// How many ways of an arm its guard may be asked on with these answers. The first answer that takes the arm ends them.
+// Where none takes it, the way behind the last answer counts too.
 fn ways_asked(answers: &[bool]) -> usize
     ensures count { result ≡ ways_asked answers.now }
     ensures some { 0 < result }

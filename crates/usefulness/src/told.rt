@@ -1,9 +1,9 @@
 // The submatrices that were looked at, by the words that tell them, and what their rows had chosen.
 //
-// Words do not tell which alternatives the rows of a submatrix have chosen. Where words are equal, a value that comes to a
-// row in one submatrix comes to the row in its place in the other. It then comes to the row's arm and to what the row has
-// chosen in each of the two. So beside its words, each alternative is noted that a row of a submatrix had chosen. A submatrix
-// brings nothing new where its words were noted, and beside them all that its rows have chosen, marked alternatives left out.
+// Words do not tell which alternatives the rows of a submatrix have chosen. Where words of two submatrices are equal, a
+// value reaches a row in one where it reaches the row in its place in the other. Then it reaches that row's arm, and what
+// the row has chosen, in both. So beside the words of a submatrix stands each alternative that one of its rows had chosen.
+// A submatrix brings nothing new where its words were noted, and beside them each unmarked alternative of its rows.
 ghost use Rattle.std.specs.Prelude.{◌≡◌, ◌≤◌, ◌⊎◌, [], true, List, ℕ, OnOk, IfOk};
 ghost use Rattle.std.specs.List.{All, Contains};
 ghost use Rattle.usefulness.specs.Keys.{told_keys};
