@@ -32,10 +32,10 @@ sound = record { fields = fields; few = few; finite = finite }
     few (suc zero) k ts e = cc
     few (suc (suc i)) k ts e = cc
 
-    finite : (i : ℕ) → IsTrue (is_declared (slice_get program.items i)) → (v : MValue)
-        × IsTrue (is_value program false (NamedType (DeclaredItem i) no_types) v)
-    finite zero h = (Later, refl)
-    finite (suc zero) h = (Unseen, refl)
+    finite : (i : ℕ) → IsTrue (is_declared (slice_get program.items i)) → (arguments : MTypes) × (v : MValue)
+        × IsTrue (is_value program false (NamedType (DeclaredItem i) arguments) v)
+    finite zero h = (no_types, Later, refl)
+    finite (suc zero) h = (no_types, Unseen, refl)
     finite (suc (suc i)) h = cc
 
 distinct : IsDistinct nat_eq (0 ∷ [])
