@@ -51,15 +51,16 @@ variant_node k _ h = absurd (untrue h)
 -- of the first fields one lacks a value exactly where one of them does
 none_lacks : (t : TypeTable) (ty : TyId) (k n : ℕ) → lacks_field t ty k n ≡ false → (i : ℕ) → i < n → lacks_value t (part_there t ty k i) ≡ false
 none_lacks t ty k zero h i lt = absurd (omega (arith, lt))
-none_lacks t ty k (suc n) h i lt = by (lacks_field t ty k n) refl h (less_or_same i n lt)
+none_lacks t ty k (suc n) h i lt = by (lacks_field t ty k n) refl h (less_or_same i n lt) (λ e low. none_lacks t ty k n e i low)
   where
     less_or_same : (i n : ℕ) → i < suc n → (i < n) ⊎ (i ≡ n)
     less_or_same i n l = grind (arith, l)
 
-    by : (b : Bool) → lacks_field t ty k n ≡ b → (b || lacks_value t (part_there t ty k n)) ≡ false → (i < n) ⊎ (i ≡ n) → lacks_value t (part_there t ty k i) ≡ false
-    by true e f w = absurd cc
-    by false e f (inl low) = none_lacks t ty k n e i low
-    by false e f (inr same) = ap (λ (j : ℕ). lacks_value t (part_there t ty k j)) same ∙ f
+    by : (b : Bool) → lacks_field t ty k n ≡ b → (b || lacks_value t (part_there t ty k n)) ≡ false → (i < n) ⊎ (i ≡ n) →
+        (lacks_field t ty k n ≡ false → i < n → lacks_value t (part_there t ty k i) ≡ false) → lacks_value t (part_there t ty k i) ≡ false
+    by true e f w rest = absurd cc
+    by false e f (inl low) rest = rest e low
+    by false e f (inr same) rest = ap (λ (j : ℕ). lacks_value t (part_there t ty k j)) same ∙ f
 
 all_have : (t : TypeTable) (ty : TyId) (k n : ℕ) → ((i : ℕ) → i < n → lacks_value t (part_there t ty k i) ≡ false) → lacks_field t ty k n ≡ false
 all_have t ty k zero each = refl
@@ -71,14 +72,14 @@ all_have t ty k (suc n) each = neither (lacks_field t ty k n) _ (all_have t ty k
 -- a field that lacks one
 pub some_lacks : (t : TypeTable) (ty : TyId) (k n i : ℕ) → i < n → lacks_value t (part_there t ty k i) ≡ true → lacks_field t ty k n ≡ true
 some_lacks t ty k zero i lt h = absurd (omega (arith, lt))
-some_lacks t ty k (suc n) i lt h = by (less_or_same i n lt)
+some_lacks t ty k (suc n) i lt h = by (less_or_same i n lt) (λ low. some_lacks t ty k n i low h)
   where
     less_or_same : (i n : ℕ) → i < suc n → (i < n) ⊎ (i ≡ n)
     less_or_same i n l = grind (arith, l)
 
-    by : (i < n) ⊎ (i ≡ n) → lacks_field t ty k (suc n) ≡ true
-    by (inl low) = or_left (lacks_field t ty k n) (lacks_value t (part_there t ty k n)) (some_lacks t ty k n i low h)
-    by (inr same) = or_right (lacks_field t ty k n) (lacks_value t (part_there t ty k n)) (ap (λ (j : ℕ). lacks_value t (part_there t ty k j)) (sym same) ∙ h)
+    by : (i < n) ⊎ (i ≡ n) → (i < n → lacks_field t ty k n ≡ true) → lacks_field t ty k (suc n) ≡ true
+    by (inl low) rest = or_left (lacks_field t ty k n) (lacks_value t (part_there t ty k n)) (rest low)
+    by (inr same) rest = or_right (lacks_field t ty k n) (lacks_value t (part_there t ty k n)) (ap (λ (j : ℕ). lacks_value t (part_there t ty k j)) (sym same) ∙ h)
 
 -- one field more
 pub none_more : (t : TypeTable) (ty : TyId) (k i : ℕ) → lacks_field t ty k i ≡ false → lacks_value t (part_there t ty k i) ≡ false → lacks_field t ty k (i + 1) ≡ false

@@ -150,6 +150,6 @@ module _ (width : Width) (nodes : List Node) (entries : List Entry) (are : AreNo
     where
       finite : (i : ℕ) → is_declared (slice_get program.items i) ≡ true →
           Found program false (NamedType (DeclaredItem i) no_types) ⊎ ((v : MValue) → is_value program false (NamedType (DeclaredItem i) no_types) v ≡ false) →
-          (arguments : MTypes) × Found program false (NamedType (DeclaredItem i) arguments)
-      finite i declared (inl v) = (no_types, v)
+          (arguments : MTypes) × (v : MValue) × (is_value program false (NamedType (DeclaredItem i) arguments) v ≡ true)
+      finite i declared (inl (v, h)) = (no_types, v, h)
       finite i declared (inr endless) = absurd (none i (record { declared = declared; endless = endless }))

@@ -164,9 +164,9 @@ module _ (width : Width) (sure : Bool) (nodes : List declared_node.Node) (entrie
       enum_found sure refl i (entry_kinds.Enum id name later variants) args later variants.items at refl refl bare b among each
     where
       bare : variants.items ≡ [] → later ≡ false → item_is_bare (Some (entry_told types (entry_kinds.Enum id name later variants)).item) ≡ true
-      bare is no =
+      bare is unmarked =
           ap (λ (vs : List VariantEntry). item_is_bare (Some (EnumItem (rc_str_bytes name) later (map (variant_entry types) vs)))) is
-          ∙ ap (λ (m : Bool). item_is_bare (Some (EnumItem (rc_str_bytes name) m []))) no
+          ∙ ap (λ (m : Bool). item_is_bare (Some (EnumItem (rc_str_bytes name) m []))) unmarked
   entry_found i (entry_kinds.Function param deref) args at b among each = no_among b among
   entry_found i entry_kinds.Import args at b among each = no_among b among
 
