@@ -120,8 +120,9 @@ module _ (items : List ItemTree) (width : Width) (narrow : AreNarrow items)
       by : (i : ℕ) → is_declared (slice_get (program_of items width).items i) ≡ true →
           Found (program_of items width) false (NamedType (DeclaredItem i) no_types)
           ⊎ ((v : MValue) → is_value (program_of items width) false (NamedType (DeclaredItem i) no_types) v ≡ false) →
-          (arguments : MTypes) × Found (program_of items width) false (NamedType (DeclaredItem i) arguments)
-      by i declared (inl v) = (no_types, v)
+          (arguments : MTypes) × (v : MValue)
+          × IsTrue (is_value (program_of items width) false (NamedType (DeclaredItem i) arguments) v)
+      by i declared (inl v) = (no_types, v.0, v.1)
       by i declared (inr endless) =
           absurd (unbroken i 36 (declarations.endless_type refl (record { declared = declared; endless = endless })))
 
