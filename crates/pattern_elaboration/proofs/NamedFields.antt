@@ -1,12 +1,12 @@
 -- The names of the fields of a struct or variant, as its item writes them and as the program declares them.
-use Rattle.std.proofs.Common.{◌≡◌, ℕ, zero, suc, ◌<◌, ◌+◌, add-one, Bool, true, false, ◌&&◌, nat_eq, List, [], ◌∷◌, ◌++◌, map, length, take, Option, Some, None, refl, sym, ap, subst, ◌∙◌, arith}
+use Rattle.std.proofs.Common.{◌≡◌, ℕ, zero, suc, ◌<◌, ◌+◌, add-one, true, false, List, [], ◌∷◌, ◌++◌, map, length, take, Option, Some, None, refl, sym, ap, subst, ◌∙◌, arith}
 use Rattle.std.specs.Prelude.{slice_get, option_map, is_some, IsTrue}
 use Rattle.std.specs.Fmt.{decimal}
 use Rattle.std.proofs.lemmas.List.{map-append}
 use Rattle.match_model.specs.declared.Width.{Width}
-use Rattle.match_model.specs.Types.{DeclaredItem, OptionOwner, ResultOwner, MType, TupleType, NamedType, MTypes, no_types, more_types, types_list}
+use Rattle.match_model.specs.Types.{DeclaredItem, OptionOwner, ResultOwner, MType, TupleType, NamedType, MTypes}
 use Rattle.match_model.specs.Declarations.{MField, MVariant, MItem, MProgram, item_variants as declared_variants}
-use Rattle.match_model.specs.RustTypes.{is_type, are_types}
+use Rattle.match_model.specs.RustTypes.{is_type}
 use Rattle.decl_syntax.specs.Items.{FieldItem, FormTree, Unit, VariantTree, KindTree, Enum, Struct, Import, Function, ItemTree}
 use Rattle.decl_syntax.specs.Items as forms
 use Rattle.type_names.specs.Meanings.{Means, means}
@@ -20,7 +20,7 @@ use Rattle.type_table.proofs.FilledForms.{names_filled}
 use Rattle.type_table.proofs.LookupLemmas.{fields_counted, name_at}
 use Rattle.pattern_rules.specs.Namings.{numbered_names, form_names, struct_names, variant_names, field_names, found_number, meets}
 use Rattle.pattern_rules.specs.NodeRules.{is_tuple}
-use Rattle.pattern_rules.proofs.SameTypes.{numbers_are_one, both_right}
+use Rattle.pattern_rules.proofs.SameTypes.{numbers_are_one}
 
 numbered_same : (names : Means) (i : ℕ) (fs : List FieldItem) → numbered_names i fs ≡ declared.numbered_names i
     (map (λ f. type_of names true f.type) fs)

@@ -8,7 +8,7 @@ use Rattle.std.proofs.lemmas.List.Quantifiers.{position-Some}
 use Rattle.std.proofs.lemmas.Option.{slice_get-get_or, slice_get-map}
 use Rattle.range_split.proofs.Basics.{either_false}
 use Rattle.match_model.specs.declared.Width.{Width}
-use Rattle.match_model.specs.Types.{MType, ArrayType, MTypes, no_types, more_types, types_list}
+use Rattle.match_model.specs.Types.{MType, ArrayType, MTypes, types_list}
 use Rattle.match_model.specs.Typing.{is_str}
 use Rattle.match_model.specs.Declarations.{MItem, MProgram}
 use Rattle.match_model.specs.RustTypes.{is_type, are_types, is_declared}
