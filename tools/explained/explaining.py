@@ -1,6 +1,6 @@
 """The text of a report beside its file, a second time: in plain Python, from docs/use.md and docs/report.md alone. Nothing about it is proved.
 
-Lines and columns are counted from the decoded text before a place; functions are found by the oracle's tokens.
+Lines and columns are counted from the decoded text before a place; functions and the ends of patterns are found by the oracle's tokens.
 """
 import os
 import re
@@ -9,7 +9,7 @@ import unicodedata
 
 HERE = os.path.dirname(os.path.abspath(__file__))
 sys.path.insert(0, os.path.join(os.path.dirname(HERE), "oracle"))
-from lexing import lex
+from lexing import Token, lex
 
 MOST = 80
 WITNESSES = 8
@@ -23,60 +23,121 @@ def rule_texts():
         return {int(number): text for number, text in re.findall(r'^ *(\d+) => (?:\{\s*)?Some\(\s*"(.*)"', file.read(), re.M)}
 
 
-def function_offsets(data):
-    """Where the functions of a source that lexes begin, by its tokens."""
-    return [begin for begin, _ in functions_with_arms(data)]
-
-
 def functions_with_arms(data):
-    """For each function of a source that lexes, by its tokens: where it begins, and where the `=>` of its arms stand."""
+    """For each function of a source that lexes, by its tokens: from where to where its scrutinee stands, and where the `=>` of its arms do."""
     found, depth, in_header = [], 0, False
     tokens = lex(data)
-    for token, behind in zip(tokens, tokens[1:]):
+    for number, token in enumerate(tokens):
         if token.kind == "mark" and token.value in "([{":
-            in_header = in_header and (depth > 0 or token.value != "{")
+            if in_header and depth == 0 and token.value == "{":
+                in_header = False
+                found.append((scrutinee(tokens[number:]), []))
             depth += 1
         elif token.kind == "mark" and token.value in ")]}":
             depth -= 1
-        elif depth == 0 and not in_header and token.is_word("fn") and behind.kind == "name":
-            found.append((token.start, []))
+        elif depth == 0 and not in_header and token.is_word("fn") and tokens[number + 1].kind == "name":
             in_header = True
         elif depth == 2 and found and not in_header and token.is_mark("=>"):
             found[-1][1].append(token.start)
     return found
 
 
+def scrutinee(tokens):
+    """From where to where the scrutinee stands in a body with these tokens."""
+    end = 2
+    while not tokens[end].is_mark("{"):
+        end += 1
+    return tokens[2].start, tokens[end - 1].end
+
+
+def tokens_at(data, at):
+    """The tokens from a byte on, also from the second half of a `&&`."""
+    for number, token in enumerate(tokens := lex(data)):
+        if token.start == at:
+            return tokens[number:]
+        if token.start < at < token.end and token.value in ("&&", ">>"):
+            return [Token("mark", token.value[1], at, token.end), *tokens[number + 1:]]
+    raise ValueError(f"no token begins at byte {at}")
+
+
+def pattern_at(data, at, whole):
+    """From where to where the pattern or alternative stands that begins at a byte."""
+    depth, end = 0, at
+    for token in tokens_at(data, at):
+        if token.kind == "mark" and token.value in "([{":
+            depth += 1
+        elif token.kind == "mark" and token.value in ")]}":
+            depth -= 1
+            if depth < 0:
+                break
+        elif depth == 0 and (token.is_mark("=>") or token.is_mark(",") or token.is_word("if") or token.is_mark("|") and not whole):
+            break
+        end = token.end
+    return at, end
+
+
+def refused_at(data, refused):
+    """From where to where the file breaks a rule, or None."""
+    at, rule = refused["at"], refused["rule"]
+    if at is None:
+        return None
+    if rule <= 5:
+        return at, at
+    tokens = tokens_at(data, at)
+    if rule == 6:
+        return at, tokens[0].end
+    depth = 0
+    for token in tokens:
+        if token.kind == "mark" and token.value in "([{":
+            depth += 1
+        elif token.kind == "mark" and token.value in ")]}":
+            depth -= 1
+        elif depth == 0 and token.kind == "name":
+            return token.start, token.end
+    raise ValueError("an item has no name")
+
+
+def broken_at(data, refused):
+    """From where to where a function breaks a rule, or None."""
+    at = refused["at"]
+    if at is None:
+        return None
+    if refused["rule"] == 34:
+        return at, tokens_at(data, at)[1].end
+    return pattern_at(data, at, False)
+
+
 def findings_of(data, report):
-    """(place or None, whether it breaks a build, first line, notes by a function of the text's name)."""
+    """((from, to) or None, whether it breaks a build, first line, notes by a function of the text's name)."""
     rules = rule_texts()
     if "functions" not in report:
         refused = report["refused"]
-        return [(refused["at"], True, f"error: the file breaks rule {refused['rule']} ({refused['name']})",
+        return [(refused_at(data, refused), True, f"error: the file breaks rule {refused['rule']} ({refused['name']})",
                  lambda name: [f"note: {rules[refused['rule']]}"])]
     found = []
-    for entry, begin in zip(report["functions"], function_offsets(data), strict=True):
-        found.extend(function_findings(data, entry, begin, rules))
-    found.sort(key=lambda finding: finding[0] or 0)
+    for entry, (head, _) in zip(report["functions"], functions_with_arms(data), strict=True):
+        found.extend(function_findings(data, entry, head, rules))
+    found.sort(key=lambda finding: finding[0][0] if finding[0] else 0)
     return found
 
 
-def function_findings(data, entry, begin, rules):
+def function_findings(data, entry, head, rules):
     """The findings of a function, in the order of its entry."""
     function = entry["name"]
     if "refused" in entry:
         refused = entry["refused"]
-        return [(refused["at"], True, f"error: `{function}` breaks rule {refused['rule']} ({refused['name']})",
+        return [(broken_at(data, refused), True, f"error: `{function}` breaks rule {refused['rule']} ({refused['name']})",
                  lambda name: [f"note: {rules[refused['rule']]}"])]
     found = []
     if not entry["exhaustive"]:
-        found.append((begin, True, f"error: the match of `{function}` is not exhaustive",
+        found.append((head, True, f"error: the match of `{function}` is not exhaustive",
                       lambda name: missing([witness["text"] for witness in entry["witnesses"]])))
     for dead in entry["unreachable"]:
         kind = "arm" if dead["whole"] else "alternative"
-        found.append((dead["at"], False, f"warning: unreachable {kind} in the match of `{function}`",
+        found.append((pattern_at(data, dead["at"], dead["whole"]), False, f"warning: unreachable {kind} in the match of `{function}`",
                       lambda name: ["note: no value comes to it"]))
     for overlap in entry["overlaps"]:
-        found.append((overlap["at"], False, f"warning: ranges overlap in the match of `{function}`",
+        found.append((pattern_at(data, overlap["at"], False), False, f"warning: ranges overlap in the match of `{function}`",
                       lambda name, overlap=overlap: [overlap_note(data, name, overlap)]))
     return found
 
@@ -111,15 +172,17 @@ def columns(text):
                for char in text)
 
 
-def frame(data, name, at):
-    """The place, its line and a caret."""
+def frame(data, name, at, to):
+    """The place, its line and carets."""
     line, column = place_of(data, at)
     before = data[:at].decode("utf-8").removeprefix("\ufeff").split("\n")[-1]
     behind = data[at:].decode("utf-8", "replace").split("\n")[0]
+    marked = data[at:to].decode("utf-8").split("\n")[0]
     left = ("..." if len(before) > MOST else "") + shown(before[-MOST:])
     right = shown(behind[:MOST]) + ("..." if len(behind) > MOST else "")
     pad = " " * len(str(line))
-    return f"{pad}--> {name}:{line}:{column}\n{pad} |\n{line} | {left}{right}\n{pad} | {' ' * columns(left)}^\n"
+    carets = "^" * max(columns(shown(marked[:MOST])), 1)
+    return f"{pad}--> {name}:{line}:{column}\n{pad} |\n{line} | {left}{right}\n{pad} | {' ' * columns(left)}{carets}\n"
 
 
 def explained(data, name, report):
@@ -128,8 +191,8 @@ def explained(data, name, report):
     if not found:
         return "", False
     text = ""
-    for at, _, first, notes in found:
-        text += first + "\n" + (f"--> {name}\n" if at is None else frame(data, name, at))
+    for span, _, first, notes in found:
+        text += first + "\n" + (f"--> {name}\n" if span is None else frame(data, name, *span))
         text += "".join(f"  = {note}\n" for note in notes(name)) + "\n"
     errors = sum(breaks for _, breaks, _, _ in found)
     return f"{text}errors: {errors}, warnings: {len(found) - errors}\n", errors > 0

@@ -1,3 +1,3 @@
-pub mod Code
-pub mod Whites
-pub mod Places
+pub mod Pieces
+pub mod Bodies
+pub mod Spans

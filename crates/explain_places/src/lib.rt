@@ -1,15 +1,16 @@
-//! Where the functions of a source stand, and the arms of their matches, without reading the source as items.
+//! Where things stand in a source, by the tokens of the checker's own lexer.
 //!
-//! A report tells the functions of a file by their order and their arms by numbers. A reader of reports that knows no
-//! grammar finds them by three marks alone: comments and literals are passed over, brackets are counted, and then each
-//! `fn` with a name outside all brackets begins a function, the next `{` outside all brackets its body, before which no
-//! other function begins, and each `=>` within two brackets ends the pattern of an arm (`specs/Places.antt`).
-//! Each is one walk over the text, byte by byte (`specs/Code.antt`), so the time is linear in the text.
+//! A report names places by bytes: where an item, an arm's pattern, an alternative or a range begins. People want to
+//! see all of it. [`source_pieces`] gives the tokens of a source, each with how many brackets are open around it
+//! (`specs/Pieces.antt`). [`function_bodies`] finds what the match of each function is on, and
+//! [`arm_arrows`] where the patterns of arms end (`specs/Bodies.antt`). [`pattern_at`], [`token_at`], [`pair_at`] and [`name_at`] tell from where to where
+//! that stands which begins at a byte (`specs/Spans.antt`). A byte at which no token begins has no place.
 #![tactic(auto)]
 
-mod code;
-mod places;
-mod scan;
-mod whites;
+mod bodies;
+mod pieces;
+mod spans;
 
-pub use places::{arm_places, body_places, function_places};
+pub use bodies::{Body, arm_arrows, function_bodies};
+pub use pieces::{Class, Piece, source_pieces};
+pub use spans::{Place, Span, name_at, pair_at, pattern_at, token_at};

@@ -1,12 +1,12 @@
 -- What is shown of a line.
-use Rattle.std.proofs.Common.{◌≡◌, ◌∙◌, ap, sym, ℕ, ◌+◌, ◌-◌, ◌<◌, ◌≤◌, List, [], ◌++◌, length, take, drop, get_or, Bool, true, false, not, ◌&&◌, nat_lt, nat_eq, arith, codes}
-use Rattle.std.proofs.lemmas.Bool.{lt-ltb, le-ltb}
-use Rattle.std.proofs.lemmas.List.{length-take-le, length-drop, append-nil}
+use Rattle.std.proofs.Common.{◌≡◌, ◌∙◌, ap, sym, ℕ, ◌+◌, ◌-◌, ◌<◌, ◌≤◌, List, [], ◌++◌, length, take, drop, get_or, max, min, Bool, true, false, not, ◌&&◌, nat_lt, nat_eq, arith, codes}
+use Rattle.std.proofs.lemmas.Bool.{lt-ltb, le-ltb, cases_lt}
+use Rattle.std.proofs.lemmas.List.{length-take-le, length-drop, append-nil, take-take, take_all, length-take}
 use Rattle.std.specs.Str.Lossy.{utf8_lossy}
 use Rattle.explain_lines.specs.Lines.{spot_at, shown_before, shown_after}
 use Rattle.explain_lines.specs.Windows.{IsPart}
 use Rattle.explain_lines.specs.declared.spots.Spot.{Spot}
-use Rattle.explain_text.specs.Shown.{most, shown_bytes, dots_if, left_part, right_part, is_cut_behind}
+use Rattle.explain_text.specs.Shown.{most, shown_bytes, dots_if, left_part, right_part, marked_part, is_cut_behind}
 
 part_length : (text : List ℕ) (from to : ℕ) (bytes : List ℕ) → IsPart text from to bytes → length bytes ≡ to - from
 part_length text from to bytes p =
@@ -64,3 +64,25 @@ unfolding right_part
 right_whole text at to shown p whole is =
     is ∙ ap (λ b. utf8_lossy (shown_bytes b)) p.part ∙ sym (append-nil (utf8_lossy (shown_bytes (shown_after most text at))))
     ∙ ap (λ t. utf8_lossy (shown_bytes (shown_after most text at)) ++ dots_if t) (sym whole ∙ ap (is_cut_behind text) (ends_at text at to p))
+
+-- the first of the first
+take_both : (m n : ℕ) (l : List ℕ) → take m (take n l) ≡ take (min m n) l
+take_both m n l = go (cases_lt n m)
+  where
+    go : (n < m) ⊎ (m ≤ n) → take m (take n l) ≡ take (min m n) l
+    go (inl lt) =
+        let less : n ≡ min m n = omega arith in
+        take_all m (take n l) (omega (arith, length-take n l)) ∙ ap (λ k. take k l) less
+    go (inr le) =
+        let less : m ≡ min m n = omega arith in
+        take-take m n l le ∙ ap (λ k. take k l) less
+
+-- what is marked of what is shown
+pub marked_is : (text : List ℕ) (at t to end : ℕ) (shown : List ℕ) → IsPart text at t (shown_after most text at) → end ≡ max (min t to) at →
+    shown ≡ utf8_lossy (shown_bytes (take (end - at) (drop at text))) → shown ≡ marked_part text at to
+unfolding marked_part
+marked_is text at t to end shown p e is =
+    let ordered = p.ordered in
+    let wide : end - at ≡ min (to - at) (t - at) = omega (arith, e, ordered) in
+    is ∙ ap (λ n. utf8_lossy (shown_bytes (take n (drop at text)))) wide
+    ∙ ap (λ b. utf8_lossy (shown_bytes b)) (sym (take_both (to - at) (t - at) (drop at text)) ∙ ap (take (to - at)) p.part)

@@ -1,20 +1,26 @@
 -- The whole text, piece by piece.
-use Rattle.std.proofs.Common.{◌≡◌, ◌∙◌, ap, sym, subst, refl, ℕ, ◌-◌, ◌+◌, ◌<◌, ◌≤◌, List, [], ◌∷◌, ◌++◌, length, drop, take, map, get_or, Bool, true, false, cond, nat_lt, Option, Some, None, arith, min, Bor, append_assoc}
+use Rattle.std.proofs.Common.{◌≡◌, ◌∙◌, ap, sym, subst, refl, ℕ, ◌-◌, ◌+◌, ◌<◌, ◌≤◌, List, [], ◌∷◌, ◌++◌, length, drop, take, map, get_or, Bool, true, false, cond, nat_lt, Result, Ok, Err, arith, min, Bor, append_assoc}
 use Rattle.std.specs.List.{All, list_all, flat_map}
 use Rattle.std.proofs.lemmas.List.{length-map, get_or-map, drop_more, take_rest}
 use Rattle.std.proofs.lemmas.List.Sums.{count_by_more_yes, count_by_more_no}
 use Rattle.explain_text.specs.Sources.{mark_length}
 use Rattle.explain_text.specs.Findings.{FindingTree, finding_view, kind_view}
 use Rattle.explain_text.specs.Notes.{witness_note, more_note, missing_note}
-use Rattle.explain_text.specs.Texts.{IsInside, is_error, is_inside, error_count, whole_text, finding_text, counts_text, outcome_of_findings, Told, NotInFile}
+use Rattle.explain_text.specs.Texts.{IsInside, is_error, is_inside, error_count, whole_text, finding_text, counts_text, outcome_of_findings, Outcome, Told, NotInFile, Answers, AnswersBy}
 use Rattle.explain_text.specs.declared.findings.Finding.{Finding}
+use Rattle.explain_places.specs.declared.pieces.Piece.{Piece}
+use Rattle.explain_places.specs.declared.spans.Place.TheVariants as places
+use Rattle.explain_places.specs.Pieces.{ArePieces}
+use Rattle.explain_text.specs.declared.explaining.Explained.{Explained}
+use Rattle.explain_text.specs.declared.explaining.Fault.{Fault}
+use Rattle.explain_text.specs.declared.explaining.Fault.TheVariants.{NoReport, NoPlace, NoMemory}
 use Rattle.explain_text.specs.declared.findings.Kind.TheVariants as kinds
 use Rattle.explain_lines.proofs.Adding.{two_added}
 use Rattle.explain_text.proofs.Inside.{all_inside, some_text, first_mapped}
 
 -- what an index past the end would read
 abbrev pub no_finding : Finding
-no_finding = record { at = None; kind = kinds.Missing (record { ref_ptr = (0, 0); now = [] }) (record { ref_ptr = (0, 0); now = [] }) }
+no_finding = record { place = places.Nowhere; kind = kinds.Missing (record { ref_ptr = (0, 0); now = [] }) (record { ref_ptr = (0, 0); now = [] }) }
 
 same_place : (fs : List Finding) (i : ℕ) (d : Finding) → i < length fs → get_or (map finding_view fs) i (finding_view d) ≡ finding_view (get_or fs i d)
 same_place fs i d lt = get_or-map finding_view fs i d (finding_view d) lt
@@ -86,3 +92,10 @@ told name file fs mark text n all m t count =
     ∙ ap (λ k. Told (whole_text name (drop k file) k fs) (nat_lt 0 (error_count fs))) (sym m)
     ∙ ap (λ x. Told x (nat_lt 0 (error_count fs))) (sym (t ∙ ap (λ x. whole_text name x mark fs) (take_rest file mark)))
     ∙ ap (λ k. Told text (nat_lt 0 k)) (sym count)
+
+-- an answer by the tokens of the file
+pub answered : (file : List ℕ) (ps : List Piece) (outcome : List Piece → Outcome) (r : Result Explained Fault) → ArePieces file ps → Answers (outcome ps) r → AnswersBy file outcome r
+answered file ps outcome (Ok e) p a = (ps, p, a)
+answered file ps outcome (Err NoReport) p a = (ps, p, a)
+answered file ps outcome (Err NoPlace) p a = (ps, p, a)
+answered file ps outcome (Err NoMemory) p a = tt

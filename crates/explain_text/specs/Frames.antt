@@ -1,8 +1,9 @@
 -- The place of a finding with its line. The text is the file behind its byte order mark, and places are of that text.
-use Rattle.std.specs.Prelude.{ℕ, List, [], ◌∷◌, ◌++◌, length, replicate, codes, decimal, chars, Bool, false}
+use Rattle.std.specs.Prelude.{ℕ, ◌-◌, max, List, [], ◌∷◌, ◌++◌, length, replicate, codes, decimal, chars, Bool, false}
 use Rattle.unicode_width.specs.Width.{str_width}
 use Rattle.explain_lines.specs.Lines.{spot_at}
-use Rattle.explain_text.specs.Shown.{left_part, right_part}
+use Rattle.explain_places.specs.declared.spans.Span.{Span}
+use Rattle.explain_text.specs.Shown.{left_part, right_part, marked_part}
 
 -- the name of the file, the line and the column
 unfoldable pub place_text : List ℕ → List ℕ → ℕ → List ℕ
@@ -22,13 +23,18 @@ arrow_text pad name text at =
 unfoldable pub source_text : ℕ → List ℕ → List ℕ → List ℕ
 source_text line left right = decimal line ++ (codes " | " ++ (left ++ (right ++ codes "\n")))
 
--- the caret below the place, behind what is shown before it
-unfoldable pub caret_text : List ℕ → List ℕ → List ℕ
-caret_text pad left = pad ++ (codes " | " ++ (replicate (str_width false (chars left)) 32 ++ codes "^\n"))
+-- carets below what is marked, which stands behind what is shown before it; at least one
+unfoldable pub caret_text : List ℕ → List ℕ → List ℕ → List ℕ
+caret_text pad left marked =
+    pad ++ (codes " | " ++ (replicate (str_width false (chars left)) 32 ++ (replicate (max (str_width false (chars marked)) 1) 94 ++ codes "\n")))
 
--- the place, its line, and a caret
-unfoldable pub frame_text : List ℕ → List ℕ → ℕ → List ℕ
-frame_text name text at =
+-- the place of what stands from one byte to another, its line, and carets
+unfoldable pub frame_text : List ℕ → List ℕ → ℕ → ℕ → List ℕ
+frame_text name text at to =
     arrow_text (gutter (spot_at text at).line) name text at
     ++ (source_text (spot_at text at).line (left_part text at) (right_part text at)
-    ++ caret_text (gutter (spot_at text at).line) (left_part text at))
+    ++ caret_text (gutter (spot_at text at).line) (left_part text at) (marked_part text at to))
+
+-- the same of a span of the file, whose byte order mark has so many bytes
+abbrev pub span_text : List ℕ → List ℕ → ℕ → Span → List ℕ
+span_text name text mark s = frame_text name text (s.from - mark) (s.to - mark)

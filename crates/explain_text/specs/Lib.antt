@@ -1,6 +1,6 @@
+pub mod Sources
 pub mod Findings
 pub mod Order
-pub mod Sources
 pub mod Shown
 pub mod Frames
 pub mod Notes

@@ -4,6 +4,9 @@ use Rattle.std.specs.List.{flat_map}
 use Rattle.rule_texts.specs.Rules.{text_of}
 use Rattle.explain_text.specs.Findings.{KindTree, OfMissing, OfUnreached, OfOverlap, OfRefused, OfFileRefused}
 use Rattle.explain_text.specs.Frames.{place_text}
+use Rattle.explain_text.specs.Order.{start_of}
+use Rattle.explain_places.specs.declared.spans.Place.{Place}
+use Rattle.explain_places.specs.declared.spans.Place.TheVariants.{Nowhere}
 
 -- a phrase around a name
 unfoldable pub quoted_text : List ℕ → List ℕ → List ℕ → List ℕ
@@ -57,18 +60,18 @@ words_or None = codes "no rule has this number"
 abbrev pub rule_words : ℕ → List ℕ
 rule_words rule = words_or (text_of rule)
 
--- the place of the other range, and 0 where there is none
-abbrev pub other_of : KindTree → ℕ
-other_of (OfMissing function witnesses) = 0
-other_of (OfUnreached function whole) = 0
+-- the place of the other range, and none where there is no other
+abbrev pub other_of : KindTree → Place
+other_of (OfMissing function witnesses) = Nowhere
+other_of (OfUnreached function whole) = Nowhere
 other_of (OfOverlap function other value) = other
-other_of (OfRefused function rule name) = 0
-other_of (OfFileRefused rule name) = 0
+other_of (OfRefused function rule name) = Nowhere
+other_of (OfFileRefused rule name) = Nowhere
 
 -- the notes on a finding; the text is the file behind its byte order mark, which has so many bytes
 abbrev pub note_text : List ℕ → List ℕ → ℕ → KindTree → List ℕ
 note_text name text mark (OfMissing function witnesses) = missing_note witnesses
 note_text name text mark (OfUnreached function whole) = codes "  = note: no value comes to it\n"
-note_text name text mark (OfOverlap function other value) = overlap_note name text (other - mark) value
+note_text name text mark (OfOverlap function other value) = overlap_note name text (start_of other - mark) value
 note_text name text mark (OfRefused function rule rule_name) = quoted_text (codes "  = note: ") (rule_words rule) (codes "\n")
 note_text name text mark (OfFileRefused rule rule_name) = quoted_text (codes "  = note: ") (rule_words rule) (codes "\n")

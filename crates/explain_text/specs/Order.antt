@@ -1,10 +1,18 @@
 -- The order of findings.
-use Rattle.std.specs.Prelude.{ℕ, List, [], ◌∷◌, nat_le, if◌then◌else◌, unwrap_or}
+use Rattle.std.specs.Prelude.{ℕ, List, [], ◌∷◌, nat_le, if◌then◌else◌}
+use Rattle.explain_places.specs.declared.spans.Place.{Place}
+use Rattle.explain_places.specs.declared.spans.Place.TheVariants.{Nowhere, There, Lost}
 use Rattle.explain_text.specs.Findings.{FindingTree}
 
--- where a finding stands in the order: its place, or the file's begin where it has none
+-- the byte with which a place begins, or the file's begin where there is none
+abbrev pub start_of : Place → ℕ
+start_of (There s) = s.from
+start_of Nowhere = 0
+start_of Lost = 0
+
+-- where a finding stands in the order
 abbrev pub place_of : FindingTree → ℕ
-place_of f = unwrap_or f.at 0
+place_of f = start_of f.place
 
 -- puts a finding in before the first one whose place is no less
 abbrev pub put_in : FindingTree → List FindingTree → List FindingTree

@@ -1,5 +1,5 @@
 -- What is shown of a line around a place.
-use Rattle.std.specs.Prelude.{ℕ, ◌+◌, ◌-◌, ◌==◌, ◌||◌, ◌&&◌, List, [], ◌∷◌, ◌++◌, length, slice_index, Bool, not, nat_lt, nat_le, if◌then◌else◌, codes}
+use Rattle.std.specs.Prelude.{ℕ, ◌+◌, ◌-◌, ◌==◌, ◌||◌, ◌&&◌, List, [], ◌∷◌, ◌++◌, length, take, slice_index, Bool, not, nat_lt, nat_le, if◌then◌else◌, codes}
 use Rattle.std.specs.List.{flat_map}
 use Rattle.std.specs.Str.Lossy.{utf8_lossy}
 use Rattle.explain_lines.specs.Lines.{shown_before, shown_after, spot_at}
@@ -37,3 +37,7 @@ is_cut_behind text to = nat_lt to (length text) && not (slice_index text to == 1
 unfoldable pub right_part : List ℕ → ℕ → List ℕ
 right_part text at =
     utf8_lossy (shown_bytes (shown_after most text at)) ++ dots_if (is_cut_behind text (at + length (shown_after most text at)))
+
+-- what is shown of that which stands from one byte to another on the line of the first
+unfoldable pub marked_part : List ℕ → ℕ → ℕ → List ℕ
+marked_part text at to = utf8_lossy (shown_bytes (take (to - at) (shown_after most text at)))

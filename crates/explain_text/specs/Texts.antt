@@ -1,14 +1,17 @@
 -- The whole text.
-use Rattle.std.specs.Prelude.{◌≡◌, ◌≤◌, ℕ, ◌-◌, ◌==◌, ◌&&◌, List, [], ◌∷◌, ◌++◌, length, drop, Bool, true, false, if◌then◌else◌, Option, Some, None, unwrap_or, Result, Ok, Err, ⊤, codes, decimal, count_by, string_bytes, nat_lt}
+use Rattle.std.specs.Prelude.{◌≡◌, ◌≤◌, ℕ, ◌-◌, ◌&&◌, List, [], ◌∷◌, ◌++◌, length, drop, Bool, true, false, if◌then◌else◌, Option, Some, None, Result, Ok, Err, ⊤, codes, decimal, count_by, string_bytes, nat_lt, nat_le}
 use Rattle.std.specs.List.{flat_map, list_all}
 use Rattle.serde_json.specs.Data.{Data}
 use Rattle.explain_report.specs.Records.{ReportTree}
 use Rattle.explain_report.specs.Reading.{report_of}
-use Rattle.explain_places.specs.Places.{functions_of}
+use Rattle.explain_places.specs.declared.pieces.Piece.{Piece}
+use Rattle.explain_places.specs.declared.spans.Place.{Place}
+use Rattle.explain_places.specs.declared.spans.Place.TheVariants.{Nowhere, There, Lost}
+use Rattle.explain_places.specs.Pieces.{ArePieces}
 use Rattle.explain_text.specs.Findings.{KindTree, OfMissing, OfUnreached, OfOverlap, OfRefused, OfFileRefused, FindingTree, report_findings}
-use Rattle.explain_text.specs.Order.{in_file_order}
-use Rattle.explain_text.specs.Sources.{mark_length, is_place}
-use Rattle.explain_text.specs.Frames.{frame_text}
+use Rattle.explain_text.specs.Order.{in_file_order, start_of}
+use Rattle.explain_text.specs.Sources.{mark_length}
+use Rattle.explain_text.specs.Frames.{span_text}
 use Rattle.explain_text.specs.Notes.{heading_text, note_text, other_of}
 use Rattle.explain_text.specs.declared.explaining.Explained.{Explained}
 use Rattle.explain_text.specs.declared.explaining.Fault.{Fault}
@@ -22,45 +25,31 @@ is_error (OfOverlap function other value) = false
 is_error (OfRefused function rule name) = true
 is_error (OfFileRefused rule name) = true
 
--- what a finding names besides its place is in the file
-abbrev pub is_kind_inside : List ℕ → KindTree → Bool
-is_kind_inside file (OfMissing function witnesses) = true
-is_kind_inside file (OfUnreached function whole) = true
-is_kind_inside file (OfOverlap function other value) = is_place file other false
-is_kind_inside file (OfRefused function rule name) = true
-is_kind_inside file (OfFileRefused rule name) = true
-
--- any byte of the file may be the place: the first one that is no UTF-8
-abbrev pub is_any_byte : KindTree → Bool
-is_any_byte (OfMissing function witnesses) = false
-is_any_byte (OfUnreached function whole) = false
-is_any_byte (OfOverlap function other value) = false
-is_any_byte (OfRefused function rule name) = false
-is_any_byte (OfFileRefused rule name) = rule == 1
-
--- the place of a finding of this kind is in the file, where it has one
-abbrev pub is_place_inside : List ℕ → KindTree → Option ℕ → Bool
-is_place_inside file kind (Some at) = is_place file at (is_any_byte kind) && is_kind_inside file kind
-is_place_inside file kind None = is_kind_inside file kind
+-- a place is in the file, or none is told
+abbrev pub is_found : List ℕ → Place → Bool
+is_found file (There s) = nat_le s.from (length file)
+is_found file Nowhere = true
+is_found file Lost = false
 
 -- the places of a finding are in the file
 abbrev pub is_inside : List ℕ → FindingTree → Bool
-is_inside file f = is_place_inside file f.kind f.at
+is_inside file f = is_found file f.place && is_found file (other_of f.kind)
 
 -- the places of a finding are in a text of this length, which stands behind a byte order mark of so many bytes
 pub record IsInside (long mark : ℕ) (f : FindingTree) : Type 0 where
-  pub place : unwrap_or f.at 0 - mark ≤ long
-  pub other : other_of f.kind - mark ≤ long
+  pub place : start_of f.place - mark ≤ long
+  pub other : start_of (other_of f.kind) - mark ≤ long
 
 -- where a finding stands: its place and its line, or the file alone
-abbrev pub position_text : List ℕ → List ℕ → ℕ → Option ℕ → List ℕ
-position_text name text mark (Some at) = frame_text name text (at - mark)
-position_text name text mark None = codes "--> " ++ (name ++ codes "\n")
+abbrev pub position_text : List ℕ → List ℕ → ℕ → Place → List ℕ
+position_text name text mark (There s) = span_text name text mark s
+position_text name text mark Nowhere = codes "--> " ++ (name ++ codes "\n")
+position_text name text mark Lost = codes "--> " ++ (name ++ codes "\n")
 
 -- a finding
 unfoldable pub finding_text : List ℕ → List ℕ → ℕ → FindingTree → List ℕ
 finding_text name text mark f =
-    heading_text f.kind ++ (position_text name text mark f.at ++ (note_text name text mark f.kind ++ codes "\n"))
+    heading_text f.kind ++ (position_text name text mark f.place ++ (note_text name text mark f.kind ++ codes "\n"))
 
 -- how many findings break a build
 abbrev pub error_count : List FindingTree → ℕ
@@ -83,8 +72,8 @@ pub data Outcome : Type 0 where
   NotInFile : Outcome
 
 -- the findings of a report on the file, in the order of their places
-abbrev pub findings_of : List ℕ → ReportTree → List FindingTree
-findings_of file report = in_file_order (report_findings (functions_of file) report)
+abbrev pub findings_of : List ℕ → List Piece → ReportTree → List FindingTree
+findings_of file ps report = in_file_order (report_findings file ps report)
 
 -- what becomes of these findings
 abbrev pub outcome_of_findings : List ℕ → List ℕ → List FindingTree → Outcome
@@ -92,14 +81,14 @@ outcome_of_findings name file fs =
     if list_all (is_inside file) fs then Told (whole_text name (drop (mark_length file) file) (mark_length file) fs) (nat_lt 0 (error_count fs)) else NotInFile
 
 -- what becomes of a report, where it is one
-abbrev pub outcome_of_report : List ℕ → List ℕ → Option ReportTree → Outcome
-outcome_of_report name file None = NotReport
-outcome_of_report name file (Some report) = outcome_of_findings name file (findings_of file report)
+abbrev pub outcome_of_report : List ℕ → List ℕ → List Piece → Option ReportTree → Outcome
+outcome_of_report name file ps None = NotReport
+outcome_of_report name file ps (Some report) = outcome_of_findings name file (findings_of file ps report)
 
--- what becomes of a JSON value, where there is one, beside the file of this name
-unfoldable pub outcome_of : List ℕ → List ℕ → Option Data → Outcome
-outcome_of name file None = NotReport
-outcome_of name file (Some d) = outcome_of_report name file (report_of d)
+-- what becomes of a JSON value, where there is one, beside the file of this name, which has these tokens
+unfoldable pub outcome_of : List ℕ → List ℕ → Option Data → List Piece → Outcome
+outcome_of name file None ps = NotReport
+outcome_of name file (Some d) ps = outcome_of_report name file ps (report_of d)
 
 -- the answer is this outcome; memory may be wanted and refused
 abbrev pub Answers : Outcome → Result Explained Fault → Type 0
@@ -107,3 +96,10 @@ Answers outcome (Ok e) = outcome ≡ Told (string_bytes e.text) e.breaks
 Answers outcome (Err NoReport) = outcome ≡ NotReport
 Answers outcome (Err NoPlace) = outcome ≡ NotInFile
 Answers outcome (Err NoMemory) = ⊤
+
+-- the same by the tokens of the file
+abbrev pub AnswersBy : List ℕ → (List Piece → Outcome) → Result Explained Fault → Type 0
+AnswersBy file outcome (Ok e) = (ps : List Piece) × ArePieces file ps × (outcome ps ≡ Told (string_bytes e.text) e.breaks)
+AnswersBy file outcome (Err NoReport) = (ps : List Piece) × ArePieces file ps × (outcome ps ≡ NotReport)
+AnswersBy file outcome (Err NoPlace) = (ps : List Piece) × ArePieces file ps × (outcome ps ≡ NotInFile)
+AnswersBy file outcome (Err NoMemory) = ⊤

@@ -5,15 +5,16 @@ ghost use Rattle.serde_json.specs.View.{view};
 ghost use Rattle.explain_report.specs.Records.{report_view};
 ghost use Rattle.explain_report.specs.Reading.{report_of};
 ghost use Rattle.explain_report.specs.Skimming.{read_skimmed};
+ghost use Rattle.explain_places.specs.Spans.{Rise};
 ghost use Rattle.explain_text.specs.Findings.{finding_view};
-ghost use Rattle.explain_text.specs.Texts.{Answers, outcome_of, outcome_of_report, outcome_of_findings, findings_of};
+ghost use Rattle.explain_text.specs.Texts.{Answers, AnswersBy, outcome_of, outcome_of_report, outcome_of_findings, findings_of};
 
-use crate::findings::{Finding, report_findings};
+use crate::findings::{Finding, Site, report_findings};
 use crate::order::in_file_order;
 use crate::source::{Source, mark_length};
 use crate::texts::{are_inside, error_count, whole_text};
 use explain_lines::checkpoints;
-use explain_places::function_places;
+use explain_places::{Piece, function_bodies, source_pieces};
 use explain_report::{ReadFault, Report, report_of, value_of};
 use no_memory::NoMemory;
 use serde_json::Value;
@@ -24,7 +25,7 @@ use std::alloc::{AllocError, Global};
 pub enum Fault {
     /// The JSON is no report: no JSON, or of another shape.
     NoReport,
-    /// A place of the report is behind the end of the file, or inside a character.
+    /// No token of the file begins at a place of the report, or the place is inside a character.
     NoPlace,
     /// Memory was wanted and refused.
     NoMemory,
@@ -90,12 +91,20 @@ fn report_explained(
     alloc: Global,
     name: &str,
     file: &[u8],
+    pieces: &[Piece],
     report: &Report<'_>,
 ) -> Result<Explained, Fault>
-    ensures { Answers (outcome_of_findings name.now file.now (findings_of file.now (report_view report.now))) result }
+    requires { Rise pieces.now }
+    ensures { Answers (outcome_of_findings name.now file.now (findings_of file.now pieces.now (report_view report.now)))
+        result }
 {
-    let places = function_places(alloc, file)?;
-    let found = report_findings(alloc, places.as_slice(), report)?;
+    let bodies = function_bodies(alloc, pieces)?;
+    let site = Site {
+        file,
+        pieces,
+        bodies: bodies.as_slice(),
+    };
+    let found = report_findings(alloc, &site, report)?;
     let findings = in_file_order(found)?;
     findings_explained(alloc, name, file, findings.as_slice())
 }
@@ -105,12 +114,33 @@ fn value_explained(
     alloc: Global,
     name: &str,
     file: &[u8],
+    pieces: &[Piece],
     value: &Value,
 ) -> Result<Explained, Fault>
-    ensures { Answers (outcome_of_report name.now file.now (report_of (view value.now))) result }
+    requires { Rise pieces.now }
+    ensures { Answers (outcome_of_report name.now file.now pieces.now (report_of (view value.now))) result }
 {
     match report_of(alloc, value) {
-        Ok(report) => report_explained(alloc, name, file, &report),
+        Ok(report) => report_explained(alloc, name, file, pieces, &report),
+        Err(ReadFault::NoReport) => Err(Fault::NoReport),
+        Err(ReadFault::NoMemory) => Err(Fault::NoMemory),
+    }
+}
+
+// The text of a report in JSON, beside a file with these tokens.
+#[tactic(auto, unfolding(crate::specs::Texts::outcome_of))]
+fn json_explained(
+    alloc: Global,
+    name: &str,
+    file: &[u8],
+    pieces: &[Piece],
+    json: &str,
+) -> Result<Explained, Fault>
+    requires { Rise pieces.now }
+    ensures { Answers (outcome_of name.now file.now (read_skimmed json.now) pieces.now) result }
+{
+    match value_of(alloc, json) {
+        Ok(value) => value_explained(alloc, name, file, pieces, &value),
         Err(ReadFault::NoReport) => Err(Fault::NoReport),
         Err(ReadFault::NoMemory) => Err(Fault::NoMemory),
     }
@@ -120,13 +150,9 @@ fn value_explained(
 ///
 /// It is told by the JSON and the file alone. Any JSON and any file may be given; what stands deeper in the JSON than any
 /// key of a report that is shown is passed over (`explain_report::value_of`).
-#[tactic(auto, unfolding(crate::specs::Texts::outcome_of))]
 pub fn explain(alloc: Global, name: &str, file: &[u8], json: &str) -> Result<Explained, Fault>
-    ensures { Answers (outcome_of name.now file.now (read_skimmed json.now)) result }
+    ensures { AnswersBy file.now (outcome_of name.now file.now (read_skimmed json.now)) result }
 {
-    match value_of(alloc, json) {
-        Ok(value) => value_explained(alloc, name, file, &value),
-        Err(ReadFault::NoReport) => Err(Fault::NoReport),
-        Err(ReadFault::NoMemory) => Err(Fault::NoMemory),
-    }
+    let pieces = source_pieces(alloc, file)?;
+    json_explained(alloc, name, file, pieces.as_slice(), json)
 }

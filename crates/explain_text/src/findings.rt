@@ -1,8 +1,12 @@
 // The findings of a report.
-ghost use Rattle.std.specs.Prelude.{◌≡◌, ◌++◌, ◌∷◌, [], OnOk, IfOk, map, slice_get};
+ghost use Rattle.std.specs.Prelude.{◌≡◌, ◌++◌, ◌∷◌, [], OnOk, IfOk, map};
 ghost use Rattle.explain_report.specs.Records.{judged_view, refused_view, function_view, report_view, overlap_view};
-ghost use Rattle.explain_text.specs.Findings.{finding_view, unreached_finding, overlap_finding, missing_findings, function_findings, functions_findings, report_findings, refused_finding};
+ghost use Rattle.explain_places.specs.Bodies.{bodies_of};
+ghost use Rattle.explain_places.specs.Spans.{Rise};
+ghost use Rattle.explain_text.specs.Findings.{finding_view, scrutinee_place, broken_place, byte_place, file_broken_place, unreached_finding, overlap_finding, missing_findings, function_findings, functions_findings, report_findings, refused_finding};
 
+use crate::source::is_place;
+use explain_places::{Body, Piece, Place, Span, name_at, pair_at, pattern_at, token_at};
 use explain_report::{Function, Judged, Overlap, Refused, Report, Unreached, Verdict};
 use std::alloc::{AllocError, Global};
 
@@ -14,7 +18,7 @@ pub(crate) enum Kind<'r, 'a> {
         function: &'a str,
         witnesses: &'r [&'a str],
     },
-    /// No value comes to an arm, or to an alternative.
+    /// No value reaches an arm, or an alternative.
     Unreached {
         function: &'a str,
         whole: bool,
@@ -22,7 +26,7 @@ pub(crate) enum Kind<'r, 'a> {
     /// Two ranges have one number in common; the place of the other one.
     Overlap {
         function: &'a str,
-        other: u64,
+        other: Place,
         value: &'a str,
     },
     /// A function breaks a rule.
@@ -38,25 +42,35 @@ pub(crate) enum Kind<'r, 'a> {
     },
 }
 
-/// A finding, and its place: a byte offset in the file, where it has one.
+/// A finding, and its place.
 #[derive(Clone, Copy, Debug)]
 pub(crate) struct Finding<'r, 'a> {
-    pub at: Option<u64>,
+    pub place: Place,
     pub kind: Kind<'r, 'a>,
 }
 
-// Adds the arms and alternatives to which no value comes.
+/// A file: its bytes, its tokens, and the bodies of its functions.
+#[derive(Clone, Copy, Debug)]
+pub(crate) struct Site<'s> {
+    pub file: &'s [u8],
+    pub pieces: &'s [Piece],
+    pub bodies: &'s [Body],
+}
+
+// Adds the arms and alternatives that no value reaches.
 fn add_unreached<'r, 'a>(
     found: &mut Vec<Finding<'r, 'a>>,
+    pieces: &[Piece],
     function: &'a str,
     all: &[Unreached],
 ) -> Result<(), AllocError>
+    requires { Rise pieces.now }
     ensures { OnOk result (map finding_view found.new.items
-        ≡ map finding_view found.old.items ++ map (unreached_finding function.now) all.now) }
+        ≡ map finding_view found.old.items ++ map (unreached_finding pieces.now function.now) all.now) }
 {
     for one in all {
         found.push(Finding {
-            at: Some(one.at),
+            place: pattern_at(pieces, one.at as usize, one.whole),
             kind: Kind::Unreached {
                 function,
                 whole: one.whole,
@@ -69,18 +83,20 @@ fn add_unreached<'r, 'a>(
 // Adds the ranges that overlap.
 fn add_overlaps<'r, 'a>(
     found: &mut Vec<Finding<'r, 'a>>,
+    pieces: &[Piece],
     function: &'a str,
     all: &[Overlap<'a>],
 ) -> Result<(), AllocError>
+    requires { Rise pieces.now }
     ensures { OnOk result (map finding_view found.new.items
-        ≡ map finding_view found.old.items ++ map (overlap_finding function.now) (map overlap_view all.now)) }
+        ≡ map finding_view found.old.items ++ map (overlap_finding pieces.now function.now) (map overlap_view all.now)) }
 {
     for one in all {
         found.push(Finding {
-            at: Some(one.at),
+            place: pattern_at(pieces, one.at as usize, false),
             kind: Kind::Overlap {
                 function,
-                other: one.with,
+                other: pattern_at(pieces, one.with as usize, false),
                 value: one.value,
             },
         })?;
@@ -88,19 +104,19 @@ fn add_overlaps<'r, 'a>(
     Ok(())
 }
 
-// Adds that a match is not exhaustive.
+// Adds that a match on what stands there is not exhaustive.
 fn add_missing<'r, 'a>(
     found: &mut Vec<Finding<'r, 'a>>,
     function: &'a str,
-    at: Option<u64>,
+    place: Place,
     judged: &'r Judged<'a>,
 ) -> Result<(), AllocError>
     ensures { OnOk result (map finding_view found.new.items
-        ≡ map finding_view found.old.items ++ missing_findings function.now at (judged_view judged.now)) }
+        ≡ map finding_view found.old.items ++ missing_findings function.now place (judged_view judged.now)) }
 {
     if !judged.exhaustive {
         found.push(Finding {
-            at,
+            place,
             kind: Kind::Missing {
                 function,
                 witnesses: judged.witnesses.as_slice(),
@@ -110,25 +126,39 @@ fn add_missing<'r, 'a>(
     Ok(())
 }
 
-// Adds what is found of a function, which begins there.
+// Where a function breaks a rule.
+fn broken_place(pieces: &[Piece], rule: u64, at: Option<u64>) -> Place
+    requires { Rise pieces.now }
+    ensures { result ≡ broken_place pieces.now rule at }
+{
+    match at {
+        Some(at) if rule == 34 => pair_at(pieces, at as usize),
+        Some(at) => pattern_at(pieces, at as usize, false),
+        None => Place::Nowhere,
+    }
+}
+
+// Adds what is found of a function whose match is on what stands there.
 fn add_function<'r, 'a>(
     found: &mut Vec<Finding<'r, 'a>>,
-    at: Option<u64>,
+    pieces: &[Piece],
+    place: Place,
     function: &'r Function<'a>,
 ) -> Result<(), AllocError>
+    requires { Rise pieces.now }
     ensures { OnOk result (map finding_view found.new.items
-        ≡ map finding_view found.old.items ++ function_findings at (function_view function.now)) }
+        ≡ map finding_view found.old.items ++ function_findings pieces.now place (function_view function.now)) }
 {
     match &function.verdict {
         Verdict::Judged(judged) => {
-            add_missing(found, function.name, at, judged)?;
-            add_unreached(found, function.name, judged.unreachable.as_slice())?;
-            add_overlaps(found, function.name, judged.overlaps.as_slice())?;
+            add_missing(found, function.name, place, judged)?;
+            add_unreached(found, pieces, function.name, judged.unreachable.as_slice())?;
+            add_overlaps(found, pieces, function.name, judged.overlaps.as_slice())?;
             Ok(())
         }
         Verdict::Refused(refused) => {
             found.push(Finding {
-                at: refused.at,
+                place: broken_place(pieces, refused.rule, refused.at),
                 kind: Kind::Refused {
                     function: function.name,
                     rule: refused.rule,
@@ -140,38 +170,72 @@ fn add_function<'r, 'a>(
     }
 }
 
-// The place of this number, where there is one.
-fn place_at(places: &[usize], i: usize) -> Option<u64>
-    ensures { result ≡ slice_get places.now i }
+// What the match of the function of this number is on.
+fn scrutinee_place(site: &Site<'_>, i: usize) -> Place
+    requires { site.now.bodies.now ≡ bodies_of site.now.pieces.now }
+    ensures { result ≡ scrutinee_place site.now.pieces.now i }
 {
-    match places.get(i) {
-        Some(place) => Some(*place as u64),
-        None => None,
+    match site.bodies.get(i) {
+        Some(body) => Place::There(body.scrutinee),
+        None => Place::Lost,
     }
 }
 
-// What is found of functions, which begin at these places.
+// What is found of functions.
 fn functions_findings<'r, 'a>(
     alloc: Global,
-    places: &[usize],
+    site: &Site<'_>,
     functions: &'r [Function<'a>],
 ) -> Result<Vec<Finding<'r, 'a>>, AllocError>
+    requires order { Rise site.now.pieces.now }
+    requires bodies { site.now.bodies.now ≡ bodies_of site.now.pieces.now }
     ensures { IfOk result (λ found. map finding_view found.items
-        ≡ functions_findings places.now 0 (map function_view functions.now)) }
+        ≡ functions_findings site.now.pieces.now 0 (map function_view functions.now)) }
 {
     let mut found = Vec::new(alloc);
     for i in 0..functions.len() {
-        add_function(&mut found, place_at(places, i), &functions[i])?;
+        add_function(
+            &mut found,
+            site.pieces,
+            scrutinee_place(site, i),
+            &functions[i],
+        )?;
     }
     Ok(found)
 }
 
+// A byte of the file, or any one where it is no text.
+fn byte_place(file: &[u8], at: u64, any: bool) -> Place
+    ensures { result ≡ byte_place file.now at any }
+{
+    if is_place(file, at, any) {
+        let from = at as usize;
+        Place::There(Span { from, to: from })
+    } else {
+        Place::Lost
+    }
+}
+
+// Where the file breaks a rule.
+fn file_broken_place(site: &Site<'_>, rule: u64, at: Option<u64>) -> Place
+    requires { Rise site.now.pieces.now }
+    ensures { result ≡ file_broken_place site.now.file.now site.now.pieces.now rule at }
+{
+    match at {
+        Some(at) if rule <= 5 => byte_place(site.file, at, rule == 1),
+        Some(at) if rule == 6 => token_at(site.pieces, at as usize),
+        Some(at) => name_at(site.pieces, at as usize),
+        None => Place::Nowhere,
+    }
+}
+
 // What is found of a file that is refused.
-fn refused_finding<'r, 'a>(refused: &Refused<'a>) -> Finding<'r, 'a>
-    ensures { finding_view result ≡ refused_finding (refused_view refused.now) }
+fn refused_finding<'r, 'a>(site: &Site<'_>, refused: &Refused<'a>) -> Finding<'r, 'a>
+    requires { Rise site.now.pieces.now }
+    ensures { finding_view result ≡ refused_finding site.now.file.now site.now.pieces.now (refused_view refused.now) }
 {
     Finding {
-        at: refused.at,
+        place: file_broken_place(site, refused.rule, refused.at),
         kind: Kind::FileRefused {
             rule: refused.rule,
             name: refused.name,
@@ -179,20 +243,22 @@ fn refused_finding<'r, 'a>(refused: &Refused<'a>) -> Finding<'r, 'a>
     }
 }
 
-// What a report has found, in its order; the functions begin at these places.
+// What a report has found, in its order.
 pub(crate) fn report_findings<'r, 'a>(
     alloc: Global,
-    places: &[usize],
+    site: &Site<'_>,
     report: &'r Report<'a>,
 ) -> Result<Vec<Finding<'r, 'a>>, AllocError>
+    requires order { Rise site.now.pieces.now }
+    requires bodies { site.now.bodies.now ≡ bodies_of site.now.pieces.now }
     ensures { IfOk result (λ found. map finding_view found.items
-        ≡ report_findings places.now (report_view report.now)) }
+        ≡ report_findings site.now.file.now site.now.pieces.now (report_view report.now)) }
 {
     match report {
-        Report::Functions(functions) => functions_findings(alloc, places, functions.as_slice()),
+        Report::Functions(functions) => functions_findings(alloc, site, functions.as_slice()),
         Report::Refused(refused) => {
             let mut found = Vec::with_capacity(alloc, 1)?;
-            found.push(refused_finding(refused))?;
+            found.push(refused_finding(site, refused))?;
             Ok(found)
         }
     }

@@ -1,8 +1,8 @@
 //! The findings of a report as text for people, beside the lines of their source.
 //!
-//! A finding is a match that is not exhaustive, an arm or alternative to which no value comes, two ranges that overlap, or a
-//! rule that is broken. The report gives them function by function; they are put in the order of their places
-//! (`specs/Findings.antt`), and each is shown with its line (`specs/Frames.antt`) and notes (`specs/Notes.antt`). [`explain`]
+//! A finding is a match that is not exhaustive, an arm or alternative that no value reaches, two ranges that overlap, or a
+//! rule that is broken. The report gives them function by function. Each gets its place in the source by the source's
+//! tokens (`specs/Findings.antt`), and is shown with its line (`specs/Frames.antt`) and notes (`specs/Notes.antt`). [`explain`]
 //! gives the whole text (`specs/Texts.antt`): every finding once, in order, and a last line with counts.
 //!
 //! Nothing is taken on trust: JSON that is no report, and a place that is not in the source, are told as faults.

@@ -3,12 +3,15 @@ ghost use Rattle.std.specs.Prelude.{◌≡◌, ◌++◌, ◌≤◌, ◌-◌, OnO
 ghost use Rattle.std.specs.List.{All};
 ghost use Rattle.explain_lines.specs.Steps.{IsSpotOf};
 ghost use Rattle.explain_text.specs.Findings.{kind_view};
+ghost use Rattle.explain_text.specs.Order.{start_of};
 ghost use Rattle.explain_text.specs.Notes.{heading_text, quoted_text, rule_heading, witness_note, more_note, missing_note, overlap_note, note_text, rule_words, unreached_words, other_of};
 
 use crate::findings::Kind;
 use crate::frames::push_place;
+use crate::order::start_of;
 use crate::source::Source;
 use explain_lines::Spot;
+use explain_places::Place;
 use rule_texts::rule_text;
 use std::alloc::AllocError;
 
@@ -120,13 +123,13 @@ fn push_missing(text: &mut String, witnesses: &[&str]) -> Result<(), AllocError>
 fn push_overlap(
     text: &mut String,
     source: &Source<'_>,
-    other: u64,
+    other: Place,
     value: &str,
 ) -> Result<(), AllocError>
     requires right { All (IsSpotOf source.now.text.now) source.now.spots.now }
-    requires within { other - source.now.mark ≤ length source.now.text.now }
+    requires within { start_of other - source.now.mark ≤ length source.now.text.now }
     ensures { OnOk result (string_bytes text.new ≡ string_bytes text.old
-        ++ overlap_note source.now.name.now source.now.text.now (other - source.now.mark) value.now) }
+        ++ overlap_note source.now.name.now source.now.text.now (start_of other - source.now.mark) value.now) }
 {
     push_named(
         text,
@@ -134,7 +137,7 @@ fn push_overlap(
         value,
         "; the other range is at ",
     )?;
-    push_place(text, source, other)?;
+    push_place(text, source, start_of(other))?;
     text.push_str("\n")?;
     Ok(())
 }
@@ -156,7 +159,7 @@ pub(crate) fn push_notes(
     kind: &Kind<'_, '_>,
 ) -> Result<(), AllocError>
     requires right { All (IsSpotOf source.now.text.now) source.now.spots.now }
-    requires within { other_of (kind_view kind.now) - source.now.mark ≤ length source.now.text.now }
+    requires within { start_of (other_of (kind_view kind.now)) - source.now.mark ≤ length source.now.text.now }
     ensures { OnOk result (string_bytes text.new ≡ string_bytes text.old
         ++ note_text source.now.name.now source.now.text.now source.now.mark (kind_view kind.now)) }
 {

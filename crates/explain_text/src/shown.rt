@@ -2,7 +2,7 @@
 ghost use Rattle.std.specs.Prelude.{◌≡◌, ◌++◌, ◌≤◌, ◌+◌, IfOk, OnOk, length, string_bytes, flat_map, replicate};
 ghost use Rattle.std.specs.Str.Lossy.{utf8_lossy};
 ghost use Rattle.explain_lines.specs.Lines.{spot_at};
-ghost use Rattle.explain_text.specs.Shown.{shown_byte, shown_bytes, left_part, right_part, is_cut_behind};
+ghost use Rattle.explain_text.specs.Shown.{shown_byte, shown_bytes, left_part, right_part, marked_part, is_cut_behind};
 
 use explain_lines::{Spot, shown_from, shown_to};
 use std::alloc::{AllocError, Global};
@@ -82,6 +82,21 @@ pub(crate) fn right_part(alloc: Global, text: &[u8], at: usize) -> Result<String
     Ok(shown)
 }
 
+// What is shown of that which stands from one byte to another on the line of the first.
+pub(crate) fn marked_part(
+    alloc: Global,
+    text: &[u8],
+    at: usize,
+    to: usize,
+) -> Result<String, AllocError>
+    requires { at ≤ length text.now }
+    ensures { IfOk result (λ part. string_bytes part ≡ marked_part text.now at to) }
+{
+    let end = shown_to(text, at, MOST).min(to).max(at);
+    let part = shown_text(alloc, &text[at..end])?;
+    Ok(part)
+}
+
 // So many blanks.
 pub(crate) fn blanks(alloc: Global, count: usize) -> Result<String, AllocError>
     ensures { IfOk result (λ text. string_bytes text ≡ replicate count 32) }
@@ -89,6 +104,17 @@ pub(crate) fn blanks(alloc: Global, count: usize) -> Result<String, AllocError>
     let mut text = String::new(alloc);
     for step in 0..count {
         text.push(' ')?;
+    }
+    Ok(text)
+}
+
+// So many carets.
+pub(crate) fn carets(alloc: Global, count: usize) -> Result<String, AllocError>
+    ensures { IfOk result (λ text. string_bytes text ≡ replicate count 94) }
+{
+    let mut text = String::new(alloc);
+    for step in 0..count {
+        text.push('^')?;
     }
     Ok(text)
 }

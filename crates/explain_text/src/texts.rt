@@ -1,14 +1,17 @@
 // The whole text.
-ghost use Rattle.std.specs.Prelude.{◌≡◌, ◌++◌, ◌≤◌, ◌-◌, ◌+◌, OnOk, IfOk, length, string_bytes, map, flat_map, codes, decimal, unwrap_or};
+ghost use Rattle.std.specs.Prelude.{◌≡◌, ◌++◌, ◌≤◌, ◌-◌, ◌+◌, OnOk, IfOk, length, string_bytes, map, flat_map, codes, decimal};
 ghost use Rattle.std.specs.List.{All, list_all};
 ghost use Rattle.explain_lines.specs.Steps.{IsSpotOf};
 ghost use Rattle.explain_text.specs.Findings.{finding_view, kind_view};
-ghost use Rattle.explain_text.specs.Texts.{IsInside, is_error, is_inside, is_kind_inside, is_any_byte, position_text, finding_text, error_count, counts_text, whole_text};
+ghost use Rattle.explain_text.specs.Notes.{other_of};
+ghost use Rattle.explain_text.specs.Order.{start_of};
+ghost use Rattle.explain_text.specs.Texts.{IsInside, is_error, is_found, is_inside, position_text, finding_text, error_count, counts_text, whole_text};
 
 use crate::findings::{Finding, Kind};
 use crate::frames::push_frame;
 use crate::notes::{push_heading, push_notes};
-use crate::source::{Source, is_place};
+use crate::source::Source;
+use explain_places::Place;
 use std::alloc::{AllocError, Global};
 
 // Whether a finding breaks a build.
@@ -21,23 +24,24 @@ pub(crate) fn is_error(kind: &Kind<'_, '_>) -> bool
     }
 }
 
-// Whether what a finding names besides its place is in the file.
-fn is_kind_inside(file: &[u8], kind: &Kind<'_, '_>) -> bool
-    ensures { result ≡ is_kind_inside file.now (kind_view kind.now) }
+// Whether a place is in the file, or none is told.
+fn is_found(file: &[u8], place: Place) -> bool
+    ensures { result ≡ is_found file.now place }
 {
-    match kind {
-        Kind::Overlap { other, .. } => is_place(file, *other, false),
-        _ => true,
+    match place {
+        Place::There(span) => span.from <= file.len(),
+        Place::Nowhere => true,
+        Place::Lost => false,
     }
 }
 
-// Whether any byte of the file may be the place: the first one that is no UTF-8.
-fn is_any_byte(kind: &Kind<'_, '_>) -> bool
-    ensures { result ≡ is_any_byte (kind_view kind.now) }
+// The place of the other range, and none where there is no other.
+fn other_of(kind: &Kind<'_, '_>) -> Place
+    ensures { result ≡ other_of (kind_view kind.now) }
 {
     match kind {
-        Kind::FileRefused { rule, .. } => *rule == 1,
-        _ => false,
+        Kind::Overlap { other, .. } => *other,
+        _ => Place::Nowhere,
     }
 }
 
@@ -45,12 +49,7 @@ fn is_any_byte(kind: &Kind<'_, '_>) -> bool
 fn is_inside(file: &[u8], finding: &Finding<'_, '_>) -> bool
     ensures { result ≡ is_inside file.now (finding_view finding.now) }
 {
-    match finding.at {
-        Some(at) => {
-            is_place(file, at, is_any_byte(&finding.kind)) && is_kind_inside(file, &finding.kind)
-        }
-        None => is_kind_inside(file, &finding.kind),
-    }
+    is_found(file, finding.place) && is_found(file, other_of(&finding.kind))
 }
 
 // Whether the places of all findings are in the file.
@@ -70,16 +69,16 @@ fn push_position(
     alloc: Global,
     text: &mut String,
     source: &Source<'_>,
-    at: Option<u64>,
+    place: Place,
 ) -> Result<(), AllocError>
     requires right { All (IsSpotOf source.now.text.now) source.now.spots.now }
-    requires within { unwrap_or at 0 - source.now.mark ≤ length source.now.text.now }
+    requires within { start_of place - source.now.mark ≤ length source.now.text.now }
     ensures { OnOk result (string_bytes text.new ≡ string_bytes text.old
-        ++ position_text source.now.name.now source.now.text.now source.now.mark at) }
+        ++ position_text source.now.name.now source.now.text.now source.now.mark place) }
 {
-    match at {
-        Some(at) => push_frame(alloc, text, source, at),
-        None => {
+    match place {
+        Place::There(span) => push_frame(alloc, text, source, &span),
+        Place::Nowhere | Place::Lost => {
             text.push_str("--> ")?;
             text.push_str(source.name)?;
             text.push_str("\n")?;
@@ -101,7 +100,7 @@ fn push_finding(
         ++ finding_text source.now.name.now source.now.text.now source.now.mark (finding_view finding.now)) }
 {
     push_heading(text, &finding.kind)?;
-    push_position(alloc, text, source, finding.at)?;
+    push_position(alloc, text, source, finding.place)?;
     push_notes(text, source, &finding.kind)?;
     text.push_str("\n")?;
     Ok(())

@@ -5,7 +5,7 @@ ghost use Rattle.explain_lines.specs.Steps.{IsSpotOf};
 ghost use Rattle.explain_tree.specs.Places.{lines_within, lines_from, end_of_part, arm_lines};
 
 use explain_lines::{Spot, checkpoints, spot_of};
-use explain_places::{arm_places, body_places};
+use explain_places::{Body, Piece, arm_arrows, function_bodies};
 use no_memory::NoMemory;
 use std::alloc::{AllocError, Global};
 
@@ -31,42 +31,43 @@ fn lines_within(
     Ok(lines)
 }
 
-// The place of this number, where there is one.
-fn place_at(places: &[usize], number: usize) -> Option<usize>
-    ensures { result ≡ slice_get places.now number }
+// The body of this number, where there is one.
+fn body_at(bodies: &[Body], number: usize) -> Option<Body>
+    ensures { result ≡ slice_get bodies.now number }
 {
-    match places.get(number) {
-        Some(place) => Some(*place),
+    match bodies.get(number) {
+        Some(body) => Some(*body),
         None => None,
     }
 }
 
 // Where the body of the next function begins, or the end of the file.
-fn end_of_part(file: &[u8], bodies: &[usize], number: usize) -> usize
+fn end_of_part(file: &[u8], bodies: &[Body], number: usize) -> usize
     ensures exact { result ≡ end_of_part file.now bodies.now number }
     ensures within { result ≤ length file.now }
 {
-    match place_at(bodies, number.saturating_add(1)) {
-        Some(to) => to.min(file.len()),
+    match body_at(bodies, number.saturating_add(1)) {
+        Some(body) => body.at.min(file.len()),
         None => file.len(),
     }
 }
 
-// The lines of the arms from the place where a body begins.
+// The lines of the arms from the begin of a body.
 fn lines_from(
     alloc: Global,
     file: &[u8],
+    pieces: &[Piece],
     to: usize,
-    body: Option<usize>,
+    body: Option<Body>,
 ) -> Result<Vec<usize>, NoMemory>
     requires { to ≤ length file.now }
-    ensures { IfOk result (λ lines. lines.items ≡ lines_from file.now to body) }
+    ensures { IfOk result (λ lines. lines.items ≡ lines_from file.now pieces.now to body) }
 {
     match body {
-        Some(from) => {
-            let arms = arm_places(alloc, file)?;
+        Some(body) => {
+            let arms = arm_arrows(alloc, pieces)?;
             let spots = checkpoints(alloc, file)?;
-            let lines = lines_within(alloc, file, spots.as_slice(), from, to, arms.as_slice())?;
+            let lines = lines_within(alloc, file, spots.as_slice(), body.at, to, arms.as_slice())?;
             Ok(lines)
         }
         None => Ok(Vec::new(alloc)),
@@ -74,12 +75,17 @@ fn lines_from(
 }
 
 /// The lines, counted from 1, on which the patterns of the arms of the function of this number end.
-pub(crate) fn arm_lines(alloc: Global, file: &[u8], number: usize) -> Result<Vec<usize>, NoMemory>
-    ensures { IfOk result (λ lines. lines.items ≡ arm_lines file.now number) }
+pub(crate) fn arm_lines(
+    alloc: Global,
+    file: &[u8],
+    pieces: &[Piece],
+    number: usize,
+) -> Result<Vec<usize>, NoMemory>
+    ensures { IfOk result (λ lines. lines.items ≡ arm_lines file.now pieces.now number) }
 {
-    let bodies = body_places(alloc, file)?;
+    let bodies = function_bodies(alloc, pieces)?;
     let to = end_of_part(file, bodies.as_slice(), number);
-    let body = place_at(bodies.as_slice(), number);
-    let lines = lines_from(alloc, file, to, body)?;
+    let body = body_at(bodies.as_slice(), number);
+    let lines = lines_from(alloc, file, pieces, to, body)?;
     Ok(lines)
 }

@@ -7,12 +7,13 @@ ghost use Rattle.explain_report.specs.Records.{report_view};
 ghost use Rattle.explain_report.specs.Reading.{all_of, report_of};
 ghost use Rattle.explain_report.specs.Skimming.{read_skimmed};
 ghost use Rattle.explain_tree.specs.Nodes.{node_view, node_of};
-ghost use Rattle.explain_tree.specs.Pictures.{Answers, entry_view, is_this, entry_from, outcome_of, outcome_of_nodes, outcome_of_tree, outcome_of_entry, outcome_of_entries, outcome_of_report};
+ghost use Rattle.explain_tree.specs.Pictures.{Answers, AnswersBy, entry_view, is_this, entry_from, outcome_of, outcome_of_nodes, outcome_of_tree, outcome_of_entry, outcome_of_entries, outcome_of_report};
 
 use crate::graph::graph_text;
 use crate::lines::arm_lines;
 use crate::nodes::{Node, is_closed};
 use crate::reading::all_nodes;
+use explain_places::{Piece, source_pieces};
 use explain_report::{ReadFault, Report, items_at, report_of, text_at, value_of};
 use no_memory::NoMemory;
 use serde_json::Value;
@@ -84,16 +85,17 @@ fn entry_of<'a>(entries: &'a [Value], name: &str) -> Option<Entry<'a>>
 fn nodes_drawn(
     alloc: Global,
     file: &[u8],
+    pieces: &[Piece],
     name: &str,
     number: usize,
     nodes: &[Node<'_>],
 ) -> Result<Vec<u8>, Fault>
-    ensures { Answers (outcome_of_nodes file.now name.now number (Some (map node_view nodes.now))) result }
+    ensures { Answers (outcome_of_nodes file.now pieces.now name.now number (Some (map node_view nodes.now))) result }
 {
     if !is_closed(nodes) {
         return Err(Fault::NoReport);
     }
-    let lines = arm_lines(alloc, file, number)?;
+    let lines = arm_lines(alloc, file, pieces, number)?;
     let graph = graph_text(alloc, name, lines.as_slice(), nodes)?;
     Ok(graph)
 }
@@ -102,25 +104,32 @@ fn nodes_drawn(
 fn items_drawn(
     alloc: Global,
     file: &[u8],
+    pieces: &[Piece],
     name: &str,
     number: usize,
     items: &[Value],
 ) -> Result<Vec<u8>, Fault>
-    ensures { Answers (outcome_of_tree file.now name.now number (Some (items_view items.now))) result }
+    ensures { Answers (outcome_of_tree file.now pieces.now name.now number (Some (items_view items.now))) result }
 {
     match all_nodes(alloc, items) {
-        Ok(nodes) => nodes_drawn(alloc, file, name, number, nodes.as_slice()),
+        Ok(nodes) => nodes_drawn(alloc, file, pieces, name, number, nodes.as_slice()),
         Err(ReadFault::NoReport) => Err(Fault::NoReport),
         Err(ReadFault::NoMemory) => Err(Fault::NoMemory),
     }
 }
 
 // The picture of the tree of an entry.
-fn entry_drawn(alloc: Global, file: &[u8], name: &str, entry: Entry<'_>) -> Result<Vec<u8>, Fault>
-    ensures { Answers (outcome_of_entry file.now name.now (Some (entry_view entry.entry))) result }
+fn entry_drawn(
+    alloc: Global,
+    file: &[u8],
+    pieces: &[Piece],
+    name: &str,
+    entry: Entry<'_>,
+) -> Result<Vec<u8>, Fault>
+    ensures { Answers (outcome_of_entry file.now pieces.now name.now (Some (entry_view entry.entry))) result }
 {
     match items_at(entry.value, "tree") {
-        Some(items) => items_drawn(alloc, file, name, entry.number, items),
+        Some(items) => items_drawn(alloc, file, pieces, name, entry.number, items),
         None => Err(Fault::NoTree),
     }
 }
@@ -129,34 +138,65 @@ fn entry_drawn(alloc: Global, file: &[u8], name: &str, entry: Entry<'_>) -> Resu
 fn entries_drawn(
     alloc: Global,
     file: &[u8],
+    pieces: &[Piece],
     name: &str,
     entries: &[Value],
 ) -> Result<Vec<u8>, Fault>
-    ensures { Answers (outcome_of_entries file.now name.now (Some (items_view entries.now))) result }
+    ensures { Answers (outcome_of_entries file.now pieces.now name.now (Some (items_view entries.now))) result }
 {
     match entry_of(entries, name) {
-        Some(entry) => entry_drawn(alloc, file, name, entry),
+        Some(entry) => entry_drawn(alloc, file, pieces, name, entry),
         None => Err(Fault::NoTree),
     }
 }
 
 // The picture by a value that is a report on functions.
-fn functions_drawn(alloc: Global, file: &[u8], name: &str, value: &Value) -> Result<Vec<u8>, Fault>
-    ensures { Answers (outcome_of_entries file.now name.now (items_at (codes "functions") (view value.now))) result }
+fn functions_drawn(
+    alloc: Global,
+    file: &[u8],
+    pieces: &[Piece],
+    name: &str,
+    value: &Value,
+) -> Result<Vec<u8>, Fault>
+    ensures { Answers (outcome_of_entries file.now pieces.now name.now (items_at (codes "functions") (view value.now))) result }
 {
     match items_at(value, "functions") {
-        Some(entries) => entries_drawn(alloc, file, name, entries),
+        Some(entries) => entries_drawn(alloc, file, pieces, name, entries),
         None => Err(Fault::NoTree),
     }
 }
 
 // The picture by a JSON value.
-fn value_drawn(alloc: Global, file: &[u8], name: &str, value: &Value) -> Result<Vec<u8>, Fault>
-    ensures { Answers (outcome_of_report file.now name.now (view value.now) (report_of (view value.now))) result }
+fn value_drawn(
+    alloc: Global,
+    file: &[u8],
+    pieces: &[Piece],
+    name: &str,
+    value: &Value,
+) -> Result<Vec<u8>, Fault>
+    ensures { Answers (outcome_of_report file.now pieces.now name.now (view value.now) (report_of (view value.now))) result }
 {
     match report_of(alloc, value) {
-        Ok(Report::Functions(_)) => functions_drawn(alloc, file, name, value),
+        Ok(Report::Functions(_)) => functions_drawn(alloc, file, pieces, name, value),
         Ok(Report::Refused(_)) => Err(Fault::NoTree),
+        Err(ReadFault::NoReport) => Err(Fault::NoReport),
+        Err(ReadFault::NoMemory) => Err(Fault::NoMemory),
+    }
+}
+
+// The picture by a report in JSON, beside a file with these tokens.
+#[tactic(auto, unfolding(crate::specs::Pictures::outcome_of))]
+fn json_drawn(
+    alloc: Global,
+    file: &[u8],
+    pieces: &[Piece],
+    name: &str,
+    json: &str,
+) -> Result<Vec<u8>, Fault>
+    ensures { Answers (outcome_of file.now name.now (read_skimmed json.now) pieces.now) result }
+{
+    match value_of(alloc, json) {
+        Ok(value) => value_drawn(alloc, file, pieces, name, &value),
         Err(ReadFault::NoReport) => Err(Fault::NoReport),
         Err(ReadFault::NoMemory) => Err(Fault::NoMemory),
     }
@@ -167,13 +207,9 @@ fn value_drawn(alloc: Global, file: &[u8], name: &str, value: &Value) -> Result<
 ///
 /// Any JSON and any file may be given; what stands deeper in the JSON than a tree goes is passed over
 /// (`explain_report::value_of`).
-#[tactic(auto, unfolding(crate::specs::Pictures::outcome_of))]
 pub fn picture(alloc: Global, file: &[u8], json: &str, name: &str) -> Result<Vec<u8>, Fault>
-    ensures { Answers (outcome_of file.now name.now (read_skimmed json.now)) result }
+    ensures { AnswersBy file.now (outcome_of file.now name.now (read_skimmed json.now)) result }
 {
-    match value_of(alloc, json) {
-        Ok(value) => value_drawn(alloc, file, name, &value),
-        Err(ReadFault::NoReport) => Err(Fault::NoReport),
-        Err(ReadFault::NoMemory) => Err(Fault::NoMemory),
-    }
+    let pieces = source_pieces(alloc, file)?;
+    json_drawn(alloc, file, pieces.as_slice(), name, json)
 }

@@ -4,5 +4,5 @@ use Rattle.explain_text.proofs.findings.add_unreached.Given as goal
 
 abbrev pub invariant-loop-one : goal.invariant-loop-one
 invariant-loop-one l =
-    map finding_view l.found.items ++ map (unreached_finding l.function) (drop l.one-index l.all)
-    ≡ map finding_view l.initial.found.items ++ map (unreached_finding l.function) l.all
+    map finding_view l.found.items ++ map (unreached_finding l.pieces l.function) (drop l.one-index l.all)
+    ≡ map finding_view l.initial.found.items ++ map (unreached_finding l.pieces l.function) l.all
