@@ -1,0 +1,13 @@
+pub mod ArmChars
+pub mod Armed
+pub mod BuiltIn
+pub mod Forms
+pub mod Fresh
+pub mod Leaves
+pub mod Measures
+pub mod Parts
+pub mod Pieces
+pub mod Ranges
+pub mod Spelled
+pub mod Typed
+pub mod Walk
