@@ -1,0 +1,3 @@
+pub mod Composed
+pub mod Keywords
+pub mod Tables
