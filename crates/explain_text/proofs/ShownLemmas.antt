@@ -1,5 +1,5 @@
 -- What is shown of a line.
-use Rattle.std.proofs.Common.{◌≡◌, ◌∙◌, ap, sym, ℕ, ◌+◌, ◌-◌, ◌<◌, ◌≤◌, List, [], ◌++◌, length, take, drop, get_or, max, min, Bool, true, false, not, ◌&&◌, nat_lt, nat_eq, arith, codes, ◌⊎◌}
+use Rattle.std.proofs.Common.{◌≡◌, ◌∙◌, ap, sym, ℕ, ◌+◌, ◌-◌, ◌<◌, ◌≤◌, List, [], ◌++◌, length, take, drop, get_or, max, min, Bool, true, false, not, ◌&&◌, nat_lt, nat_eq, arith, codes, ◌⊎◌, inl, inr}
 use Rattle.std.proofs.lemmas.Bool.{lt-ltb, le-ltb, cases_lt}
 use Rattle.std.proofs.lemmas.List.{length-take-le, length-drop, append-nil, take-take, take_all, length-take}
 use Rattle.std.specs.Str.Lossy.{utf8_lossy}
