@@ -437,6 +437,78 @@ def touching_beside_wildcards(count):
     return function("(u32, u32, u32, u8)", arms + ["_"])
 
 
+def seldom(number, count, pattern):
+    """The pattern in one row of so many that only rows far apart have it, and a wildcard elsewhere."""
+    return pattern if number % (count // 12) == 0 else "_"
+
+
+def touching_rows(parameter, rows, count, before=""):
+    """Rows of these heads beside two ranges that touch, by turns."""
+    arms = [f"({heads}, {('0..=5', '5..=9')[number % 2]})" for number, heads in enumerate(rows)]
+    return function(f"({parameter}, u8)", arms + ["_"], before)
+
+
+@family(2400, 4800, 9600, overlaps=True)
+def touching_seldom_numbers(count):
+    """Ranges that touch beside different variants, and beside a number in a few rows."""
+    rows = (f"{variant(i)}, {seldom(i, count, i)}" for i in range(count))
+    return touching_rows("E, u32", rows, count, an_enum("E", count))
+
+
+@family(2400, 4800, 9600, overlaps=True)
+def touching_seldom_numbers_first(count):
+    """The same with the seldom numbers before the variants."""
+    rows = (f"{seldom(i, count, i)}, {variant(i)}" for i in range(count))
+    return touching_rows("u32, E", rows, count, an_enum("E", count))
+
+
+@family(2400, 4800, 9600, overlaps=True)
+def touching_seldom_texts(count):
+    """Ranges that touch beside different variants, and beside a text in a few rows."""
+    rows = (variant(i) + ", " + seldom(i, count, f'"t{i}"') for i in range(count))
+    return touching_rows("E, &str", rows, count, an_enum("E", count))
+
+
+@family(2400, 4800, 9600, overlaps=True)
+def touching_seldom_items(count):
+    """Ranges that touch beside different variants, and beside the first item of a slice in a few rows."""
+    rows = (variant(i) + ", " + seldom(i, count, f"[{i}, ..]") for i in range(count))
+    return touching_rows("E, &[u32]", rows, count, an_enum("E", count))
+
+
+@family(2400, 4800, 9600, overlaps=True)
+def touching_late_variants(count):
+    """Ranges that touch beside a flag and, but for the first third of the rows, beside different variants."""
+    rows = (f"{flag(i % 4 < 2)}, {variant(i) if 3 * i >= count else '_'}" for i in range(count))
+    return touching_rows("bool, E", rows, count, an_enum("E", count))
+
+
+@family(2400, 4800, 9600, overlaps=True)
+def touching_with_one_wild(count):
+    """Ranges that touch beside different variants and nine flags, of which another one is left open in each row."""
+    rows = (", ".join([variant(i)] + ["_" if j == i % 9 else "true" for j in range(9)]) for i in range(count))
+    return touching_rows("E, " + ", ".join(["bool"] * 9), rows, count, an_enum("E", count))
+
+
+@family(1024, 2048, 4096, overlaps=True)
+def touching_by_parity_and_seldom(count):
+    """Rows of flags that touch by their parity, beside a number in a few of them."""
+    width = count.bit_length() - 1
+    arms = []
+    for number in range(2**width):
+        flags = [flag(number >> column & 1) for column in range(width)]
+        ends = "0..=5" if bin(number).count("1") % 2 == 0 else "5..=9"
+        arms.append(tuple_of(flags + [seldom(number, count, str(number)), ends]))
+    return function(tuple_of(["bool"] * width + ["u32", "u8"]), arms + ["_"])
+
+
+@family(100000, 200000, 400000, overlaps=True, ten=2000000)
+def touching_beside_long_texts(count):
+    """Two arms of N/14 ranges that touch by turns, beside texts of N bytes."""
+    ranges = either(span(number // 2, number // 2 + 1) for number in range(count // 7))
+    return function("(&str, u32)", [f'("{letter * count}", {ranges})' for letter in "ab"] + ["_"])
+
+
 @family(1000, 2000, 4000, overlaps=True)
 def touching_two_arms(count):
     """Two arms of N different alternatives, beside ranges that touch once."""

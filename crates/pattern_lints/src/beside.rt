@@ -50,12 +50,12 @@ fn scalar_value(c: char) -> u128
     u128::from(u32::from(c))
 }
 
-// A number of the text, of 64 bits: its scalar values are digits, in a base that spreads them.
+// A number of the text, of 64 bits: its first 64 scalar values are digits, in a base that spreads them.
 fn text_number(text: &str) -> u128
     ensures { result ≡ text_number (chars text.now) }
 {
     let mut number: u128 = 0;
-    for c in text.chars() {
+    for c in text.chars().take(64) {
         number = (number * 1_099_511_628_211 + scalar_value(c)) % 18_446_744_073_709_551_616;
     }
     number
@@ -134,8 +134,8 @@ fn numbers_at_step<'a, T: Copy>(
     }
 }
 
-/// The numbers of a part beside a range, in the values that the pattern matches along the path to the range: of the part
-/// to which the steps lead, from so many steps along the range's position. It takes no memory.
+/// The numbers of a part beside a range, in the values that the pattern matches along the path to the range. The steps
+/// lead to the part, from so many steps along the range's position. It takes no memory.
 pub(crate) fn numbers_beside<'a, T: Copy>(
     p: &'a DePat<'a, T>,
     path: &[usize],

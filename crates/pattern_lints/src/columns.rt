@@ -1,18 +1,17 @@
 // Which columns tell the rows of the ranges of a place apart.
 //
-// Whichever columns are taken, the same overlaps are found: it says only how many pairs of ranges are asked. One is looked
-// for only at places where more pairs touch than there are ranges. Some ranges of a place, spread over all of them, are
-// compared, and the column is taken in which most pairs of them have no common number, or all columns together in which
-// each of them has one number.
+// Whichever columns are taken, the same overlaps are found: it says only how many pairs of ranges are asked. Columns are
+// looked for only at places where more pairs touch than there are ranges. Some ranges of a place, spread over all of
+// them, are compared. Their columns are tried.
 use crate::beside::{Column, stands_first};
 use crate::ends::RangeEnd;
 use crate::found::FoundRange;
-use crate::mixing::{Columns, numbers_in};
+use crate::mixing::Columns;
 use crate::places::{is_or, nth};
+use crate::trials::{Trial, choose, count_range, keep_best, untried};
 use no_memory::NoMemory;
 use pat_context::Ctor;
 use pattern_arena::{CheckedArm, DePat};
-use range_split::Range;
 use slice_split::Shape;
 use std::alloc::Global;
 
@@ -25,6 +24,14 @@ const COMPARED: usize = 12;
 // So many columns of a place are tried.
 const TRIED: usize = 64;
 
+// So many patterns are looked at for columns of a place.
+const LOOKED_AT: usize = 128;
+
+// Over all places, so many columns are counted, but at least a few of each.
+const COUNTED: usize = 256;
+
+const COUNTED_AT_LEAST: usize = 4;
+
 // The ranges of a place.
 #[derive(Drop)]
 struct Crowd {
@@ -35,14 +42,20 @@ struct Crowd {
     seen: usize,
     // The indices of those that are compared.
     compared: Vec<usize>,
+    // The columns that are tried.
+    trials: Vec<Trial>,
 }
 
 // The columns that are tried, and the steps to the pattern that is looked at.
 #[derive(Drop)]
 struct Trying {
     alloc: Global,
-    columns: Vec<Column>,
+    trials: Vec<Trial>,
     steps: Vec<usize>,
+    // So many of the columns are those of earlier ranges.
+    earlier: usize,
+    // So many patterns with a column are still looked at.
+    left: usize,
 }
 
 // The greatest number of a place.
@@ -63,6 +76,7 @@ fn empty_crowds(alloc: Global, count: usize) -> Result<Vec<Crowd>, NoMemory> {
             pairs: 0,
             seen: 0,
             compared: Vec::new(alloc),
+            trials: Vec::new(alloc),
         })?;
     }
     Ok(crowds)
@@ -141,10 +155,15 @@ fn some_is_crowded(crowds: &[Crowd]) -> bool {
     false
 }
 
+// Tells whether it is the turn of the next range to be compared. One range in so many is, each a bit further on, since
+// rows often come by turns.
+fn is_due(seen: usize, step: usize) -> bool {
+    step > 0 && seen % step == (seen / step).saturating_mul(7) % step
+}
+
 // Takes the range with the index to be compared, if it is its turn.
 fn look_at(crowd: &mut Crowd, index: usize) -> Result<(), NoMemory> {
-    let step = crowd.count / COMPARED;
-    if is_crowded(crowd) && step > 0 && crowd.seen % step == 0 {
+    if is_crowded(crowd) && is_due(crowd.seen, crowd.count / COMPARED) {
         crowd.compared.push(index)?;
     }
     crowd.seen = crowd.seen.saturating_add(1);
@@ -170,18 +189,40 @@ fn has_own_number(ctor: &Ctor) -> bool {
     }
 }
 
+// Tells whether an earlier range has the column at the steps too.
+fn is_tried(trying: &Trying, depth: usize) -> bool {
+    for i in 0..trying.earlier.min(trying.trials.len()) {
+        let column = &trying.trials[i].own.first;
+        if column.depth == depth && column.steps == trying.steps {
+            return true;
+        }
+    }
+    false
+}
+
+// Adds the column at the steps, if it is not tried already.
+fn add_column(trying: &mut Trying, depth: usize) -> Result<(), NoMemory> {
+    trying.left = trying.left.saturating_sub(1);
+    if is_tried(trying, depth) {
+        return Ok(());
+    }
+    let steps = Vec::from_slice(trying.alloc, &trying.steps)?;
+    trying
+        .trials
+        .push(untried(trying.alloc, Column { depth, steps }))
+}
+
 // Adds the columns of the pattern and of those below it.
 fn add_columns<'a, T: Copy>(
     trying: &mut Trying,
     p: &'a DePat<'a, T>,
     depth: usize,
 ) -> Result<(), NoMemory> {
-    if trying.columns.len() >= TRIED {
+    if trying.left == 0 || trying.trials.len() >= TRIED {
         return Ok(());
     }
     if has_own_number(&p.form.ctor) {
-        let steps = Vec::from_slice(trying.alloc, &trying.steps)?;
-        trying.columns.push(Column { depth, steps })?;
+        add_column(trying, depth)?;
     }
     for j in 0..p.form.subs.len() {
         if stands_first(&p.form.ctor, j) {
@@ -230,170 +271,78 @@ fn add_beside<'a, T: Copy>(
     add_beside(trying, sub, rest, depth.saturating_add(1))
 }
 
-// The numbers of the range with the index in the columns.
-fn numbers_at<'a, T: Copy>(
-    arms: &'a [CheckedArm<'a, T>],
-    found: &[FoundRange],
-    columns: &Columns,
-    index: usize,
-) -> Option<Range> {
-    let range = found.get(index)?;
-    let arm = arms.get(range.arm)?;
-    Some(numbers_in(&arm.pat, &range.path, columns))
-}
-
-// Tells whether there are numbers of both, and none is one of both.
-fn are_apart(first: &Option<Range>, second: &Option<Range>) -> bool {
-    match (first, second) {
-        (Some(first), Some(second)) => !first.meets(second),
-        _ => false,
-    }
-}
-
-// How many of the numbers have none in common with those here.
-fn count_others(numbers: &[Option<Range>], here: &Option<Range>) -> usize {
-    let mut count: usize = 0;
-    for other in numbers {
-        if are_apart(other, here) {
-            count = count.saturating_add(1);
-        }
-    }
-    count
-}
-
-// How many pairs of the compared ranges have no common number in the columns.
-fn count_apart<'a, T: Copy>(
-    alloc: Global,
-    arms: &'a [CheckedArm<'a, T>],
-    found: &[FoundRange],
-    columns: &Columns,
-    compared: &[usize],
-) -> Result<usize, NoMemory> {
-    let mut numbers = Vec::with_capacity(alloc, compared.len())?;
-    let mut count: usize = 0;
-    for index in compared {
-        let here = numbers_at(arms, found, columns, *index);
-        count = count.saturating_add(count_others(&numbers, &here));
-        numbers.push(here)?;
-    }
-    Ok(count)
-}
-
-// The columns beside the first of the ranges that has some.
-fn columns_of<'a, T: Copy>(
+// The columns beside the compared ranges, each once.
+fn columns_beside<'a, T: Copy>(
     alloc: Global,
     arms: &'a [CheckedArm<'a, T>],
     found: &[FoundRange],
     compared: &[usize],
-) -> Result<Vec<Column>, NoMemory> {
+) -> Result<Vec<Trial>, NoMemory> {
     let mut trying = Trying {
         alloc,
-        columns: Vec::new(alloc),
+        trials: Vec::new(alloc),
         steps: Vec::new(alloc),
+        earlier: 0,
+        left: LOOKED_AT,
     };
     for index in compared {
-        if trying.columns.is_empty()
-            && let Some(range) = found.get(*index)
+        if let Some(range) = found.get(*index)
             && let Some(arm) = arms.get(range.arm)
         {
             add_beside(&mut trying, &arm.pat, &range.path, 0)?;
+            trying.earlier = trying.trials.len();
         }
     }
-    Ok(trying.columns)
+    Ok(trying.trials)
 }
 
-// Tells whether each of the compared ranges has one number in the columns.
-fn are_sharp<'a, T: Copy>(
-    arms: &'a [CheckedArm<'a, T>],
-    found: &[FoundRange],
-    columns: &Columns,
-    compared: &[usize],
-) -> bool {
-    for index in compared {
-        match numbers_at(arms, found, columns, *index) {
-            Some(numbers) => {
-                if !numbers.is_single() {
-                    return false;
-                }
-            }
-            None => return false,
+// How many columns are counted at each place.
+fn count_kept(crowds: &[Crowd]) -> usize {
+    let mut crowded: usize = 0;
+    for crowd in crowds {
+        if is_crowded(crowd) {
+            crowded = crowded.saturating_add(1);
         }
     }
-    true
-}
-
-// The same column once more.
-fn copy_of(alloc: Global, column: &Column) -> Result<Column, NoMemory> {
-    let steps = Vec::from_slice(alloc, &column.steps)?;
-    Ok(Column {
-        depth: column.depth,
-        steps,
-    })
-}
-
-// One column by itself.
-fn alone(alloc: Global, column: Column) -> Columns {
-    Columns {
-        first: column,
-        others: Vec::new(alloc),
+    if crowded == 0 {
+        return TRIED;
     }
+    (COUNTED / crowded).max(COUNTED_AT_LEAST)
 }
 
-// The columns together, where they tell more of the compared ranges apart than so many; else the best one.
-fn together<'a, T: Copy>(
+// Takes the columns that are counted at each place.
+fn take_columns<'a, T: Copy>(
     alloc: Global,
     arms: &'a [CheckedArm<'a, T>],
     found: &[FoundRange],
-    compared: &[usize],
-    sharp: Vec<Column>,
-    best: (Columns, usize),
-) -> Result<Columns, NoMemory> {
-    let (best, most) = best;
-    let mut others = sharp;
-    let Some(first) = others.pop() else {
-        return Ok(best);
-    };
-    let all = Columns { first, others };
-    if count_apart(alloc, arms, found, &all, compared)? > most {
-        Ok(all)
-    } else {
-        Ok(best)
+    crowds: &mut [Crowd],
+) -> Result<(), NoMemory> {
+    let most = count_kept(crowds);
+    for i in 0..crowds.len() {
+        let crowd = &mut crowds[i];
+        crowd.trials = columns_beside(alloc, arms, found, &crowd.compared)?;
+        keep_best(alloc, arms, found, &crowd.compared, &mut crowd.trials, most)?;
     }
+    Ok(())
 }
 
-// The columns that tell most pairs of the compared ranges apart: one, or all together in which each has one number. The
-// scrutinee itself, where none tells any.
-fn choose<'a, T: Copy>(
-    alloc: Global,
+// Counts what each range has in the columns of its place.
+fn count_numbers<'a, T: Copy>(
     arms: &'a [CheckedArm<'a, T>],
     found: &[FoundRange],
-    compared: &[usize],
-) -> Result<Columns, NoMemory> {
-    let mut best = alone(
-        alloc,
-        Column {
-            depth: 0,
-            steps: Vec::new(alloc),
-        },
-    );
-    let mut sharp = Vec::new(alloc);
-    let mut most = 0;
-    for column in columns_of(alloc, arms, found, compared)? {
-        let own = alone(alloc, column);
-        let count = count_apart(alloc, arms, found, &own, compared)?;
-        if are_sharp(arms, found, &own, compared) {
-            sharp.push(copy_of(alloc, &own.first)?)?;
-        }
-        if count > most {
-            most = count;
-            best = own;
+    crowds: &mut [Crowd],
+) {
+    for range in found {
+        if let Some(crowd) = crowds.get_mut(range.place)
+            && let Some(arm) = arms.get(range.arm)
+        {
+            count_range(&mut crowd.trials, &arm.pat, &range.path);
         }
     }
-    together(alloc, arms, found, compared, sharp, (best, most))
 }
 
-/// The columns for each place of a range, by its number; none at all where no place is worth any. The ends are those of the
-/// ranges, by place and number. The only error is want of memory.
+/// The columns for each place of a range, by its number; none at all where no place is worth any. The ends are those of
+/// the ranges, by place and number. The only error is want of memory.
 pub(crate) fn choose_columns<'a, T: Copy>(
     alloc: Global,
     arms: &'a [CheckedArm<'a, T>],
@@ -412,8 +361,18 @@ pub(crate) fn choose_columns<'a, T: Copy>(
         return Ok(columns);
     }
     take_compared(&mut crowds, found)?;
-    for crowd in &crowds {
-        columns.push(choose(alloc, arms, found, &crowd.compared)?)?;
+    take_columns(alloc, arms, found, &mut crowds)?;
+    count_numbers(arms, found, &mut crowds);
+    for i in 0..crowds.len() {
+        let crowd = &mut crowds[i];
+        columns.push(choose(
+            alloc,
+            arms,
+            found,
+            &crowd.compared,
+            crowd.count,
+            &mut crowd.trials,
+        )?)?;
     }
     Ok(columns)
 }

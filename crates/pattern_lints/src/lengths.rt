@@ -20,8 +20,10 @@ pub(crate) fn lengths<'a, T: Copy>(
 ) -> (u64, u64)
     requires first { head_least (Some (tree p.now)) ≤ 2 ^ 33 }
     requires second { head_least (plain_head q) ≤ 2 ^ 33 }
-    ensures first { result.0 ≡ (tried_lengths (plain_set set.now) spot (Some (tree p.entry.now)) (plain_head q.entry)).0 }
-    ensures count { result.1 ≡ (tried_lengths (plain_set set.now) spot (Some (tree p.entry.now)) (plain_head q.entry)).1 }
+    ensures first { result.0 ≡ (tried_lengths (plain_set set.now) spot (Some (tree p.entry.now))
+        (plain_head q.entry)).0 }
+    ensures count { result.1 ≡ (tried_lengths (plain_set set.now) spot (Some (tree p.entry.now))
+        (plain_head q.entry)).1 }
     ensures held { result.0 + result.1 ≤ 2 ^ 64 }
 {
     match *set {
@@ -42,9 +44,9 @@ fn one_length(n: u64) -> (u64, u64)
     (n, 1)
 }
 
-// Whether only the greatest length is tried: both go on to longer rows, and no two patterns below are to stand at one part.
-// Rows of the greatest length are matched then wherever shorter ones are: what stands at one item of them stood at one item
-// of the shorter ones too.
+// Whether only the greatest length is tried: both go on to longer rows, and no two patterns below are to stand at one
+// part. Then rows of the greatest length are matched wherever shorter ones are. What stands at one item of them stood at
+// one item of the shorter ones too.
 fn is_greatest_alone<'a, T: Copy>(
     p: &'a DePat<'a, T>,
     q: Option<&'a DePat<'a, T>>,

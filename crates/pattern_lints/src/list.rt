@@ -39,8 +39,8 @@ fn in_order(mut overlaps: Vec<Overlap>) -> Result<Vec<Overlap>, NoMemory>
 }
 
 /// Finds which range patterns of the match have exactly one number in common, at one part of some value of the
-/// scrutinee that both of their patterns match (the documentation of the lint on overlapping range endpoints). Ranges
-/// of one number take no part, and arms with guards count.
+/// scrutinee. Both of their patterns match that value (the documentation of the lint on overlapping range endpoints).
+/// Ranges of one number take no part, and arms with guards count.
 ///
 /// The list ascends by the first offset, then the second, then the number, and has each overlap once. Offsets are in
 /// bytes. The match is well typed. The only error is want of memory.

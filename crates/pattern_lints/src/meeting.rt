@@ -4,7 +4,8 @@
 // constructor that both have, the patterns for each part have one. Rows are tried length by length.
 ghost use Rattle.std.specs.Prelude.{◌≡◌, ◌<◌, ◌≤◌, ◌+◌, ◌^◌, ◌&&◌, true, Some, None, IsTrue};
 ghost use Rattle.match_model.specs.Values.{MValue};
-ghost use Rattle.match_model.specs.Constructors.{MShape, RowCtor, OrCtor, OneLength, is_of_set, belongs, has_piece, sure_inside};
+ghost use Rattle.match_model.specs.Constructors.{MShape, RowCtor, OrCtor, OneLength, is_of_set, belongs, has_piece};
+ghost use Rattle.match_model.specs.Constructors.{sure_inside};
 ghost use Rattle.match_model.specs.WellTyped.{IsTyped, IsHeadTyped};
 ghost use Rattle.pat_context.specs.Parts.{Tells};
 ghost use Rattle.pat_context.specs.Views.{plain_ctor, is_sure};
@@ -20,8 +21,8 @@ use pat_context::{Ctor, PatCx, Validity, has_value, part_type};
 use pattern_arena::DePat;
 use slice_split::Shape;
 
-/// Tells whether some value of the type, at a place of the validity, is matched by both patterns. No pattern at all matches
-/// every value. It takes no memory.
+/// Tells whether some value of the type, at a place of the validity, is matched by both patterns. No pattern at all
+/// matches every value. It takes no memory.
 #[cycle(meets)]
 pub(crate) fn meets<'a, C: PatCx>(
     cx: &C,
@@ -151,8 +152,8 @@ fn pair_meets<'a, C: PatCx>(
     }
 }
 
-/// Tells whether, for some constructor of the type that both patterns have, the two patterns below them with these numbers
-/// stand at one part, and for each other part some value is matched by both patterns for it. It takes no memory.
+/// Tells whether some constructor of the type does: both patterns have it, and with it the two patterns below with these
+/// numbers stand at one part. For each other part some value is matched by both patterns there. It takes no memory.
 #[cycle(meets)]
 pub(crate) fn pieces_meet<'a, C: PatCx>(
     cx: &C,
@@ -261,8 +262,8 @@ fn have_piece<'a, T: Copy>(p: &'a DePat<'a, T>, q: Option<&'a DePat<'a, T>>, pie
         }
 }
 
-// Tells whether for a constructor that both have, the two patterns below them stand at one part, and at each other part
-// some value is matched by both.
+// Tells whether with a constructor that both have the two patterns below stand at one part. At each other part some value
+// is matched by both.
 #[cycle(meets)]
 fn piece_meets<'a, C: PatCx>(
     cx: &C,

@@ -1,24 +1,36 @@
-// Several columns as one: the number there is mixed of those in each.
+// Several columns as one: behind the number in the first stand digits that are mixed of those in others.
 //
-// Rows of many parts may differ in no single one, as those of even and odd parity do. Where each has one number in some
-// columns, these are taken together: rows with the same numbers there have the same mixed one, and others seldom.
-ghost use Rattle.std.specs.Prelude.{◌≡◌, ℕ, ℤ, pos, List, IsTrue, IfSome};
-ghost use Rattle.match_model.specs.Numbers.{in_range};
+// Rows of many parts may differ in no single one, as those of even and odd parity do. So the numbers in the columns of a
+// group are mixed into one digit: rows with the same numbers there have the same digit, and others seldom. Where a row
+// has no single number in a column of a group, any digit is possible. So whatever the groups are, rows that the first
+// column tells apart stay apart.
+ghost use Rattle.std.specs.Prelude.{◌≡◌, ◌<◌, ◌≤◌, ℕ, ℤ, pos, nat_abs, ◌%◌, List, IsTrue, IfSome};
+ghost use Rattle.match_model.specs.Numbers.{in_range, is_from, is_up_to};
 ghost use Rattle.match_model.specs.Values.{MValue};
 ghost use Rattle.pattern_arena.specs.Trees.{tree};
+ghost use Rattle.range_split.specs.Ends.{plain_end};
 ghost use Rattle.range_split.specs.Ranges.{plain_range};
 ghost use Rattle.range_split.specs.Numbers.{num_value};
-ghost use Rattle.pattern_lints.specs.Mixing.{mix, mixed_with, number_of, LiesAt};
+ghost use Rattle.pattern_lints.specs.Mixing.{mix, mixed_with, mixed, with_digit, last_digit, with_digits_of};
+ghost use Rattle.pattern_lints.specs.Mixing.{number_of, LiesAt};
 
 use crate::beside::{Column, all_numbers, numbers_beside, one_number};
 use pattern_arena::DePat;
 use range_split::{End, Num, Range};
 
+// Columns whose numbers are mixed into one digit.
+#[derive(Drop)]
+pub(crate) struct Group {
+    pub(crate) columns: Vec<Column>,
+}
+
 // Columns that are taken together.
 #[derive(Drop)]
 pub(crate) struct Columns {
+    // The column by whose number rows are told apart first.
     pub(crate) first: Column,
-    pub(crate) others: Vec<Column>,
+    // Each gives one more digit.
+    pub(crate) groups: Vec<Group>,
 }
 
 // The number of the range, where it has one alone.
@@ -76,6 +88,88 @@ fn mixed_with<'a, T: Copy>(
     numbers
 }
 
+// The least and the greatest last digit of the numbers, in base 2^16; any digit, where there are several numbers.
+fn last_digits(numbers: &Range) -> (u128, u128)
+    ensures digits { (x : ℤ) → IsTrue (in_range (plain_range numbers.now) x)
+        → (result.0 ≤ last_digit x) × (last_digit x ≤ result.1) }
+    ensures least { result.0 < 65536 }
+    ensures greatest { result.1 < 65536 }
+{
+    match only_number(numbers) {
+        Some(number) => {
+            let digit = number.size % 65_536;
+            (digit, digit)
+        }
+        None => (0, 65_535),
+    }
+}
+
+// The number with one more digit, if 128 bits can hold it.
+fn with_digit(number: &Num, digit: u128) -> Option<Num>
+    requires { digit < 65536 }
+    ensures { IfSome result (λ n. num_value n ≡ with_digit (num_value number.now) digit) }
+{
+    if number.size >= 5_192_296_858_534_827_628_530_496_329_220_096 {
+        return None;
+    }
+    let size = number.size * 65_536;
+    if number.negative {
+        Some(Num::new(true, size - digit))
+    } else {
+        Some(Num::new(false, size + digit))
+    }
+}
+
+// The end with one more digit; a free one, if 128 bits cannot hold it.
+fn end_with(end: &End, digit: u128) -> End
+    requires { digit < 65536 }
+    ensures low { (x : ℤ) (d : ℕ) → IsTrue (is_from (plain_end end.now) x) → digit ≤ d
+        → IsTrue (is_from (plain_end result) (with_digit x d)) }
+    ensures high { (x : ℤ) (d : ℕ) → IsTrue (is_up_to (plain_end end.now) x) → d ≤ digit
+        → IsTrue (is_up_to (plain_end result) (with_digit x d)) }
+{
+    match end {
+        End::Free => End::Free,
+        End::At(number) => match with_digit(number, digit) {
+            Some(longer) => End::At(longer),
+            None => End::Free,
+        },
+    }
+}
+
+// The numbers, each with the last digit of one of the further numbers behind it.
+fn numbers_with(numbers: &Range, further: &Range) -> Range
+    ensures { (x y : ℤ) → IsTrue (in_range (plain_range numbers.now) x) → IsTrue (in_range (plain_range further.now) y)
+        → IsTrue (in_range (plain_range result) (with_digit x (last_digit y))) }
+{
+    let (least, greatest) = last_digits(further);
+    let low = end_with(&numbers.low(), least);
+    let high = end_with(&numbers.high(), greatest);
+    match Range::new(low, high) {
+        Some(range) => range,
+        None => all_numbers(),
+    }
+}
+
+// The numbers with one more digit for each group.
+fn with_groups<'a, T: Copy>(
+    p: &'a DePat<'a, T>,
+    path: &[usize],
+    first: Range,
+    groups: &[Group],
+) -> Range
+    ensures { (n : List ℕ → MValue → ℤ) → LiesAt (tree p.entry.now) path.now n (plain_range first)
+        → LiesAt (tree p.entry.now) path.now (λ position v. with_digits_of (n position v) groups.now position v)
+        (plain_range result) }
+{
+    let mut numbers = first;
+    for group in groups {
+        let further = mixed_with(p, path, one_number(0), &group.columns);
+        numbers = numbers_with(&numbers, &further);
+    }
+    numbers
+}
+
 /// The number in the columns, in the values that the pattern matches along the path to a range. It takes no memory.
 pub(crate) fn numbers_in<'a, T: Copy>(
     p: &'a DePat<'a, T>,
@@ -85,5 +179,5 @@ pub(crate) fn numbers_in<'a, T: Copy>(
     ensures { LiesAt (tree p.entry.now) path.now (number_of columns.now) (plain_range result) }
 {
     let first = numbers_beside(p, path, columns.first.depth, &columns.first.steps);
-    mixed_with(p, path, first, &columns.others)
+    with_groups(p, path, first, &columns.groups)
 }

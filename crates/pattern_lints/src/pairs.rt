@@ -52,7 +52,8 @@ fn add_pair<'a, C: PatCx>(
     requires other_arm { other.now.arm < length m.now.arms.now }
     requires touch { MeetAt (range_view one.now).range (range_view other.now).range (num_value value) }
     ensures { OnOk result (Adds (IsPair (C.is_value cx.now) (plain_match m.now) (range_view one.now)
-        (range_view other.now) (num_value value)) (plain_overlaps overlaps.old.items) (plain_overlaps overlaps.new.items)) }
+        (range_view other.now) (num_value value)) (plain_overlaps overlaps.old.items)
+        (plain_overlaps overlaps.new.items)) }
 {
     if one.at == other.at {
         return Ok(());

@@ -6,8 +6,8 @@ ghost use Rattle.pat_context.specs.Parts.{Tells};
 ghost use Rattle.pat_context.specs.Views.{plain_ctor};
 ghost use Rattle.pattern_arena.specs.Trees.{tree, placed_ctor, placed_subs};
 ghost use Rattle.pattern_lints.specs.Meeting.{plain_head, head_by, part_head, place_of, head_front, head_back, Fits};
-ghost use Rattle.pattern_lints.specs.Meeting.{HeadFits, Stands, Skipped, spot_part, head_ctor, IsWritten, IsAlike, front_by};
-ghost use Rattle.pattern_lints.specs.Meeting.{back_by, IsAlikeHead};
+ghost use Rattle.pattern_lints.specs.Meeting.{HeadFits, Stands, Skipped, spot_part, head_ctor, IsWritten, IsAlike};
+ghost use Rattle.pattern_lints.specs.Meeting.{front_by, back_by, IsAlikeHead};
 ghost use Rattle.pattern_lints.specs.Lengths.{IsSpotOf, SpotIsBelow};
 
 use constructor_sets::has_piece;
