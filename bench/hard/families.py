@@ -438,8 +438,9 @@ def touching_beside_wildcards(count):
 
 
 def seldom(number, count, pattern):
-    """The pattern in one row of so many that only rows far apart have it, and a wildcard elsewhere."""
-    return pattern if number % (count // 12) == 0 else "_"
+    """The pattern in some two dozen rows of so many, and a wildcard elsewhere. The rows are those that are compared."""
+    step = count // 12
+    return pattern if number % step in (0, number // step * 7 % step) else "_"
 
 
 def touching_rows(parameter, rows, count, before=""):
@@ -450,29 +451,29 @@ def touching_rows(parameter, rows, count, before=""):
 
 @family(2400, 4800, 9600, overlaps=True)
 def touching_seldom_numbers(count):
-    """Ranges that touch beside different variants, and beside a number in a few rows."""
-    rows = (f"{variant(i)}, {seldom(i, count, i)}" for i in range(count))
+    """Ranges that touch beside variants that return, and beside a number in a few rows."""
+    rows = (f"{variant(i % (count // 2))}, {seldom(i, count, i)}" for i in range(count))
     return touching_rows("E, u32", rows, count, an_enum("E", count))
 
 
 @family(2400, 4800, 9600, overlaps=True)
 def touching_seldom_numbers_first(count):
     """The same with the seldom numbers before the variants."""
-    rows = (f"{seldom(i, count, i)}, {variant(i)}" for i in range(count))
+    rows = (f"{seldom(i, count, i)}, {variant(i % (count // 2))}" for i in range(count))
     return touching_rows("u32, E", rows, count, an_enum("E", count))
 
 
 @family(2400, 4800, 9600, overlaps=True)
 def touching_seldom_texts(count):
-    """Ranges that touch beside different variants, and beside a text in a few rows."""
-    rows = (variant(i) + ", " + seldom(i, count, f'"t{i}"') for i in range(count))
+    """Ranges that touch beside variants that return, and beside a text in a few rows."""
+    rows = (variant(i % (count // 2)) + ", " + seldom(i, count, f'"t{i}"') for i in range(count))
     return touching_rows("E, &str", rows, count, an_enum("E", count))
 
 
 @family(2400, 4800, 9600, overlaps=True)
 def touching_seldom_items(count):
-    """Ranges that touch beside different variants, and beside the first item of a slice in a few rows."""
-    rows = (variant(i) + ", " + seldom(i, count, f"[{i}, ..]") for i in range(count))
+    """Ranges that touch beside variants that return, and beside the first item of a slice in a few rows."""
+    rows = (variant(i % (count // 2)) + ", " + seldom(i, count, f"[{i}, ..]") for i in range(count))
     return touching_rows("E, &[u32]", rows, count, an_enum("E", count))
 
 

@@ -1,6 +1,6 @@
 -- The number that is mixed of several.
-use Rattle.std.proofs.Common.{◌≡◌, ◌<◌, ℕ, zero, suc, ◌+◌, ◌-◌, ◌*◌, ◌%◌, ◌≤◌, ℤ, pos, Bool, true, false, List, [], ◌∷◌, take, length, get_or, refl, sym, ap, ◌∙◌, arith}
-use Rattle.std.specs.Prelude.{nat_abs, neg_ℤ, ◌+ℤ◌, ◌*ℤ◌, int_le}
+use Rattle.std.proofs.Common.{◌≡◌, ◌<◌, ℕ, zero, suc, ◌+◌, ◌*◌, ◌%◌, ℤ, pos, Bool, true, false, List, [], ◌∷◌, take, length, get_or, refl, sym, ap, ◌∙◌, arith}
+use Rattle.std.specs.Prelude.{nat_abs}
 use Rattle.std.proofs.lemmas.Int.{ints}
 use Rattle.match_model.specs.Values.{MValue}
 use Rattle.match_model.specs.Numbers.{MEnd, Free, At, MRange, in_range, has_one_number}
@@ -45,22 +45,6 @@ mixed-next x cs i c position v l is =
     go x (d ∷ ds) (suc i) l is = go (pos (mix x (number_beside d.depth d.steps.items position v))) ds i (omega (arith, l)) is
 
 -- ---- one digit more
-
--- the last digit, by the distance from zero
-pub digit-signed : (negative : Bool) (n : ℕ) (x : ℤ) → x ≡ signed negative n → last_digit x ≡ n % 65536
-digit-signed negative n x is = ap (λ (y : ℤ). nat_abs y % 65536) is ∙ ap (λ (m : ℕ). m % 65536) (size-signed negative n)
-
--- of a number below zero
-pub longer-below : (size digit : ℕ) → 1 ≤ size → digit < 65536 → neg_ℤ (pos (size * 65536 - digit)) ≡ with_digit (neg_ℤ (pos size)) digit
-longer-below size digit some less = omega (arith, ints)
-
--- of another
-pub longer : (size digit : ℕ) → pos (size * 65536 + digit) ≡ with_digit (pos size) digit
-longer size digit = omega (arith, ints)
-
--- a greater number with no smaller digit is greater
-pub digit-up : (a x : ℤ) (d e : ℕ) → int_le a x ≡ true → d ≤ e → int_le (with_digit a d) (with_digit x e) ≡ true
-digit-up a x d e h k = grind (arith, ints)
 
 -- one group more
 pub digits-next : (x : ℤ) (gs : List Group) (i : ℕ) (g : Group) (position : List ℕ) (v : MValue) → i < length gs → g ≡ get_or gs i g →

@@ -207,9 +207,9 @@ fn add_column(trying: &mut Trying, depth: usize) -> Result<(), NoMemory> {
         return Ok(());
     }
     let steps = Vec::from_slice(trying.alloc, &trying.steps)?;
-    trying
-        .trials
-        .push(untried(trying.alloc, Column { depth, steps }))
+    let trial = untried(trying.alloc, Column { depth, steps });
+    trying.trials.push(trial)?;
+    Ok(())
 }
 
 // Adds the columns of the pattern and of those below it.

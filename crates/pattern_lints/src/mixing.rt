@@ -4,14 +4,14 @@
 // group are mixed into one digit: rows with the same numbers there have the same digit, and others seldom. Where a row
 // has no single number in a column of a group, any digit is possible. So whatever the groups are, rows that the first
 // column tells apart stay apart.
-ghost use Rattle.std.specs.Prelude.{◌≡◌, ◌<◌, ◌≤◌, ℕ, ℤ, pos, nat_abs, ◌%◌, List, IsTrue, IfSome};
+ghost use Rattle.std.specs.Prelude.{◌≡◌, ◌<◌, ◌≤◌, ℕ, ℤ, pos, List, IsTrue, IfSome};
 ghost use Rattle.match_model.specs.Numbers.{in_range, is_from, is_up_to};
 ghost use Rattle.match_model.specs.Values.{MValue};
 ghost use Rattle.pattern_arena.specs.Trees.{tree};
 ghost use Rattle.range_split.specs.Ends.{plain_end};
 ghost use Rattle.range_split.specs.Ranges.{plain_range};
 ghost use Rattle.range_split.specs.Numbers.{num_value};
-ghost use Rattle.pattern_lints.specs.Mixing.{mix, mixed_with, mixed, with_digit, last_digit, with_digits_of};
+ghost use Rattle.pattern_lints.specs.Mixing.{mix, mixed_with, with_digit, last_digit, with_digits_of};
 ghost use Rattle.pattern_lints.specs.Mixing.{number_of, LiesAt};
 
 use crate::beside::{Column, all_numbers, numbers_beside, one_number};

@@ -175,6 +175,39 @@ fn weight_of(told: Told, known: usize) -> u128 {
     (told.apart as u128).saturating_mul(all).saturating_mul(all) / compared / compared
 }
 
+// Tells whether the column tells less than the best one, and tells something of few of so many compared ranges.
+fn is_idle(trial: &Trial, most: usize, compared: usize) -> bool {
+    trial.told.apart < most && trial.told.known.saturating_mul(4) < compared
+}
+
+// How many of the columns are not idle.
+fn count_busy(trials: &[Trial], most: usize, compared: usize) -> usize {
+    let mut count: usize = 0;
+    for trial in trials {
+        if !is_idle(trial, most, compared) {
+            count = count.saturating_add(1);
+        }
+    }
+    count
+}
+
+// The most pairs that one of the columns tells apart.
+fn most_apart(trials: &[Trial]) -> usize {
+    let mut most = 0;
+    for trial in trials {
+        most = most.max(trial.told.apart);
+    }
+    most
+}
+
+// Where the column stands: before others that tell fewer pairs apart, and behind all others if it is idle.
+fn rank(trial: &Trial, most: usize, compared: usize) -> (bool, usize) {
+    (
+        is_idle(trial, most, compared),
+        usize::MAX - trial.told.apart,
+    )
+}
+
 // Compares the ranges in each column, and keeps so many of those that tell most pairs apart.
 pub(crate) fn keep_best<'a, T: Copy>(
     alloc: Global,
@@ -187,8 +220,10 @@ pub(crate) fn keep_best<'a, T: Copy>(
     for i in 0..trials.len() {
         trials[i].told = told_by(alloc, arms, found, &trials[i].own, compared)?;
     }
-    trials.sort_by_key(|trial| usize::MAX - trial.told.apart)?;
-    trials.truncate(most);
+    let apart = most_apart(trials);
+    trials.sort_by_key(|trial| rank(trial, apart, compared.len()))?;
+    let busy = count_busy(trials, apart, compared.len());
+    trials.truncate(busy.min(most));
     Ok(())
 }
 

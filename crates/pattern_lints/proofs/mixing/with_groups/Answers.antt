@@ -5,7 +5,7 @@ use Rattle.match_model.specs.Numbers.{MRange, in_range}
 use Rattle.range_split.specs.Ranges.{plain_range}
 use Rattle.pattern_lints.specs.declared.beside.Column.{Column}
 use Rattle.pattern_lints.specs.declared.mixing.Group.{Group}
-use Rattle.pattern_lints.specs.Mixing.{mixed_with, mixed, with_digits_of}
+use Rattle.pattern_lints.specs.Mixing.{mixed, with_digits_of}
 use Rattle.pattern_lints.proofs.BesideLaws.{in-itself}
 use Rattle.pattern_lints.proofs.Mixed.{digits-next}
 use Rattle.pattern_lints.proofs.mixing.with_groups.Goals as goal
