@@ -13,9 +13,9 @@ use crate::places::is_or;
 use pat_context::{PatCx, Validity, part_type};
 use pattern_arena::DePat;
 
-/// Tells whether some value of the type is matched by both patterns along their paths, at one position. The value stands
-/// at a place of the validity. At the position it has the one number that the ranges at the ends of the paths share. It
-/// takes no memory.
+/// Tells whether some value of the type is matched by both patterns along their paths, at one position. The value
+/// stands at a place of the validity. At the position it has the one number that the ranges at the ends of the paths
+/// share. It takes no memory.
 #[cycle(along)]
 pub(crate) fn along<'a, C: PatCx>(
     cx: &C,

@@ -1,8 +1,8 @@
 // Which columns tell the rows of the ranges of a place apart.
 //
-// Whichever columns are taken, the same overlaps are found: it says only how many pairs of ranges are asked. Columns are
-// looked for only at places where more pairs touch than there are ranges. Some ranges of a place, spread over all of
-// them, are compared. Their columns are tried.
+// Whichever columns are taken, the same overlaps are found: it says only how many pairs of ranges are asked. Columns
+// are looked for only at places where more pairs touch than there are ranges. Some ranges of a place, spread over all
+// of them, are compared. Their columns are tried.
 use crate::beside::{Column, stands_first};
 use crate::ends::RangeEnd;
 use crate::found::FoundRange;

@@ -45,8 +45,8 @@ fn one_length(n: u64) -> (u64, u64)
 }
 
 // Whether only the greatest length is tried: both go on to longer rows, and no two patterns below are to stand at one
-// part. Then rows of the greatest length are matched wherever shorter ones are. What stands at one item of them stood at
-// one item of the shorter ones too.
+// part. Then rows of the greatest length are matched wherever shorter ones are. What stands at one item of them stood
+// at one item of the shorter ones too.
 fn is_greatest_alone<'a, T: Copy>(
     p: &'a DePat<'a, T>,
     q: Option<&'a DePat<'a, T>>,

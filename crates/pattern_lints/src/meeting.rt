@@ -152,8 +152,9 @@ fn pair_meets<'a, C: PatCx>(
     }
 }
 
-/// Tells whether some constructor of the type does: both patterns have it, and with it the two patterns below with these
-/// numbers stand at one part. For each other part some value is matched by both patterns there. It takes no memory.
+/// Tells whether some constructor of the type does: both patterns have it, and with it the two patterns below with
+/// these numbers stand at one part. For each other part some value is matched by both patterns there. It takes no
+/// memory.
 #[cycle(meets)]
 pub(crate) fn pieces_meet<'a, C: PatCx>(
     cx: &C,
@@ -262,8 +263,8 @@ fn have_piece<'a, T: Copy>(p: &'a DePat<'a, T>, q: Option<&'a DePat<'a, T>>, pie
         }
 }
 
-// Tells whether with a constructor that both have the two patterns below stand at one part. At each other part some value
-// is matched by both.
+// Tells whether with a constructor that both have the two patterns below stand at one part. At each other part some
+// value is matched by both.
 #[cycle(meets)]
 fn piece_meets<'a, C: PatCx>(
     cx: &C,

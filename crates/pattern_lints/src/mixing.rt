@@ -1,9 +1,9 @@
 // Several columns as one: behind the number in the first stand digits that are mixed of those in others.
 //
-// Rows of many parts may differ in no single one, as those of even and odd parity do. So the numbers in the columns of a
-// group are mixed into one digit: rows with the same numbers there have the same digit, and others seldom. Where a row
-// has no single number in a column of a group, any digit is possible. So whatever the groups are, rows that the first
-// column tells apart stay apart.
+// Rows of many parts may differ in no single one, as those of even and odd parity do. So the numbers in the columns
+// of a group are mixed into one digit: rows with the same numbers there have the same digit, and others seldom. Where
+// a row has no single number in a column of a group, any digit is possible. So whatever the groups are, rows that the
+// first column tells apart stay apart.
 ghost use Rattle.std.specs.Prelude.{◌≡◌, ◌<◌, ◌≤◌, ℕ, ℤ, pos, List, IsTrue, IfSome};
 ghost use Rattle.match_model.specs.Numbers.{in_range, is_from, is_up_to};
 ghost use Rattle.match_model.specs.Values.{MValue};

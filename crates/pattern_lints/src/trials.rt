@@ -246,8 +246,8 @@ fn is_steady(trial: &Trial) -> bool {
     trial.several == 0 && !trial.is_large
 }
 
-// The columns from one index on but for another one, as long as at most so many ranges have several numbers in them,
-// counted column by column. Behind them comes the column with the second part of the result.
+// The columns from one index on but for another one. They go on as long as at most so many ranges have several
+// numbers in them, counted column by column. Behind them comes the column with the second part of the result.
 fn next_group(
     alloc: Global,
     trials: &[Trial],
@@ -318,9 +318,9 @@ fn first_steady(trials: &[Trial]) -> Option<usize> {
     None
 }
 
-// The columns that tell most pairs of all ranges apart: the one that does best by itself, and those that are mixed behind
-// it. A column in which each range has one number comes first, if that tells more apart with others behind it. The
-// scrutinee itself, where none tells any.
+// The columns that tell most pairs of all ranges apart: the one that does best by itself, and those that are mixed
+// behind it. A column in which each range has one number comes first, if that tells more apart with others behind it.
+// The scrutinee itself, where none tells any.
 pub(crate) fn choose<'a, T: Copy>(
     alloc: Global,
     arms: &'a [CheckedArm<'a, T>],
