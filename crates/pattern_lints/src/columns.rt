@@ -341,6 +341,29 @@ fn count_numbers<'a, T: Copy>(
     }
 }
 
+// The columns for each place.
+fn choose_each<'a, T: Copy>(
+    alloc: Global,
+    arms: &'a [CheckedArm<'a, T>],
+    found: &[FoundRange],
+    crowds: &mut [Crowd],
+) -> Result<Vec<Columns>, NoMemory> {
+    let mut columns = Vec::new(alloc);
+    for i in 0..crowds.len() {
+        let crowd = &mut crowds[i];
+        let chosen = choose(
+            alloc,
+            arms,
+            found,
+            &crowd.compared,
+            crowd.count,
+            &mut crowd.trials,
+        )?;
+        columns.push(chosen)?;
+    }
+    Ok(columns)
+}
+
 /// The columns for each place of a range, by its number; none at all where no place is worth any. The ends are those of
 /// the ranges, by place and number. The only error is want of memory.
 pub(crate) fn choose_columns<'a, T: Copy>(
@@ -350,29 +373,17 @@ pub(crate) fn choose_columns<'a, T: Copy>(
     highs: &[RangeEnd],
     lows: &[RangeEnd],
 ) -> Result<Vec<Columns>, NoMemory> {
-    let mut columns = Vec::new(alloc);
     if found.len() < CROWD {
-        return Ok(columns);
+        return Ok(Vec::new(alloc));
     }
     let mut crowds = empty_crowds(alloc, greatest_place(found).saturating_add(1))?;
     count_ranges(&mut crowds, found);
     count_pairs(&mut crowds, highs, lows);
     if !some_is_crowded(&crowds) {
-        return Ok(columns);
+        return Ok(Vec::new(alloc));
     }
     take_compared(&mut crowds, found)?;
     take_columns(alloc, arms, found, &mut crowds)?;
     count_numbers(arms, found, &mut crowds);
-    for i in 0..crowds.len() {
-        let crowd = &mut crowds[i];
-        columns.push(choose(
-            alloc,
-            arms,
-            found,
-            &crowd.compared,
-            crowd.count,
-            &mut crowd.trials,
-        )?)?;
-    }
-    Ok(columns)
+    choose_each(alloc, arms, found, &mut crowds)
 }
