@@ -1,7 +1,10 @@
 pub mod LiteralEnds
 pub mod Named
+pub mod Near
+pub mod Parted
 pub mod Patterns
 pub mod Spellable
 pub mod Spelled
 pub mod SpellingLaws
 pub mod Takes
+pub mod TakingLaws

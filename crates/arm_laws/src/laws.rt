@@ -1,5 +1,6 @@
 //! Laws without code: each function does nothing, and its contract is the law.
 ghost use Rattle.arm_laws.specs.SpellingLaws.{ArmOfWitnessSpells, ArmTextSpells};
+ghost use Rattle.arm_laws.specs.TakingLaws.{EarlierTakesNone, FittingIsTaken};
 
 /// The text of an arm spells exactly one pattern. The arm is within the limits and has names that are identifiers,
 /// texts only behind `&`, and numbers of at most 128 bits.
@@ -11,4 +12,14 @@ pub fn arm_text_spells()
 /// the witness end at literals or lie beyond them.
 pub fn arm_of_witness_spells()
     ensures { ArmOfWitnessSpells }
+{}
+
+/// The arm for a witness takes each value that fits the witness.
+pub fn fitting_is_taken()
+    ensures { FittingIsTaken }
+{}
+
+/// In the order of arms the arm for a witness takes nothing that fits a later one.
+pub fn earlier_takes_none()
+    ensures { EarlierTakesNone }
 {}
