@@ -1,4 +1,5 @@
--- Of two witnesses that differ somewhere first, the arm of the one that stands first takes nothing that fits the other.
+-- Of two witnesses that differ somewhere first, the arm of the one that stands first takes nothing that fits the
+-- other.
 use Rattle.std.proofs.Common.{◌≡◌, ℕ, ◌+◌, ◌-◌, Bool, true, false, ◌&&◌, List, [], ◌∷◌, ◌++◌, length, take, drop, replicate, nat_eq, refl, sym, ap, subst, ◌∙◌, arith, length-take-le, length-drop}
 use Rattle.std.proofs.lemmas.List.{take-append-drop}
 use Rattle.match_model.specs.Types.{MType}
@@ -22,7 +23,8 @@ use Rattle.arm_laws.proofs.Itself.{nat_same, shape_same, itself}
 use Rattle.arm_laws.proofs.Stacks.{types, variant_types, single_types, row_types, items_compared, items_taken, items_halves, fit_halves, compared_halves}
 
 module _ (program : MProgram) where
-  -- two pieces of a column: they have no value in common, are open beyond the literals, and their witnesses are told apart
+  -- two pieces of a column: they have no value in common, are open beyond the literals, and their witnesses are
+  -- told apart
   pub record IsApart (o : Open MType) (named : List (List ℕ)) (p q : MCtor) : Type 0 where
     pub disjoint : AreDisjoint named p q
     pub proper : (is_proper p ≡ true) × (is_proper q ≡ true)
@@ -32,7 +34,8 @@ module _ (program : MProgram) where
     pub back : (ws us : List MWitness) → RowHas q (length ws) → RowHas p (length us) →
         compare_arm program o.type (witness_of q named ws) (witness_of p named us) ≡ Same → ⊥
 
-  pub turned_pieces : (o : Open MType) (named : List (List ℕ)) (p q : MCtor) → IsApart o named p q → IsApart o named q p
+  pub turned_pieces : (o : Open MType) (named : List (List ℕ)) (p q : MCtor) → IsApart o named p q → IsApart o named q
+      p
   turned_pieces o named p q h = record {
     disjoint = λ v x y. h.disjoint v y x;
     proper = (h.proper.1, h.proper.0);
@@ -91,7 +94,8 @@ module _ (program : MProgram) where
       go [] c k d e f = absurd cc
       go (v ∷ vs) Same k d e f = h.0 k
       go (v ∷ vs) Before k d e f =
-          h.1 v k (both (takes program t w v) (parts_take program ts (witnesses_of ws) vs) e).0 (both (fits u v) (all_fit (witnesses_of us) vs) f).0
+          h.1 v k (both (takes program t w v) (parts_take program ts (witnesses_of ws) vs) e).0
+          (both (fits u v) (all_fit (witnesses_of us) vs) f).0
       go (v ∷ vs) NotBefore k d e f = absurd cc
 
   -- the first are one
@@ -100,14 +104,16 @@ module _ (program : MProgram) where
   behind_told t ts w ws us h =
       (λ e. h.0 (sym (gone) ∙ e), λ vs c e f. go vs (sym gone ∙ c) e f)
     where
-      gone : compare_parts program (t ∷ ts) (witnesses_of (w ∷ ws)) (witnesses_of (w ∷ us)) ≡ compare_parts program ts (witnesses_of ws) (witnesses_of us)
+      gone : compare_parts program (t ∷ ts) (witnesses_of (w ∷ ws)) (witnesses_of (w ∷ us)) ≡ compare_parts program ts
+          (witnesses_of ws) (witnesses_of us)
       gone = ap (λ c. and_then c (compare_parts program ts (witnesses_of ws) (witnesses_of us))) (itself program t w)
 
       go : (vs : List MValue) → compare_parts program ts (witnesses_of ws) (witnesses_of us) ≡ Before →
           parts_take program (t ∷ ts) (witnesses_of (w ∷ ws)) vs ≡ true → all_fit (witnesses_of (w ∷ us)) vs ≡ true → ⊥
       go [] d e f = absurd cc
       go (v ∷ vs) d e f =
-          h.1 vs d (both (takes program t w v) (parts_take program ts (witnesses_of ws) vs) e).1 (both (fits w v) (all_fit (witnesses_of us) vs) f).1
+          h.1 vs d (both (takes program t w v) (parts_take program ts (witnesses_of ws) vs) e).1
+          (both (fits w v) (all_fit (witnesses_of us) vs) f).1
 
   -- a node of a variant
   node_told : (t : MType) (k : ℕ) (ws us : List MWitness) → AreToldAll (types_there (node_types program t k)) ws us →
@@ -117,13 +123,16 @@ module _ (program : MProgram) where
       ts : List MType
       ts = types_there (node_types program t k)
 
-      gone : and_then (compare_nat k k) (compare_parts program ts (witnesses_of ws) (witnesses_of us)) ≡ compare_parts program ts (witnesses_of ws) (witnesses_of us)
+      gone : and_then (compare_nat k k) (compare_parts program ts (witnesses_of ws) (witnesses_of us)) ≡ compare_parts
+          program ts (witnesses_of ws) (witnesses_of us)
       gone = ap (λ c. and_then c (compare_parts program ts (witnesses_of ws) (witnesses_of us))) (nat_same k)
 
       go : (v : MValue) → compare_parts program ts (witnesses_of ws) (witnesses_of us) ≡ Before →
-          node_fits k (λ vs. parts_take program ts (witnesses_of ws) vs) v ≡ true → node_fits k (λ vs. all_fit (witnesses_of us) vs) v ≡ true → ⊥
+          node_fits k (λ vs. parts_take program ts (witnesses_of ws) vs) v ≡ true → node_fits k
+          (λ vs. all_fit (witnesses_of us) vs) v ≡ true → ⊥
       go (Node j parts) c e f =
-          h.1 (values_list parts) c (both (nat_eq k j) (parts_take program ts (witnesses_of ws) (values_list parts)) e).1
+          h.1 (values_list parts) c (both (nat_eq k j) (parts_take program ts (witnesses_of ws) (values_list parts))
+          e).1
           (both (nat_eq k j) (all_fit (witnesses_of us) (values_list parts)) f).1
       go (Flag b) c e f = absurd cc
       go (Num n) c e f = absurd cc
@@ -137,13 +146,18 @@ module _ (program : MProgram) where
   -- a reference
   point_told : (t : MType) (w u : MWitness) → AreToldAll (inner_type t ∷ []) (w ∷ []) (u ∷ []) →
       AreTold t (PointOf w) (PointOf u)
-  point_told t w u h = (λ e. h.0 (and_then-same (compare_arm program (inner_type t) w u) ∙ e), λ v c e f. go v (and_then-same (compare_arm program (inner_type t) w u) ∙ c) e f)
+  point_told t w u h = (
+    λ e. h.0 (and_then-same (compare_arm program (inner_type t) w u) ∙ e),
+    λ v c e f. go v
+        (and_then-same (compare_arm program (inner_type t) w u) ∙ c) e f,
+  )
     where
       alone : (b : Bool) → b ≡ true → (b && true) ≡ true
       alone true e = refl
       alone false e = absurd cc
 
-      go : (v : MValue) → compare_parts program (inner_type t ∷ []) (witnesses_of (w ∷ [])) (witnesses_of (u ∷ [])) ≡ Before →
+      go : (v : MValue) → compare_parts program (inner_type t ∷ []) (witnesses_of (w ∷ [])) (witnesses_of (u ∷ [])) ≡
+          Before →
           point_fits (λ z. takes program (inner_type t) w z) v ≡ true → point_fits (λ z. fits u z) v ≡ true → ⊥
       go (Point m v) c e f =
           h.1 (v ∷ []) c (alone (takes program (inner_type t) w v) e) (alone (fits u v) f)
@@ -171,26 +185,38 @@ module _ (program : MProgram) where
       j : length (witnesses_list (witnesses_of us)) ≡ n
       j = ap length (list_back us) ∙ m
 
-      gone : and_then (compare_shape (length (witnesses_list (witnesses_of ws))) false 0 (length (witnesses_list (witnesses_of us))) false 0)
+      gone : and_then (compare_shape (length (witnesses_list (witnesses_of ws))) false 0
+          (length (witnesses_list (witnesses_of us))) false 0)
           (and_then (compare_items program i (witnesses_of ws) (witnesses_of us)) Same)
           ≡ compare_parts program (replicate n i) (witnesses_of ws) (witnesses_of us)
       gone =
-          subst (λ z. and_then (compare_shape z false 0 (length (witnesses_list (witnesses_of us))) false 0) (and_then (compare_items program i (witnesses_of ws) (witnesses_of us)) Same) ≡ compare_parts program (replicate n i) (witnesses_of ws) (witnesses_of us)) (sym k)
-          (subst (λ z. and_then (compare_shape n false 0 z false 0) (and_then (compare_items program i (witnesses_of ws) (witnesses_of us)) Same) ≡ compare_parts program (replicate n i) (witnesses_of ws) (witnesses_of us)) (sym j)
-          (ap (λ c. and_then c (and_then (compare_items program i (witnesses_of ws) (witnesses_of us)) Same)) (shape_same n false 0)
+          subst (λ z. and_then (compare_shape z false 0 (length (witnesses_list (witnesses_of us))) false 0)
+          (and_then (compare_items program i (witnesses_of ws) (witnesses_of us)) Same) ≡ compare_parts program
+          (replicate n i) (witnesses_of ws) (witnesses_of us)) (sym k)
+          (subst (λ z. and_then (compare_shape n false 0 z false 0)
+          (and_then (compare_items program i (witnesses_of ws) (witnesses_of us)) Same) ≡ compare_parts program
+          (replicate n i) (witnesses_of ws) (witnesses_of us)) (sym j)
+          (ap (λ c. and_then c (and_then (compare_items program i (witnesses_of ws) (witnesses_of us)) Same))
+          (shape_same n false 0)
           ∙ and_then-same (compare_items program i (witnesses_of ws) (witnesses_of us))
           ∙ items_compared program i ws us (l ∙ sym m)
           ∙ ap (λ z. compare_parts program (replicate z i) (witnesses_of ws) (witnesses_of us)) l))
 
       go : (v : MValue) → compare_parts program (replicate n i) (witnesses_of ws) (witnesses_of us) ≡ Before →
-          slice_fits (length (witnesses_list (witnesses_of ws))) false 0 (λ vs. items_take program i (witnesses_of ws) vs) (λ vs. items_take program i no_witnesses vs) v ≡ true →
-          slice_fits (length (witnesses_list (witnesses_of us))) false 0 (λ vs. all_fit (witnesses_of us) vs) (λ vs. all_fit no_witnesses vs) v ≡ true → ⊥
+          slice_fits (length (witnesses_list (witnesses_of ws))) false 0
+          (λ vs. items_take program i (witnesses_of ws) vs) (λ vs. items_take program i no_witnesses vs) v ≡ true →
+          slice_fits (length (witnesses_list (witnesses_of us))) false 0 (λ vs. all_fit (witnesses_of us) vs)
+          (λ vs. all_fit no_witnesses vs) v ≡ true → ⊥
       go (Row items) c e f =
           let vs = values_list items in
-          let a = both (items_take program i (witnesses_of ws) (take (length (witnesses_list (witnesses_of ws))) vs)) _ (both (covers (FixedShape (length (witnesses_list (witnesses_of ws)) + 0)) (length vs)) _ e).1 in
-          let b = both (all_fit (witnesses_of us) (take (length (witnesses_list (witnesses_of us))) vs)) _ (both (covers (FixedShape (length (witnesses_list (witnesses_of us)) + 0)) (length vs)) _ f).1 in
+          let a = both (items_take program i (witnesses_of ws) (take (length (witnesses_list (witnesses_of ws))) vs))
+          _ (both (covers (FixedShape (length (witnesses_list (witnesses_of ws)) + 0)) (length vs)) _ e).1 in
+          let b = both (all_fit (witnesses_of us) (take (length (witnesses_list (witnesses_of us))) vs)) _
+          (both (covers (FixedShape (length (witnesses_list (witnesses_of us)) + 0)) (length vs)) _ f).1 in
           h.1 (take n vs) c
-          (subst (λ z. parts_take program (replicate z i) (witnesses_of ws) (take n vs) ≡ true) l (items_taken program i ws (take n vs) (subst (λ z. items_take program i (witnesses_of ws) (take z vs) ≡ true) k a.0)))
+          (subst (λ z. parts_take program (replicate z i) (witnesses_of ws) (take n vs) ≡ true) l
+          (items_taken program i ws (take n vs) (subst (λ z. items_take program i (witnesses_of ws) (take z vs) ≡
+          true) k a.0)))
           (subst (λ z. all_fit (witnesses_of us) (take z vs) ≡ true) j b.0)
       go (Node q parts) c e f = absurd cc
       go (Flag b) c e f = absurd cc
@@ -253,12 +279,14 @@ module _ (program : MProgram) where
       wholes_too = take-append-drop m us
 
       inside : Compared
-      inside = and_then (compare_items program i (witnesses_of fw) (witnesses_of fu)) (compare_items program i (witnesses_of bw) (witnesses_of bu))
+      inside = and_then (compare_items program i (witnesses_of fw) (witnesses_of fu))
+          (compare_items program i (witnesses_of bw) (witnesses_of bu))
 
       inside_is : inside ≡ compare_parts program (replicate (m + b) i) (witnesses_of ws) (witnesses_of us)
       inside_is =
           compared_halves program i fw fu bw bu (lfw ∙ sym lfu)
-          ∙ subst (λ z. compare_items program i (witnesses_of (fw ++ bw)) (witnesses_of (fu ++ bu)) ≡ compare_items program i (witnesses_of z) (witnesses_of us)) wholes
+          ∙ subst (λ z. compare_items program i (witnesses_of (fw ++ bw)) (witnesses_of (fu ++ bu)) ≡ compare_items
+          program i (witnesses_of z) (witnesses_of us)) wholes
           (ap (λ z. compare_items program i (witnesses_of (fw ++ bw)) (witnesses_of z)) wholes_too)
           ∙ items_compared program i ws us (l ∙ sym k)
           ∙ ap (λ z. compare_parts program (replicate z i) (witnesses_of ws) (witnesses_of us)) l
@@ -266,30 +294,44 @@ module _ (program : MProgram) where
       shaped : (a c d e : ℕ) → a ≡ m → c ≡ b → d ≡ m → e ≡ b → compare_shape a true c d true e ≡ Same
       shaped a c d e p q r s =
           ap (λ z. compare_shape z true c d true e) p ∙ ap (λ z. compare_shape m true z d true e) q
-          ∙ ap (λ z. compare_shape m true b z true e) r ∙ ap (λ z. compare_shape m true b m true z) s ∙ shape_same m true b
+          ∙ ap (λ z. compare_shape m true b z true e) r ∙ ap (λ z. compare_shape m true b m true z) s ∙ shape_same m
+          true b
 
-      gone : and_then (compare_shape (length (witnesses_list (witnesses_of fw))) true (length (witnesses_list (witnesses_of bw))) (length (witnesses_list (witnesses_of fu))) true (length (witnesses_list (witnesses_of bu)))) inside
+      gone : and_then (compare_shape (length (witnesses_list (witnesses_of fw))) true
+          (length (witnesses_list (witnesses_of bw))) (length (witnesses_list (witnesses_of fu))) true
+          (length (witnesses_list (witnesses_of bu)))) inside
           ≡ compare_parts program (replicate (m + b) i) (witnesses_of ws) (witnesses_of us)
       gone =
-          ap (λ c. and_then c inside) (shaped (length (witnesses_list (witnesses_of fw))) (length (witnesses_list (witnesses_of bw))) (length (witnesses_list (witnesses_of fu))) (length (witnesses_list (witnesses_of bu))) wfw wbw wfu wbu)
+          ap (λ c. and_then c inside) (shaped (length (witnesses_list (witnesses_of fw)))
+          (length (witnesses_list (witnesses_of bw))) (length (witnesses_list (witnesses_of fu)))
+          (length (witnesses_list (witnesses_of bu))) wfw wbw wfu wbu)
           ∙ inside_is
 
       go : (v : MValue) → compare_parts program (replicate (m + b) i) (witnesses_of ws) (witnesses_of us) ≡ Before →
-          slice_fits (length (witnesses_list (witnesses_of fw))) true (length (witnesses_list (witnesses_of bw))) (λ vs. items_take program i (witnesses_of fw) vs) (λ vs. items_take program i (witnesses_of bw) vs) v ≡ true →
-          slice_fits (length (witnesses_list (witnesses_of fu))) true (length (witnesses_list (witnesses_of bu))) (λ vs. all_fit (witnesses_of fu) vs) (λ vs. all_fit (witnesses_of bu) vs) v ≡ true → ⊥
+          slice_fits (length (witnesses_list (witnesses_of fw))) true (length (witnesses_list (witnesses_of bw)))
+          (λ vs. items_take program i (witnesses_of fw) vs) (λ vs. items_take program i (witnesses_of bw) vs) v ≡
+          true →
+          slice_fits (length (witnesses_list (witnesses_of fu))) true (length (witnesses_list (witnesses_of bu)))
+          (λ vs. all_fit (witnesses_of fu) vs) (λ vs. all_fit (witnesses_of bu) vs) v ≡ true → ⊥
       go (Row items) c e f =
           let vs = values_list items in
           let n = length vs in
-          let a = both (items_take program i (witnesses_of fw) (take (length (witnesses_list (witnesses_of fw))) vs)) (items_take program i (witnesses_of bw) (drop (n - length (witnesses_list (witnesses_of bw))) vs))
-          (both (covers (LongerShape (length (witnesses_list (witnesses_of fw))) (length (witnesses_list (witnesses_of bw)))) n) _ e).1 in
-          let d = both (all_fit (witnesses_of fu) (take (length (witnesses_list (witnesses_of fu))) vs)) (all_fit (witnesses_of bu) (drop (n - length (witnesses_list (witnesses_of bu))) vs))
-          (both (covers (LongerShape (length (witnesses_list (witnesses_of fu))) (length (witnesses_list (witnesses_of bu)))) n) _ f).1 in
+          let a = both (items_take program i (witnesses_of fw) (take (length (witnesses_list (witnesses_of fw))) vs))
+          (items_take program i (witnesses_of bw) (drop (n - length (witnesses_list (witnesses_of bw))) vs))
+          (both (covers (LongerShape (length (witnesses_list (witnesses_of fw)))
+          (length (witnesses_list (witnesses_of bw)))) n) _ e).1 in
+          let d = both (all_fit (witnesses_of fu) (take (length (witnesses_list (witnesses_of fu))) vs))
+          (all_fit (witnesses_of bu) (drop (n - length (witnesses_list (witnesses_of bu))) vs))
+          (both (covers (LongerShape (length (witnesses_list (witnesses_of fu)))
+          (length (witnesses_list (witnesses_of bu)))) n) _ f).1 in
           let xs = take m vs ++ drop (n - b) vs in
           let taken : items_take program i (witnesses_of (fw ++ bw)) xs ≡ true =
-          items_halves program i fw bw (take m vs) (drop (n - b) vs) (subst (λ z. items_take program i (witnesses_of fw) (take z vs) ≡ true) wfw a.0)
+          items_halves program i fw bw (take m vs) (drop (n - b) vs)
+          (subst (λ z. items_take program i (witnesses_of fw) (take z vs) ≡ true) wfw a.0)
           (subst (λ z. items_take program i (witnesses_of bw) (drop (n - z) vs) ≡ true) wbw a.1) in
           let fit : all_fit (witnesses_of (fu ++ bu)) xs ≡ true =
-          fit_halves fu bu (take m vs) (drop (n - b) vs) (subst (λ z. all_fit (witnesses_of fu) (take z vs) ≡ true) wfu d.0)
+          fit_halves fu bu (take m vs) (drop (n - b) vs) (subst (λ z. all_fit (witnesses_of fu) (take z vs) ≡ true)
+          wfu d.0)
           (subst (λ z. all_fit (witnesses_of bu) (drop (n - z) vs) ≡ true) wbu d.1) in
           h.1 xs c
           (subst (λ z. parts_take program (replicate z i) (witnesses_of ws) xs ≡ true) l
@@ -332,12 +374,14 @@ module _ (program : MProgram) where
   parts_told o (TextCtor y) named ws us l m d h = elim d [ ]
 
   mutual
-    pub one_told : {o : Open MType} {w u : MWitness} → PartedOne (rust_context program) IsApart o w u → AreTold o.type w u
+    pub one_told : {o : Open MType} {w u : MWitness} → PartedOne (rust_context program) IsApart o w u → AreTold o.type
+        w u
     one_told (by_pieces o named p q ws us h l m) =
         let i = row_has o.type p (length ws) l in
         let j = row_has o.type q (length us) m in (
           h.forth ws us i j,
-          λ v c e f. first_takes_none program o.type named p q ws us v h.disjoint i j h.proper.0 h.proper.1 h.open_beyond.0 h.open_beyond.1 c e f,
+          λ v c e f. first_takes_none program o.type named p q ws us v h.disjoint i j h.proper.0 h.proper.1
+              h.open_beyond.0 h.open_beyond.1 c e f,
         )
     one_told (in_parts o p named ws us l m d) = parts_told o p named ws us l m d (stack_told d)
 

@@ -81,7 +81,8 @@ no_text : (v : MValue) (named : List (List ℕ)) (t u : List ℕ) → compare_te
     builds named (TextCtor t) v ≡ true → builds named (TextCtor u) v ≡ true → ⊥
 no_text (Text x) named t u l a b =
     let same : t ≡ u = text_equal t x a ∙ sym (text_equal u x b) in
-    not_same (sym (ap (λ c. compared c (is_lt (compare_texts t u))) (subst (λ z. text_eq t z ≡ true) same (text_itself t))) ∙ l)
+    not_same (sym (ap (λ c. compared c (is_lt (compare_texts t u)))
+    (subst (λ z. text_eq t z ≡ true) same (text_itself t))) ∙ l)
 no_text _ named t u l a b = untrue a
 
 -- a text of a piece is among the named ones
@@ -101,7 +102,8 @@ named_among t (c ∷ pieces) (inr a) = go c (named_among t pieces a)
 no_other : (v : MValue) (pieces : List MCtor) (t : List ℕ) → Among (TextCtor t) pieces →
     builds (named_in pieces) (TextCtor t) v ≡ true → builds (named_in pieces) OtherTextCtor v ≡ true → ⊥
 no_other (Text x) pieces t h a b =
-    untrue (sym (ap not (subst (λ z. list_any (text_eq z) (named_in pieces) ≡ true) (text_equal t x a) (named_among t pieces h))) ∙ b)
+    untrue (sym (ap not (subst (λ z. list_any (text_eq z) (named_in pieces) ≡ true) (text_equal t x a)
+    (named_among t pieces h))) ∙ b)
 no_other _ pieces t h a b = untrue a
 
 -- a number of a piece is one of the set
@@ -120,7 +122,8 @@ any_append z [] qs h = h
 any_append z (p ∷ ps) qs h = go (in_range p z) h (any_append z ps qs)
   where
     go : (b : Bool) → (b || list_any (λ p. in_range p z) (ps ++ qs)) ≡ true →
-        (list_any (λ p. in_range p z) (ps ++ qs) ≡ true → (list_any (λ p. in_range p z) ps || list_any (λ p. in_range p z) qs) ≡ true) →
+        (list_any (λ p. in_range p z) (ps ++ qs) ≡ true → (list_any (λ p. in_range p z) ps || list_any
+        (λ p. in_range p z) qs) ≡ true) →
         ((b || list_any (λ p. in_range p z) ps) || list_any (λ p. in_range p z) qs) ≡ true
     go true h f = refl
     go false h f = f h
@@ -206,12 +209,14 @@ nat_told a b e = nat_equal a b (go (nat_eq a b) (nat_lt a b) e)
 shape_told : (f b g c : ℕ) (longer wider : Bool) (rest : Compared) → (f + b ≡ g + c → ⊥) →
     and_then (compare_shape f longer b g wider c) rest ≡ Same → ⊥
 shape_told f b g c longer wider rest n e =
-    n (nat_told (f + b) (g + c) (then_same (compare_nat (f + b) (g + c)) (compared (nat_eq f g && beq longer wider) false) (then_same (compare_shape f longer b g wider c) rest e)))
+    n (nat_told (f + b) (g + c) (then_same (compare_nat (f + b) (g + c))
+    (compared (nat_eq f g && beq longer wider) false) (then_same (compare_shape f longer b g wider c) rest e)))
 
 -- how many items a row shows
 abbrev shown : MShape → List MWitness → ℕ
 shown (FixedShape n) ws = length (witnesses_list (witnesses_of ws)) + 0
-shown (LongerShape f b) ws = length (witnesses_list (witnesses_of (take f ws))) + length (witnesses_list (witnesses_of (drop f ws)))
+shown (LongerShape f b) ws = length (witnesses_list (witnesses_of (take f ws))) + length
+    (witnesses_list (witnesses_of (drop f ws)))
 
 shown_is : (s : MShape) (ws : List MWitness) → length ws ≡ least_length s → shown s ws ≡ least_length s
 shown_is (FixedShape n) ws l = let e = ap length (list_back ws) in omega (arith, e, l)
@@ -227,20 +232,29 @@ module _ (program : MProgram) (t : MType) (named : List (List ℕ)) where
       (least_length s ≡ least_length r → ⊥) →
       compare_arm program t (witness_of (RowCtor s) named ws) (witness_of (RowCtor r) named us) ≡ Same → ⊥
   rows_told (FixedShape n) (FixedShape m) ws us l k ne e =
-      shape_told (length (witnesses_list (witnesses_of ws))) 0 (length (witnesses_list (witnesses_of us))) 0 false false
-      (and_then (compare_items program (inner_type t) (witnesses_of ws) (witnesses_of us)) (compare_items program (inner_type t) no_witnesses no_witnesses))
+      shape_told (length (witnesses_list (witnesses_of ws))) 0 (length (witnesses_list (witnesses_of us))) 0 false
+      false
+      (and_then (compare_items program (inner_type t) (witnesses_of ws) (witnesses_of us))
+      (compare_items program (inner_type t) no_witnesses no_witnesses))
       (λ h. ne (sym (shown_is (FixedShape n) ws l) ∙ h ∙ shown_is (FixedShape m) us k)) e
   rows_told (FixedShape n) (LongerShape g c) ws us l k ne e =
-      shape_told (length (witnesses_list (witnesses_of ws))) 0 (length (witnesses_list (witnesses_of (take g us)))) (length (witnesses_list (witnesses_of (drop g us)))) false true
-      (and_then (compare_items program (inner_type t) (witnesses_of ws) (witnesses_of (take g us))) (compare_items program (inner_type t) no_witnesses (witnesses_of (drop g us))))
+      shape_told (length (witnesses_list (witnesses_of ws))) 0 (length (witnesses_list (witnesses_of (take g us))))
+      (length (witnesses_list (witnesses_of (drop g us)))) false true
+      (and_then (compare_items program (inner_type t) (witnesses_of ws) (witnesses_of (take g us)))
+      (compare_items program (inner_type t) no_witnesses (witnesses_of (drop g us))))
       (λ h. ne (sym (shown_is (FixedShape n) ws l) ∙ h ∙ shown_is (LongerShape g c) us k)) e
   rows_told (LongerShape f b) (FixedShape m) ws us l k ne e =
-      shape_told (length (witnesses_list (witnesses_of (take f ws)))) (length (witnesses_list (witnesses_of (drop f ws)))) (length (witnesses_list (witnesses_of us))) 0 true false
-      (and_then (compare_items program (inner_type t) (witnesses_of (take f ws)) (witnesses_of us)) (compare_items program (inner_type t) (witnesses_of (drop f ws)) no_witnesses))
+      shape_told (length (witnesses_list (witnesses_of (take f ws))))
+      (length (witnesses_list (witnesses_of (drop f ws)))) (length (witnesses_list (witnesses_of us))) 0 true false
+      (and_then (compare_items program (inner_type t) (witnesses_of (take f ws)) (witnesses_of us))
+      (compare_items program (inner_type t) (witnesses_of (drop f ws)) no_witnesses))
       (λ h. ne (sym (shown_is (LongerShape f b) ws l) ∙ h ∙ shown_is (FixedShape m) us k)) e
   rows_told (LongerShape f b) (LongerShape g c) ws us l k ne e =
-      shape_told (length (witnesses_list (witnesses_of (take f ws)))) (length (witnesses_list (witnesses_of (drop f ws)))) (length (witnesses_list (witnesses_of (take g us)))) (length (witnesses_list (witnesses_of (drop g us)))) true true
-      (and_then (compare_items program (inner_type t) (witnesses_of (take f ws)) (witnesses_of (take g us))) (compare_items program (inner_type t) (witnesses_of (drop f ws)) (witnesses_of (drop g us))))
+      shape_told (length (witnesses_list (witnesses_of (take f ws))))
+      (length (witnesses_list (witnesses_of (drop f ws)))) (length (witnesses_list (witnesses_of (take g us))))
+      (length (witnesses_list (witnesses_of (drop g us)))) true true
+      (and_then (compare_items program (inner_type t) (witnesses_of (take f ws)) (witnesses_of (take g us)))
+      (compare_items program (inner_type t) (witnesses_of (drop f ws)) (witnesses_of (drop g us))))
       (λ h. ne (sym (shown_is (LongerShape f b) ws l) ∙ h ∙ shown_is (LongerShape g c) us k)) e
 
   low_told : (r s : MRange) → compare_low r.low s.low ≡ Before → compare_range r s ≡ Before
@@ -253,11 +267,13 @@ module _ (program : MProgram) (t : MType) (named : List (List ℕ)) where
   late_told false false c e = e
 
   -- the witnesses of two pieces, the first of which stands before the second, are told apart
-  pub told_forth : (p q : MCtor) → IsEarlier p q → (ws us : List MWitness) → RowHas p (length ws) → RowHas q (length us) →
+  pub told_forth : (p q : MCtor) → IsEarlier p q → (ws us : List MWitness) → RowHas p (length ws) → RowHas q
+      (length us) →
       compare_arm program t (witness_of p named ws) (witness_of q named us) ≡ Same → ⊥
   told_forth (FlagCtor false) (FlagCtor true) h ws us l k e = absurd cc
   told_forth (VariantCtor i) (VariantCtor j) h ws us l k e =
-      let s = nat_told i j (then_same (compare_nat i j) (compare_parts program (types_there (node_types program t i)) (witnesses_of ws) (witnesses_of us)) e) in omega (arith, s, h)
+      let s = nat_told i j (then_same (compare_nat i j) (compare_parts program (types_there (node_types program t i))
+      (witnesses_of ws) (witnesses_of us)) e) in omega (arith, s, h)
   told_forth (VariantCtor i) LaterCtor h ws us l k e = absurd cc
   told_forth (NumbersCtor r) (NumbersCtor s) h ws us l k e =
       not_same (sym (late_told (is_late t r) (is_late t s) (compare_range r s) e) ∙ low_told r s h)
@@ -278,7 +294,8 @@ module _ (program : MProgram) (t : MType) (named : List (List ℕ)) where
       is_same false false e = absurd cc
 
       turned : b ≡ a → ⊥
-      turned q = not_same (sym (ap (λ s. compared s (int_lt a a)) (int_itself a)) ∙ subst (λ z. compare_low (At a) (At z) ≡ Before) q h)
+      turned q = not_same (sym (ap (λ s. compared s (int_lt a a)) (int_itself a)) ∙ subst
+          (λ z. compare_low (At a) (At z) ≡ Before) q h)
 
   text_turned : (a b : List ℕ) → compare_text a b ≡ Before → compare_text b a ≡ Same → ⊥
   text_turned a b h e = turned (text_equal b a (is_same (text_eq b a) (is_lt (compare_texts b a)) e))
@@ -289,18 +306,22 @@ module _ (program : MProgram) (t : MType) (named : List (List ℕ)) where
       is_same false false e = absurd cc
 
       turned : b ≡ a → ⊥
-      turned q = not_same (sym (ap (λ s. compared s (is_lt (compare_texts a a))) (text_itself a)) ∙ subst (λ z. compare_text a z ≡ Before) q h)
+      turned q = not_same (sym (ap (λ s. compared s (is_lt (compare_texts a a))) (text_itself a)) ∙ subst
+          (λ z. compare_text a z ≡ Before) q h)
 
   -- nor are they one the other way round
-  pub told_back : (p q : MCtor) → IsEarlier p q → (ws us : List MWitness) → RowHas p (length ws) → RowHas q (length us) →
+  pub told_back : (p q : MCtor) → IsEarlier p q → (ws us : List MWitness) → RowHas p (length ws) → RowHas q
+      (length us) →
       compare_arm program t (witness_of q named us) (witness_of p named ws) ≡ Same → ⊥
   told_back (FlagCtor false) (FlagCtor true) h ws us l k e = absurd cc
   told_back (VariantCtor i) (VariantCtor j) h ws us l k e =
-      let s = nat_told j i (then_same (compare_nat j i) (compare_parts program (types_there (node_types program t j)) (witnesses_of us) (witnesses_of ws)) e) in omega (arith, s, h)
+      let s = nat_told j i (then_same (compare_nat j i) (compare_parts program (types_there (node_types program t j))
+      (witnesses_of us) (witnesses_of ws)) e) in omega (arith, s, h)
   told_back (VariantCtor i) LaterCtor h ws us l k e = absurd cc
   told_back (NumbersCtor r) (NumbersCtor s) h ws us l k e =
       low_turned r.low s.low h
-      (then_same (compare_low s.low r.low) (compare_high s.high r.high) (late_told (is_late t s) (is_late t r) (compare_range s r) e))
+      (then_same (compare_low s.low r.low) (compare_high s.high r.high)
+      (late_told (is_late t s) (is_late t r) (compare_range s r) e))
   told_back (TextCtor a) (TextCtor b) h ws us l k e = text_turned a b h e
   told_back (TextCtor a) OtherTextCtor h ws us l k e = absurd cc
   told_back (RowCtor s) (RowCtor r) h ws us l k e = rows_told r s us ws k l (λ n. omega (arith, n, h)) e

@@ -17,12 +17,14 @@ use Rattle.arm_maker.proofs.Typed.{IsOfType, AreParts, AreItems, node_parts, poi
 use Rattle.arm_laws.specs.Takes.{range_taken, taken_by, takes, parts_take, items_take}
 
 -- from a number above the greatest literal on, or below the least one
-above : (top n : ℤ) (high : MEnd) (z : ℤ) → int_lt top n ≡ true → in_range (record { low = At n; high = high }) z ≡ true →
+above : (top n : ℤ) (high : MEnd) (z : ℤ) → int_lt top n ≡ true → in_range (record { low = At n; high = high }) z ≡
+    true →
     in_range (record { low = At top; high = Free }) z ≡ true
 above top n Free z l h = grind (arith, ints)
 above top n (At m) z l h = grind (arith, ints)
 
-below : (least m : ℤ) (low : MEnd) (z : ℤ) → int_lt m least ≡ true → in_range (record { low = low; high = At m }) z ≡ true →
+below : (least m : ℤ) (low : MEnd) (z : ℤ) → int_lt m least ≡ true → in_range (record { low = low; high = At m }) z ≡
+    true →
     in_range (record { low = Free; high = At least }) z ≡ true
 below least m Free z l h = grind (arith, ints)
 below least m (At n) z l h = grind (arith, ints)
@@ -34,20 +36,23 @@ wider kinds.USize Free high z h = h
 wider kinds.USize (At n) high z h = go (int_lt (pos (2 ^ 64 - 1)) n) refl
   where
     go : (b : Bool) → int_lt (pos (2 ^ 64 - 1)) n ≡ b →
-        in_range (cond b (record { low = At (pos (2 ^ 64 - 1)); high = Free }) (record { low = At n; high = high })) z ≡ true
+        in_range (cond b (record { low = At (pos (2 ^ 64 - 1)); high = Free }) (record { low = At n; high = high })) z
+        ≡ true
     go true e = above (pos (2 ^ 64 - 1)) n high z e h
     go false e = h
 wider kinds.ISize Free Free z h = h
 wider kinds.ISize Free (At m) z h = go (int_lt m (negsuc (2 ^ 63 - 1))) refl
   where
     go : (b : Bool) → int_lt m (negsuc (2 ^ 63 - 1)) ≡ b →
-        in_range (cond b (record { low = Free; high = At (negsuc (2 ^ 63 - 1)) }) (record { low = Free; high = At m })) z ≡ true
+        in_range (cond b (record { low = Free; high = At (negsuc (2 ^ 63 - 1)) })
+        (record { low = Free; high = At m })) z ≡ true
     go true e = below (negsuc (2 ^ 63 - 1)) m Free z e h
     go false e = h
 wider kinds.ISize (At n) Free z h = go (int_lt (pos (2 ^ 63 - 1)) n) refl
   where
     go : (b : Bool) → int_lt (pos (2 ^ 63 - 1)) n ≡ b →
-        in_range (cond b (record { low = At (pos (2 ^ 63 - 1)); high = Free }) (record { low = At n; high = Free })) z ≡ true
+        in_range (cond b (record { low = At (pos (2 ^ 63 - 1)); high = Free }) (record { low = At n; high = Free })) z
+        ≡ true
     go true e = above (pos (2 ^ 63 - 1)) n Free z e h
     go false e = h
 wider kinds.ISize (At n) (At m) z h =
@@ -55,7 +60,8 @@ wider kinds.ISize (At n) (At m) z h =
   where
     go : (b c : Bool) → int_lt (pos (2 ^ 63 - 1)) n ≡ b → int_lt m (negsuc (2 ^ 63 - 1)) ≡ c →
         in_range (cond b (record { low = At (pos (2 ^ 63 - 1)); high = Free })
-        (cond c (record { low = Free; high = At (negsuc (2 ^ 63 - 1)) }) (record { low = At n; high = At m }))) z ≡ true
+        (cond c (record { low = Free; high = At (negsuc (2 ^ 63 - 1)) }) (record { low = At n; high = At m }))) z ≡
+        true
     go true c e f = above (pos (2 ^ 63 - 1)) n (At m) z e h
     go false true e f = below (negsuc (2 ^ 63 - 1)) m (At n) z f h
     go false false e f = h
@@ -91,16 +97,19 @@ module _ (program : MProgram) where
         let vs = values_list items in
         let f = length (witnesses_list front) in
         let b = length (witnesses_list back) in
-        let c = both (covers (slice_shape f longer b) (length vs)) (all_fit front (take f vs) && all_fit back (drop (length vs - b) vs)) h in
+        let c = both (covers (slice_shape f longer b) (length vs))
+        (all_fit front (take f vs) && all_fit back (drop (length vs - b) vs)) h in
         let e = both (all_fit front (take f vs)) (all_fit back (drop (length vs - b) vs)) c.1 in
         let g = row_items program t front longer back d in
         and_true (covers (slice_shape f longer b) (length vs)) _ c.0
-        (and_true (items_take program (inner_type t) front (take f vs)) (items_take program (inner_type t) back (drop (length vs - b) vs))
+        (and_true (items_take program (inner_type t) front (take f vs))
+        (items_take program (inner_type t) back (drop (length vs - b) vs))
         (items_taken (inner_type t) front (take f vs) g.0 e.0)
         (items_taken (inner_type t) back (drop (length vs - b) vs) g.1 e.1))
     fits_takes t (RowOf front longer back) _ d h = untrue h
 
-    parts_taken : (ts : List MType) (ws : MWitnesses) (vs : List MValue) → AreParts program ts ws → all_fit ws vs ≡ true →
+    parts_taken : (ts : List MType) (ws : MWitnesses) (vs : List MValue) → AreParts program ts ws → all_fit ws vs ≡
+        true →
         parts_take program ts ws vs ≡ true
     parts_taken [] no_witnesses [] d h = refl
     parts_taken (t ∷ ts) no_witnesses vs d h = absurd d
@@ -109,7 +118,8 @@ module _ (program : MProgram) where
     parts_taken (t ∷ ts) (more_witnesses w ws) [] d h = untrue h
     parts_taken (t ∷ ts) (more_witnesses w ws) (v ∷ vs) d h =
         let b = both (fits w v) (all_fit ws vs) h in
-        and_true (takes program t w v) (parts_take program ts ws vs) (fits_takes t w v d.0 b.0) (parts_taken ts ws vs d.1 b.1)
+        and_true (takes program t w v) (parts_take program ts ws vs) (fits_takes t w v d.0 b.0)
+        (parts_taken ts ws vs d.1 b.1)
 
     items_taken : (t : MType) (ws : MWitnesses) (vs : List MValue) → AreItems program t ws → all_fit ws vs ≡ true →
         items_take program t ws vs ≡ true
@@ -118,4 +128,5 @@ module _ (program : MProgram) where
     items_taken t (more_witnesses w ws) [] d h = untrue h
     items_taken t (more_witnesses w ws) (v ∷ vs) d h =
         let b = both (fits w v) (all_fit ws vs) h in
-        and_true (takes program t w v) (items_take program t ws vs) (fits_takes t w v d.0 b.0) (items_taken t ws vs d.1 b.1)
+        and_true (takes program t w v) (items_take program t ws vs) (fits_takes t w v d.0 b.0)
+        (items_taken t ws vs d.1 b.1)

@@ -34,7 +34,8 @@ more (At l) (At h) n k a b = grind (arith, ints)
 starts : {low high : MEnd} {ps : List MRange} → Follow low high ps → (n : ℤ) → low ≡ At n →
     list_any (λ p. is_at n p.low) ps ≡ true
 starts (last_one low high m h) n e =
-    or_left (is_at n low) (list_any (λ (p : MRange). is_at n p.low) []) (subst (λ x. is_at n x ≡ true) (sym e) (int_itself n))
+    or_left (is_at n low) (list_any (λ (p : MRange). is_at n p.low) [])
+    (subst (λ x. is_at n x ≡ true) (sym e) (int_itself n))
 starts (one_more low high m rest h f) n e =
     or_left (is_at n low) (list_any (λ p. is_at n p.low) rest) (subst (λ x. is_at n x ≡ true) (sym e) (int_itself n))
 
@@ -66,7 +67,8 @@ module _ (Q : ℤ → Type 0) where
   ends (one_more low high n rest h fs) f =
       let a = (both (is_from low n) (int_le n n) h).0 in
       let w = within low high n a (Follow-ascends fs) in
-      let q = f (n +ℤ pos 1) w.0 w.1 (or_right (is_at (n +ℤ pos 1) low) (list_any (λ p. is_at (n +ℤ pos 1) p.low) rest) (starts fs (n +ℤ pos 1) refl)) in (
+      let q = f (n +ℤ pos 1) w.0 w.1 (or_right (is_at (n +ℤ pos 1) low)
+      (list_any (λ p. is_at (n +ℤ pos 1) p.low) rest) (starts fs (n +ℤ pos 1) refl)) in (
         (inl refl, inr (n, refl, q), (n, h)),
         widened low high (n +ℤ pos 1) q rest
             (ends fs (λ k x y z. f k (more low high n (k -ℤ pos 1) a x) (more low high n k a y)

@@ -3,6 +3,7 @@ pub mod ArmChars
 pub mod Armed
 pub mod Bases
 pub mod BuiltIn
+pub mod Completing
 pub mod Differing
 pub mod Disjoint
 pub mod Fitting
@@ -25,3 +26,4 @@ pub mod Telling
 pub mod Typed
 pub mod Walk
 pub mod Widened
+pub mod Written

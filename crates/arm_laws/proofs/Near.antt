@@ -71,7 +71,8 @@ low_near width kind e (inr (n, s, q)) = subst (λ x. ends_below_literals kind x 
 between_above : (top n m x : ℤ) → int_lt top n ≡ true → int_lt top m ≡ false → (int_le n x && int_le x m) ≡ true → ⊥
 between_above top n m x a b h = grind (arith, ints)
 
-between_below : (least n m x : ℤ) → int_lt m least ≡ true → int_lt n least ≡ false → (int_le n x && int_le x m) ≡ true → ⊥
+between_below : (least n m x : ℤ) → int_lt m least ≡ true → int_lt n least ≡ false → (int_le n x && int_le x m) ≡ true
+    → ⊥
 between_below least n m x a b h = grind (arith, ints)
 
 squeeze_above : (kind : IntKind) (n m x : ℤ) → begins_above_literals kind (At n) ≡ true →

@@ -77,11 +77,13 @@ module _ {T : Type 0} (P : T → MCtor → Type 0) where
   mutual
     choices_nodes : (p : MDePat T) → HasNodes P p → AreChoices (choices_of p)
     choices_nodes (de_pat c t uid at subs binds) h =
-        go c h (choices-map (with_binds binds) (λ d. refl) (all_choices_of (choice_among subs) subs) (alternatives_nodes (choice_among subs) (λ x d. keeps_pat subs x d) subs h.1))
+        go c h (choices-map (with_binds binds) (λ d. refl) (all_choices_of (choice_among subs) subs)
+        (alternatives_nodes (choice_among subs) (λ x d. keeps_pat subs x d) subs h.1))
       where
         go : (c : MCtor) → HasNodes P (de_pat c t uid at subs binds) →
             AreChoices (map (with_binds binds) (all_choices_of (choice_among subs) subs)) →
-            AreChoices (choices_by c (map (with_binds binds) (all_choices_of (choice_among subs) subs)) (record { pat = de_pat c t uid at subs binds; chosen = []; binds = [] } ∷ []))
+            AreChoices (choices_by c (map (with_binds binds) (all_choices_of (choice_among subs) subs))
+            (record { pat = de_pat c t uid at subs binds; chosen = []; binds = [] } ∷ []))
         go OrCtor m f = f
         go _ m f = (m, tt)
 
@@ -129,8 +131,11 @@ module _ {T : Type 0} (P : T → MCtor → Type 0) where
   special_one piece n (Some (de_pat c t uid at subs binds) ∷ rest) h = go (has_piece c piece)
     where
       go : (b : Bool) → AreRows (cond b ((heads_of c (map Some (de_pats_list subs)) n ++ rest) ∷ []) [])
-      go true =
-          (heads-append (heads_of c (map Some (de_pats_list subs)) n) rest (heads_nodes c (map Some (de_pats_list subs)) n (subs_heads subs h.0.1)) h.1, tt)
+      go true = (
+        heads-append (heads_of c (map Some (de_pats_list subs)) n) rest
+            (heads_nodes c (map Some (de_pats_list subs)) n (subs_heads subs h.0.1)) h.1,
+        tt,
+      )
       go false = tt
 
   pub special_nodes : (piece : MCtor) (n : ℕ) (hss : List (List (Head T))) → AreRows hss →

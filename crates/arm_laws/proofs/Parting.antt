@@ -81,7 +81,8 @@ module _ {T : Type 0} (cx : Context T) (Holds : Holding T) where
           subst (λ x. Parted cx Holds (o ∷ places) (wrapped p named n w) (witness_of p named x ∷ drop n u)) d.0
           (behind o places (witness_of p named (take n w)) (drop n w) (drop n u) d.1)
 
-  wrapped_from : (o : Open T) (places : List (Open T)) (p : MCtor) (named : List (List ℕ)) (m : ℕ) (w : List MWitness) →
+  wrapped_from : (o : Open T) (places : List (Open T)) (p : MCtor) (named : List (List ℕ)) (m : ℕ) (w : List MWitness)
+      →
       length w ≡ cx.arity p o.type + m → (us : List (List MWitness)) → AreLong (cx.arity p o.type + m) us →
       ArePartedFrom (parts_open cx o p ++ places) w us →
       ArePartedFrom (o ∷ places) (wrapped p named (cx.arity p o.type) w) (map (wrapped p named (cx.arity p o.type)) us)
@@ -93,7 +94,8 @@ module _ {T : Type 0} (cx : Context T) (Holds : Holding T) where
       )
 
   wrapped_all : (o : Open T) (places : List (Open T)) (p : MCtor) (named : List (List ℕ)) (m : ℕ)
-      (ws : List (List MWitness)) → AreLong (cx.arity p o.type + m) ws → ArePartedAll (parts_open cx o p ++ places) ws →
+      (ws : List (List MWitness)) → AreLong (cx.arity p o.type + m) ws → ArePartedAll (parts_open cx o p ++ places) ws
+      →
       ArePartedAll (o ∷ places) (map (wrapped p named (cx.arity p o.type)) ws)
   wrapped_all o places p named m [] k h = tt
   wrapped_all o places p named m (w ∷ ws) k h =
@@ -139,7 +141,8 @@ module _ {T : Type 0} (cx : Context T) (Holds : Holding T) where
         AreLong (cx.arity p o.type + length places) xs
     long_parts o places p rows xs k =
         subst (λ i. AreLong i xs)
-        (length-append (parts_open cx o p) places ∙ ap (λ i. i + length places) (length-below (part_open cx o p) (cx.arity p o.type)))
+        (length-append (parts_open cx o p) places ∙ ap (λ i. i + length places)
+        (length-below (part_open cx o p) (cx.arity p o.type)))
         (long_stacks IsType IsValue cx values law (parts_open cx o p ++ places)
         (all_specialised p (cx.arity p o.type) rows) xs k)
 
@@ -174,9 +177,11 @@ module _ {T : Type 0} (cx : Context T) (Holds : Holding T) where
           let mh = expand_made (row ∷ rows) g in
           let nh = expand_nodes P (row ∷ rows) n in
           let none = expanded_none cx (column_at [] o) (cols ps) (row ∷ rows) h in
-          let c = made_pieces (cx.set_of o.type) (column_of hs) pieces (values.made o.type d.0) (values.ascend o.type d.0)
+          let c = made_pieces (cx.set_of o.type) (column_of hs) pieces (values.made o.type d.0)
+          (values.ascend o.type d.0)
           (heads_good cx (column_at [] o) (cols ps) hs t none) (column_made hs mh) p in
-          let s = all_sided IsType IsValue cx values law o ps (named_in pieces) hs pieces d.0 t none c.belong c.one_sided c.room in
+          let s = all_sided IsType IsValue cx values law o ps (named_in pieces) hs pieces d.0 t none c.belong
+          c.one_sided c.room in
           pieces_parted (named_in pieces) o ps hs pieces xs k d t mh nh s
           (λ a b z. tell o (column_of hs) pieces a b d.0 (column_nodes P cx (column_at [] o) (cols ps) hs t nh) c z)
 

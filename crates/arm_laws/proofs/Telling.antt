@@ -59,7 +59,11 @@ module _ (program : MProgram) (sound : IsSoundProgram program) where
         disjoint = λ v x y. none_common (rust_set program o.type) heads pieces p q asc c.listed
             (among_all (λ r. IsTrue (belongs (rust_set program o.type) r)) pieces p c.belong a.0) s e v x y;
         proper = both_proper p q e;
-        open_beyond = (open_piece program o.type heads pieces p c.listed h a.0, open_piece program o.type heads pieces q c.listed h a.1);
+        open_beyond = (
+          open_piece program o.type heads pieces p c.listed h a.0,
+          open_piece program o.type heads pieces
+              q c.listed h a.1,
+        );
         forth = λ ws us l k. told_forth program o.type (named_in pieces) p q e ws us l k;
         back = λ ws us l k. told_back program o.type (named_in pieces) p q e us ws k l;
       }
@@ -104,7 +108,8 @@ module _ (program : MProgram) (sound : IsSoundProgram program) where
       Among w ws → Among u ws → (w ≡ u) ⊎ AreParted (record { type = m.type; sure = m.sure }) w u
   parted_list m ws h w u a b = go ws h.listed a b
     where
-      go : (ws : List MWitness) → IsWitnessList (rust_context program) (RustValue program) m ws → Among w ws → Among u ws →
+      go : (ws : List MWitness) → IsWitnessList (rust_context program) (RustValue program) m ws → Among w ws → Among u
+          ws →
           (w ≡ u) ⊎ AreParted (record { type = m.type; sure = m.sure }) w u
       go ws (nothing_to_match f) a b = absurd a
       go ws (by_rows x us i n k) a b =
@@ -112,9 +117,11 @@ module _ (program : MProgram) (sound : IsSoundProgram program) where
           let parts = rust_parts program sound in
           let cx = rust_context program in
           any_two (record { type = m.type; sure = m.sure }) us
-          (stacks_parted cx (IsApart program) (IsRustType program) (RustValue program) values parts AreNear pieces_apart
+          (stacks_parted cx (IsApart program) (IsRustType program) (RustValue program) values parts AreNear
+          pieces_apart
           (record { type = m.type; sure = m.sure } ∷ []) (flat_map row_of m.arms) (map (λ z. z ∷ []) us) k (h.type, tt)
-          (rows_typed (IsRustType program) (RustValue program) cx values parts m m.arms (arms_typed cx m.type m.arms h.typed))
+          (rows_typed (IsRustType program) (RustValue program) cx values parts m m.arms
+          (arms_typed cx m.type m.arms h.typed))
           (rows_made (IsRustType program) (RustValue program) cx values parts m.arms h.made)
           (arms_nodes AreNear m.arms h.near)) w u a b
 
@@ -133,5 +140,6 @@ module _ (program : MProgram) (sound : IsSoundProgram program) where
 pub earlier_takes_none : EarlierTakesNone
 earlier_takes_none program m witnesses sorted sound h order =
     every_pair program sound (ArmFirst program m.type) (TakesNone program m.type) witnesses
-    (λ w u a b f. pair_taken program sound (record { type = m.type; sure = m.sure }) w u (parted_list program sound m witnesses h w u a b) f)
+    (λ w u a b f. pair_taken program sound (record { type = m.type; sure = m.sure }) w u
+    (parted_list program sound m witnesses h w u a b) f)
     sorted order.same.back order.ordered

@@ -1,4 +1,5 @@
--- Ranges of `usize` and `isize` that are written wider than they are: in the order of arms none takes what a later one shows.
+-- Ranges of `usize` and `isize` that are written wider than they are: in the order of arms none takes what a later
+-- one shows.
 use Rattle.std.proofs.Common.{◌≡◌, ℤ, pos, negsuc, ◌-◌, ◌^◌, Bool, true, false, cond, refl, arith}
 use Rattle.std.specs.Prelude.{int_le, int_lt}
 use Rattle.std.specs.Ordering.{int_eq}
@@ -35,7 +36,8 @@ above top n (At m) high x l h c e = h x (go (int_eq n m) (int_lt n m) refl refl 
         same (At k) d = absurd cc
     go false true p q d = within high e q
       where
-        within : (high : MEnd) → in_range (span (At m) high) x ≡ true → int_lt n m ≡ true → in_range (span (At n) Free) x ≡ true
+        within : (high : MEnd) → in_range (span (At m) high) x ≡ true → int_lt n m ≡ true → in_range
+            (span (At n) Free) x ≡ true
         within Free e q = grind (arith, ints)
         within (At k) e q = grind (arith, ints)
     go false false p q d = absurd cc
@@ -110,7 +112,8 @@ signed_below (At b) low' high' x h p c e f = go (int_lt b least) refl c e
         late false q d = absurd cc
 
     go : (t : Bool) → int_lt b least ≡ t →
-        compare_late t (is_late (IntType kinds.ISize) (span low' high')) (compare_range (span Free (At b)) (span low' high')) ≡ Before →
+        compare_late t (is_late (IntType kinds.ISize) (span low' high'))
+        (compare_range (span Free (At b)) (span low' high')) ≡ Before →
         in_range (cond t (span Free (At least)) (span Free (At b))) x ≡ true → ⊥
     go true q d g = both_late high' low' h p (compare_range (span Free (At b)) (span low' high')) d
     go false q d g = h x g f
@@ -125,7 +128,8 @@ signed_from : (n : ℤ) (high low' high' : MEnd) (x : ℤ) → AreApart (span (A
 signed_from n Free low' high' x h o p c e f = go (int_lt half n) refl e
   where
     later : (high' : MEnd) → AreApart (span (At n) Free) (span low' high') →
-        compare_late false (is_late (IntType kinds.ISize) (span low' high')) (compare_range (span (At n) Free) (span low' high')) ≡ Before →
+        compare_late false (is_late (IntType kinds.ISize) (span low' high'))
+        (compare_range (span (At n) Free) (span low' high')) ≡ Before →
         in_range (span low' high') x ≡ true → int_lt half n ≡ true → in_range (span (At half) Free) x ≡ true → ⊥
     later Free h c f q d = above half n low' Free x q h c f
     later (At k) h c f q d = late (int_lt k least) refl c
@@ -145,13 +149,15 @@ signed_from n (At b) low' high' x h o p c e f = go (int_lt half n) refl e
     kept false q d = h x d f
 
     go : (t : Bool) → int_lt half n ≡ t →
-        in_range (cond t (span (At half) Free) (cond (int_lt b least) (span Free (At least)) (span (At n) (At b)))) x ≡ true → ⊥
+        in_range (cond t (span (At half) Free) (cond (int_lt b least) (span Free (At least)) (span (At n) (At b)))) x
+        ≡ true → ⊥
     go true q d = no_end b (o q)
     go false q d = kept (int_lt b least) refl d
 
--- of two ranges of an integer type that have no number in common, the first of which stands before the other among arms, the
--- first does not take what the other shows; a range beyond the literals is open
-pub written_apart : (kind : IntKind) (low high low' high' : MEnd) (x : ℤ) → AreApart (span low high) (span low' high') →
+-- of two ranges of an integer type that have no number in common, the first of which stands before the other among
+-- arms, the first does not take what the other shows; a range beyond the literals is open
+pub written_apart : (kind : IntKind) (low high low' high' : MEnd) (x : ℤ) → AreApart (span low high) (span low' high')
+    →
     (begins_above_literals kind low ≡ true → high ≡ Free) → (ends_below_literals kind high ≡ true → low ≡ Free) →
     (ends_below_literals kind high' ≡ true → low' ≡ Free) →
     compare_late (is_late (IntType kind) (span low high)) (is_late (IntType kind) (span low' high'))

@@ -1,3 +1,5 @@
+pub mod Completed
+pub mod FunctionLaws
 pub mod LiteralEnds
 pub mod Named
 pub mod Near

@@ -1,4 +1,5 @@
--- No meaning: where two witnesses of a list first differ. They do at two pieces of one column, of which something holds.
+-- No meaning: where two witnesses of a list first differ. They do at two pieces of one column, of which something
+-- holds.
 use Rattle.std.specs.Prelude.{◌≡◌, ℕ, List, ◌∷◌, length}
 use Rattle.match_model.specs.Constructors.{MCtor}
 use Rattle.match_model.specs.Contexts.{Context, Open}
@@ -22,7 +23,8 @@ mutual
     by_pieces : (o : Open T) (named : List (List ℕ)) (p q : MCtor) (ws us : List MWitness) → Holds o named p q →
         length ws ≡ cx.arity p o.type → length us ≡ cx.arity q o.type →
         PartedOne cx Holds o (witness_of p named ws) (witness_of q named us)
-    in_parts : (o : Open T) (p : MCtor) (named : List (List ℕ)) (ws us : List MWitness) → length ws ≡ cx.arity p o.type →
+    in_parts : (o : Open T) (p : MCtor) (named : List (List ℕ)) (ws us : List MWitness) → length ws ≡ cx.arity p
+        o.type →
         length us ≡ cx.arity p o.type → Parted cx Holds (parts_open cx o p) ws us →
         PartedOne cx Holds o (witness_of p named ws) (witness_of p named us)
 

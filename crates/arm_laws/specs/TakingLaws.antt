@@ -21,8 +21,8 @@ FittingIsTaken = (program : MProgram) (t : MType) (w : MWitness) (v : MValue) �
 abbrev pub TakesNone : MProgram → MType → MWitness → MWitness → Type 0
 TakesNone program t w u = (v : MValue) → takes program t w v ≡ true → fits u v ≡ true → ⊥
 
--- law: in the order of arms the arm for a witness of a match takes nothing that fits a later one, though it may take more
--- than the witness shows
+-- law: in the order of arms the arm for a witness of a match takes nothing that fits a later one, though it may
+-- take more than the witness shows
 abbrev pub EarlierTakesNone : Type 0
 EarlierTakesNone = (program : MProgram) (m : MDeMatch MType) (witnesses sorted : List MWitness) →
     IsSoundProgram program → IsNearList program m witnesses → AreInArmOrder program m.type witnesses sorted →

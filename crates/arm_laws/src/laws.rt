@@ -1,4 +1,5 @@
 //! Laws without code: each function does nothing, and its contract is the law.
+ghost use Rattle.arm_laws.specs.FunctionLaws.{ArmsComplete, PatternsComplete, VerdictIsOrdered, WrittenIsNear};
 ghost use Rattle.arm_laws.specs.SpellingLaws.{ArmOfWitnessSpells, ArmTextSpells};
 ghost use Rattle.arm_laws.specs.TakingLaws.{EarlierTakesNone, FittingIsTaken};
 
@@ -22,4 +23,24 @@ pub fn fitting_is_taken()
 /// In the order of arms the arm for a witness takes nothing that fits a later one.
 pub fn earlier_takes_none()
     ensures { EarlierTakesNone }
+{}
+
+/// The ranges of a function that breaks no rule have ends that are literals or beside one.
+pub fn written_is_near()
+    ensures { WrittenIsNear }
+{}
+
+/// The witnesses of a verdict stand in an order.
+pub fn verdict_is_ordered()
+    ensures { VerdictIsOrdered }
+{}
+
+/// The arms for the witnesses of a verdict complete the match.
+pub fn arms_complete()
+    ensures { ArmsComplete }
+{}
+
+/// Arms of patterns that match just what is taken complete it.
+pub fn patterns_complete()
+    ensures { PatternsComplete }
 {}
