@@ -12,6 +12,8 @@ pub mod Forms
 pub mod Fresh
 pub mod Itself
 pub mod Leaves
+pub mod Matched
+pub mod Meaning
 pub mod Measures
 pub mod Near
 pub mod Nodes

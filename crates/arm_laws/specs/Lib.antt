@@ -1,6 +1,7 @@
 pub mod Completed
 pub mod FunctionLaws
 pub mod LiteralEnds
+pub mod Meant
 pub mod Named
 pub mod Near
 pub mod Parted

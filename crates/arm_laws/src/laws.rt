@@ -1,7 +1,7 @@
 //! Laws without code: each function does nothing, and its contract is the law.
 ghost use Rattle.arm_laws.specs.FunctionLaws.{ArmsComplete, PatternsComplete, VerdictIsOrdered, WrittenIsNear};
 ghost use Rattle.arm_laws.specs.SpellingLaws.{ArmOfWitnessSpells, ArmTextSpells};
-ghost use Rattle.arm_laws.specs.TakingLaws.{EarlierTakesNone, FittingIsTaken};
+ghost use Rattle.arm_laws.specs.TakingLaws.{EarlierTakesNone, FittingIsTaken, MeantIsTaken};
 
 /// The text of an arm spells exactly one pattern. The arm is within the limits and has names that are identifiers,
 /// texts only behind `&`, and numbers of at most 128 bits.
@@ -18,6 +18,11 @@ pub fn arm_of_witness_spells()
 /// The arm for a witness takes each value that fits the witness.
 pub fn fitting_is_taken()
     ensures { FittingIsTaken }
+{}
+
+/// The pattern for a witness matches just the values that its arm takes.
+pub fn meant_is_taken()
+    ensures { MeantIsTaken }
 {}
 
 /// In the order of arms the arm for a witness takes nothing that fits a later one.
