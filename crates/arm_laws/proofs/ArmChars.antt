@@ -228,8 +228,8 @@ row_encodes : (fs gs bs cs : List (List ℕ)) (longer : Bool) → EncodesAll fs 
 row_encodes fs gs bs cs longer e f =
     let all = both_lists fs gs (rest_texts longer ++ bs) (rest_texts longer ++ cs) e
     (both_lists (rest_texts longer) (rest_texts longer) bs cs (rest_encodes longer) f) in
-    between (codes "[") (joined (fs ++ (rest_texts longer ++ bs))) (joined (gs ++ (rest_texts longer ++ cs))) (codes "]")
-    (codes "]") refl (joined_encodes _ _ all) (itself (codes "]") refl)
+    between (codes "[") (joined (fs ++ (rest_texts longer ++ bs))) (joined (gs ++ (rest_texts longer ++ cs)))
+    (codes "]") (codes "]") refl (joined_encodes _ _ all) (itself (codes "]") refl)
 
 point_encodes : (mutable : Bool) (literal : Option (List ℕ)) (cs bs : List ℕ)
     → ((t : List ℕ) → literal ≡ Some t → scalars t ≡ true) → Encodes cs bs

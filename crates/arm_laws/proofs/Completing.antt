@@ -1,5 +1,6 @@
 -- The arms for the witnesses of a verdict complete the match.
-use Rattle.std.proofs.Common.{◌≡◌, ◌<◌, inl, inr, ℕ, zero, suc, ◌+◌, Bool, true, false, not, ◌&&◌, ◌||◌, List, [], ◌∷◌, ◌++◌, map, length, Some, slice_get, refl, sym, ap, subst, ◌∙◌, arith}
+use Rattle.std.proofs.Common.{◌≡◌, ◌<◌, inl, inr, ℕ, zero, suc, ◌+◌, Bool, true, false, not, ◌&&◌, ◌||◌, List, []}
+use Rattle.std.proofs.Common.{◌∷◌, ◌++◌, map, length, Some, slice_get, refl, sym, ap, subst, ◌∙◌, arith}
 use Rattle.std.specs.List.{Contains}
 use Rattle.std.proofs.lemmas.Option.{slice_get_within, get_or_from_slice_get}
 use Rattle.match_model.specs.Types.{MType}
@@ -9,7 +10,8 @@ use Rattle.match_model.specs.Numbers.{MRange}
 use Rattle.match_model.specs.ArenaPatterns.{MDePat, de_pat, MDePats, no_de_pats, more_de_pats, MDeArm}
 use Rattle.match_model.specs.Lists.{Among, Every, Ordered, Each}
 use Rattle.match_model.specs.Made.{IsMade, IsMadeRange, IsMadePat, AreMadePats, AreArmsMade}
-use Rattle.match_model.specs.Match.{ArmWays, arm_ways, arm_matches, arm_covers, is_covered, comes_to, IsExhaustive, IsArmReachable}
+use Rattle.match_model.specs.Match.{ArmWays, arm_ways, arm_matches, arm_covers, is_covered, comes_to, IsExhaustive}
+use Rattle.match_model.specs.Match.{IsArmReachable}
 use Rattle.match_model.specs.RustTypes.{rust_context}
 use Rattle.match_model.specs.WellTyped.{IsTyped}
 use Rattle.match_model.specs.Witness.{MWitness, fits}

@@ -1,6 +1,7 @@
 -- Of two witnesses that differ somewhere first, the arm of the one that stands first takes nothing that fits the
 -- other.
-use Rattle.std.proofs.Common.{◌≡◌, ℕ, ◌+◌, ◌-◌, Bool, true, false, ◌&&◌, List, [], ◌∷◌, ◌++◌, length, take, drop, replicate, nat_eq, refl, sym, ap, subst, ◌∙◌, arith, length-take-le, length-drop}
+use Rattle.std.proofs.Common.{◌≡◌, ℕ, ◌+◌, ◌-◌, Bool, true, false, ◌&&◌, List, [], ◌∷◌, ◌++◌, length, take, drop}
+use Rattle.std.proofs.Common.{replicate, nat_eq, refl, sym, ap, subst, ◌∙◌, arith, length-take-le, length-drop}
 use Rattle.std.proofs.lemmas.List.{take-append-drop}
 use Rattle.match_model.specs.Types.{MType}
 use Rattle.match_model.specs.Declarations.{MProgram, node_types}
@@ -8,8 +9,11 @@ use Rattle.match_model.specs.Contexts.{Open}
 use Rattle.match_model.specs.RustTypes.{rust_context, rust_arity, inner_type}
 use Rattle.match_model.specs.Rows.{parts_open}
 use Rattle.match_model.specs.Values.{MValue, Node, Point, Row, Flag, Num, Text, Thing, Later, Unseen, values_list}
-use Rattle.match_model.specs.Constructors.{FixedShape, LongerShape, MCtor, SingleCtor, PointCtor, LaterCtor, OtherTextCtor, VariantCtor, FlagCtor, NumbersCtor, TextCtor, RowCtor, WildCtor, OrCtor, covers}
-use Rattle.match_model.specs.Witness.{MWitness, NodeOf, PointOf, no_witnesses, witnesses_of, witnesses_list, fits, all_fit, node_fits, point_fits, slice_fits}
+use Rattle.match_model.specs.Constructors.{FixedShape, LongerShape, MCtor, SingleCtor, PointCtor, LaterCtor}
+use Rattle.match_model.specs.Constructors.{OtherTextCtor, VariantCtor, FlagCtor, NumbersCtor, TextCtor, RowCtor}
+use Rattle.match_model.specs.Constructors.{WildCtor, OrCtor, covers}
+use Rattle.match_model.specs.Witness.{MWitness, NodeOf, PointOf, no_witnesses, witnesses_of, witnesses_list, fits}
+use Rattle.match_model.specs.Witness.{all_fit, node_fits, point_fits, slice_fits}
 use Rattle.match_model.specs.WitnessList.{witness_of}
 use Rattle.match_model.specs.WitnessOrder.{Compared, Same, Before, NotBefore, and_then, compare_nat, compare_shape}
 use Rattle.pattern_matrix.proofs.Comparing.{and_then-same}
@@ -20,7 +24,8 @@ use Rattle.arm_laws.specs.Parted.{PartedOne, by_pieces, in_parts, Parted, at_hea
 use Rattle.arm_laws.proofs.Apart.{RowHas, is_proper, list_back}
 use Rattle.arm_laws.proofs.Bases.{AreDisjoint, IsOpenCtor, first_takes_none}
 use Rattle.arm_laws.proofs.Itself.{nat_same, shape_same, itself}
-use Rattle.arm_laws.proofs.Stacks.{types, variant_types, single_types, row_types, items_compared, items_taken, items_halves, fit_halves, compared_halves}
+use Rattle.arm_laws.proofs.Stacks.{types, variant_types, single_types, row_types, items_compared, items_taken}
+use Rattle.arm_laws.proofs.Stacks.{items_halves, fit_halves, compared_halves}
 
 module _ (program : MProgram) where
   -- two pieces of a column: they have no value in common, are open beyond the literals, and their witnesses are

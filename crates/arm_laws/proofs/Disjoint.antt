@@ -1,5 +1,7 @@
 -- Two pieces of a column build no value in common, and their witnesses are told apart.
-use Rattle.std.proofs.Common.{◌≡◌, ◌<◌, inl, inr, ℕ, ◌+◌, ℤ, Bool, true, false, not, ◌&&◌, ◌||◌, List, [], ◌∷◌, ◌++◌, map, take, drop, length, nat_eq, nat_lt, Option, Some, None, refl, sym, ap, subst, ◌∙◌, arith, length-take-le, length-drop}
+use Rattle.std.proofs.Common.{◌≡◌, ◌<◌, inl, inr, ℕ, ◌+◌, ℤ, Bool, true, false, not, ◌&&◌, ◌||◌, List, [], ◌∷◌}
+use Rattle.std.proofs.Common.{◌++◌, map, take, drop, length, nat_eq, nat_lt, Option, Some, None, refl, sym, ap}
+use Rattle.std.proofs.Common.{subst, ◌∙◌, arith, length-take-le, length-drop}
 use Rattle.std.specs.List.{list_any, filter_map}
 use Rattle.std.proofs.lemmas.Int.{ints}
 use Rattle.match_model.specs.Types.{MType}
@@ -10,15 +12,19 @@ use Rattle.std.specs.Ordering.{is_lt, int_eq}
 use Rattle.match_model.specs.Texts.{text_eq, compare_texts}
 use Rattle.match_model.specs.Numbers.{MEnd, Free, At, MRange, in_range, closed}
 use Rattle.match_model.specs.Values.{MValue, Flag, Num, Text, Node, Row, values_list}
-use Rattle.match_model.specs.Constructors.{FixedShape, LongerShape, MShape, MCtor, LaterCtor, OtherTextCtor, VariantCtor, FlagCtor, NumbersCtor, TextCtor, RowCtor, MSet, NumberSet, RowSet, OneNumber, OneLength, builds, belongs, in_second, least_length}
+use Rattle.match_model.specs.Constructors.{FixedShape, LongerShape, MShape, MCtor, LaterCtor, OtherTextCtor}
+use Rattle.match_model.specs.Constructors.{VariantCtor, FlagCtor, NumbersCtor, TextCtor, RowCtor, MSet, NumberSet}
+use Rattle.match_model.specs.Constructors.{RowSet, OneNumber, OneLength, builds, belongs, in_second, least_length}
 use Rattle.match_model.specs.ContextLaws.{RangesAscend}
 use Rattle.match_model.specs.Lists.{Among}
 use Rattle.match_model.specs.Pieces.{ArePieces, IsCutToo, range_of}
 use Rattle.match_model.specs.RustTypes.{inner_type}
 use Rattle.match_model.specs.Witness.{MWitness, no_witnesses, witnesses_of, witnesses_list}
 use Rattle.match_model.specs.WitnessList.{witness_of, named_in}
-use Rattle.match_model.specs.WitnessOrder.{Compared, Same, Before, NotBefore, and_then, compared, compare_nat, compare_low, compare_high, compare_range, compare_text, compare_shape}
-use Rattle.match_model.proofs.Basics.{both, untrue, nat_equal, int_equal, int_itself, text_equal, text_itself, or_left, or_right, nat_itself}
+use Rattle.match_model.specs.WitnessOrder.{Compared, Same, Before, NotBefore, and_then, compared, compare_nat}
+use Rattle.match_model.specs.WitnessOrder.{compare_low, compare_high, compare_range, compare_text, compare_shape}
+use Rattle.match_model.proofs.Basics.{both, untrue, nat_equal, int_equal, int_itself, text_equal, text_itself}
+use Rattle.match_model.proofs.Basics.{or_left, or_right, nat_itself}
 use Rattle.range_split.proofs.Following.{Follow-together}
 use Rattle.constructor_sets.specs.InOrder.{IsEarlier, IsBeforeEach, AreInOrder}
 use Rattle.constructor_sets.proofs.Once.{once_by}

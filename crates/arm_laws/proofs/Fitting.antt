@@ -1,5 +1,6 @@
 -- What fits a witness of a type its arm takes.
-use Rattle.std.proofs.Common.{◌≡◌, ℤ, pos, negsuc, ◌-◌, ◌^◌, Bool, true, false, ◌&&◌, cond, List, [], ◌∷◌, length, take, drop, nat_eq, refl, arith}
+use Rattle.std.proofs.Common.{◌≡◌, ℤ, pos, negsuc, ◌-◌, ◌^◌, Bool, true, false, ◌&&◌, cond, List, [], ◌∷◌, length}
+use Rattle.std.proofs.Common.{take, drop, nat_eq, refl, arith}
 use Rattle.std.specs.Prelude.{int_lt}
 use Rattle.std.proofs.lemmas.Int.{ints}
 use Rattle.match_model.specs.declared.IntKind.{IntKind}
@@ -10,7 +11,9 @@ use Rattle.match_model.specs.Numbers.{MEnd, Free, At, MRange, in_range}
 use Rattle.match_model.specs.RustTypes.{inner_type}
 use Rattle.match_model.specs.Constructors.{covers}
 use Rattle.match_model.specs.Values.{MValue, Node, Point, Row, Num, values_list}
-use Rattle.match_model.specs.Witness.{MWitness, AnyOf, LaterOf, FlagOf, SpanOf, TextOf, ElseOf, NodeOf, PointOf, RowOf, MWitnesses, no_witnesses, more_witnesses, witnesses_list, slice_shape, fits, all_fit}
+use Rattle.match_model.specs.Witness.{MWitness, AnyOf, LaterOf, FlagOf, SpanOf, TextOf, ElseOf, NodeOf, PointOf}
+use Rattle.match_model.specs.Witness.{RowOf, MWitnesses, no_witnesses, more_witnesses, witnesses_list, slice_shape}
+use Rattle.match_model.specs.Witness.{fits, all_fit}
 use Rattle.match_model.proofs.Basics.{both, and_true, untrue}
 use Rattle.witness_names.specs.Named.{types_there}
 use Rattle.arm_maker.proofs.Typed.{IsOfType, AreParts, AreItems, node_parts, point_part, row_items}

@@ -147,7 +147,8 @@ unit_back n name behind Q i k q h = both_weaker _ _ _ (λ us s. unit_then n name
 -- ---- a field
 
 -- a field of this name and shape, and then these
-pub record FieldThen (n : ℕ) (name : List ℕ) (shape : Shape) (Q : List Placed → Type 0) (us : List Placed) : Type 0 where
+pub record FieldThen (n : ℕ) (name : List ℕ) (shape : Shape) (Q : List Placed → Type 0)
+    (us : List Placed) : Type 0 where
   pub inner : PatternTree
   pub rest : List Placed
   pub spelled : FieldForm (SpellsPlain n) us (record { name = name; short = false; attrs = []; pattern = inner }) rest

@@ -108,7 +108,8 @@ wild_grouped n behind Q h =
         let spelled : SpellsPlain (suc n) t.rest s.form (c.first ∷ c.rest) =
         subst (λ vs. SpellsPlain (suc n) t.rest s.form vs) c.whole s.spelled in
         let inner = whole (suc n) t.rest (c.first ∷ c.rest) s.form spelled s.fresh (rw c.is refl) in
-        rw t.whole (group_then (suc n) patterns.Wild s.form t.first t.rest c.rest c.first Q t.is inner c.is s.same c.holds)
+        rw t.whole (group_then (suc n) patterns.Wild s.form t.first t.rest c.rest c.first Q t.is inner c.is
+        s.same c.holds)
 
 -- so many levels are left below for what stands in parentheses
 several_back : (n : ℕ) (low high : MEnd) (behind : List ℕ) (Q : List Placed → Type 0)

@@ -1,5 +1,7 @@
 -- Whether a pattern of several parts matches, by whether its parts match.
-use Rattle.std.proofs.Common.{◌≡◌, ◌<◌, ◌≤◌, ℕ, zero, suc, ◌+◌, ◌-◌, Bool, true, false, not, ◌&&◌, ◌||◌, List, [], ◌∷◌, ◌++◌, map, take, drop, replicate, length, nat_eq, nat_lt, nat_le, refl, sym, ap, ◌∙◌, arith, length-append, length-take-le, length-drop}
+use Rattle.std.proofs.Common.{◌≡◌, ◌<◌, ◌≤◌, ℕ, zero, suc, ◌+◌, ◌-◌, Bool, true, false, not, ◌&&◌, ◌||◌, List, []}
+use Rattle.std.proofs.Common.{◌∷◌, ◌++◌, map, take, drop, replicate, length, nat_eq, nat_lt, nat_le, refl, sym, ap}
+use Rattle.std.proofs.Common.{◌∙◌, arith, length-append, length-take-le, length-drop}
 use Rattle.std.proofs.lemmas.List.{take-append-drop}
 use Rattle.std.specs.Prelude.{if◌then◌else◌}
 use Rattle.std.specs.List.{list_any, list_all}
@@ -7,7 +9,8 @@ use Rattle.std.proofs.lemmas.Bool.Decides.{nat_tests}
 use Rattle.match_model.specs.declared.Mode.{Mode}
 use Rattle.match_model.specs.Values.{MValue}
 use Rattle.match_model.specs.Match.{is_empty_list}
-use Rattle.match_model.specs.Matching.{Matcher, wild, are_parts, parts_ways, items_ways, matchers, field_ways, ways, to_move}
+use Rattle.match_model.specs.Matching.{Matcher, wild, are_parts, parts_ways, items_ways, matchers, field_ways, ways}
+use Rattle.match_model.specs.Matching.{to_move}
 use Rattle.match_model.specs.Patterns.{MPats, no_pats, more_pats, MNumbered, numbers_in, is_none_of, all_differ}
 use Rattle.match_model.specs.Ways.{Way, join, combine, under}
 use Rattle.match_model.proofs.Basics.{and_true, nat_itself}

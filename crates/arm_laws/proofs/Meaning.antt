@@ -1,5 +1,7 @@
 -- The pattern for a witness matches just the values of the type that its arm takes.
-use Rattle.std.proofs.Common.{◌≡◌, ℕ, zero, suc, ◌+◌, ◌-◌, ℤ, Bool, true, false, ◌&&◌, ◌||◌, List, [], ◌∷◌, ◌++◌, take, drop, replicate, length, cond, nat_eq, Option, Some, None, is_some, refl, sym, ap, subst, ◌∙◌, arith}
+use Rattle.std.proofs.Common.{◌≡◌, ℕ, zero, suc, ◌+◌, ◌-◌, ℤ, Bool, true, false, ◌&&◌, ◌||◌, List, [], ◌∷◌, ◌++◌}
+use Rattle.std.proofs.Common.{take, drop, replicate, length, cond, nat_eq, Option, Some, None, is_some, refl, sym}
+use Rattle.std.proofs.Common.{ap, subst, ◌∙◌, arith}
 use Rattle.std.specs.Prelude.{⊤, int_le, if◌then◌else◌}
 use Rattle.std.specs.Ordering.{int_eq}
 use Rattle.std.proofs.lemmas.Bool.Decides.{nat_tests}
@@ -8,25 +10,34 @@ use mathlib.Core.Bool.{beq}
 use Rattle.match_model.specs.declared.Mode.{Mode}
 use Rattle.match_model.specs.declared.Mode.TheVariants.{Move}
 use Rattle.match_model.specs.Texts.{text_eq}
-use Rattle.match_model.specs.Types.{MType, TupleType, PointType, SliceType, ArrayType, NamedType, MTypes, no_types, more_types, types_list}
+use Rattle.match_model.specs.Types.{MType, TupleType, PointType, SliceType, ArrayType, NamedType, MTypes, no_types}
+use Rattle.match_model.specs.Types.{more_types, types_list}
 use Rattle.match_model.specs.Declarations.{MProgram, MItem, StructItem, EnumItem, OtherItem, declared, node_types}
 use Rattle.match_model.specs.Numbers.{MEnd, Free, At, MRange, in_range}
-use Rattle.match_model.specs.Constructors.{MShape, FixedShape, LongerShape, MCtor, PointCtor, FlagCtor, NumbersCtor, RowCtor, MSet, SingleSet, belongs, covers}
+use Rattle.match_model.specs.Constructors.{MShape, FixedShape, LongerShape, MCtor, PointCtor, FlagCtor, NumbersCtor}
+use Rattle.match_model.specs.Constructors.{RowCtor, MSet, SingleSet, belongs, covers}
 use Rattle.match_model.specs.OfType.{node_ctor, has_ctor, witnesses_are_of}
 use Rattle.match_model.specs.RustTypes.{rust_context, rust_set, rust_arity, rust_sub, item_set, inner_type}
 use Rattle.match_model.specs.Typing.{is_value, are_values, all_are_values, some_if}
-use Rattle.match_model.specs.Values.{MValue, Flag, Num, Text, Node, Point, Row, MValues, no_values, more_values, values_list}
-use Rattle.match_model.specs.Matching.{bare_if, span_way, bind_rest, middle_of, text_ways, parts_ways, field_ways, items_ways, matchers, wild, are_parts, ways, to_move}
-use Rattle.match_model.specs.Patterns.{NoRest, SomeRest, MPat, NumPat, FlagPat, SpanPat, FormPat, ListPat, MPats, numbers_in}
+use Rattle.match_model.specs.Values.{MValue, Flag, Num, Text, Node, Point, Row, MValues, no_values, more_values}
+use Rattle.match_model.specs.Values.{values_list}
+use Rattle.match_model.specs.Matching.{bare_if, span_way, bind_rest, middle_of, text_ways, parts_ways, field_ways}
+use Rattle.match_model.specs.Matching.{items_ways, matchers, wild, are_parts, ways, to_move}
+use Rattle.match_model.specs.Patterns.{NoRest, SomeRest, MPat, NumPat, FlagPat, SpanPat, FormPat, ListPat, MPats}
+use Rattle.match_model.specs.Patterns.{numbers_in}
 use Rattle.match_model.specs.Ways.{Way, under}
-use Rattle.match_model.specs.Witness.{MWitness, AnyOf, LaterOf, FlagOf, SpanOf, TextOf, ElseOf, NodeOf, PointOf, RowOf, MWitnesses, no_witnesses, more_witnesses, witnesses_list, slice_shape, back_is_allowed, fits}
+use Rattle.match_model.specs.Witness.{MWitness, AnyOf, LaterOf, FlagOf, SpanOf, TextOf, ElseOf, NodeOf, PointOf}
+use Rattle.match_model.specs.Witness.{RowOf, MWitnesses, no_witnesses, more_witnesses, witnesses_list, slice_shape}
+use Rattle.match_model.specs.Witness.{back_is_allowed, fits}
 use Rattle.match_model.proofs.Basics.{both, untrue, nat_equal, int_equal, int_itself}
 use Rattle.witness_names.specs.Named.{types_there}
 use Rattle.arm_maker.proofs.Typed.{IsOfType, AreParts, AreItems, node_parts, point_part, row_items}
 use Rattle.arm_laws.specs.TakingLaws.{MeantIsTaken}
-use Rattle.arm_laws.specs.Meant.{numbers_meant, text_in, is_mutable, point_meant, numbered, node_meant, rest_meant, meant, parts_meant, items_meant, is_referred, parts_referred, items_referred}
+use Rattle.arm_laws.specs.Meant.{numbers_meant, text_in, is_mutable, point_meant, numbered, node_meant, rest_meant}
+use Rattle.arm_laws.specs.Meant.{meant, parts_meant, items_meant, is_referred, parts_referred, items_referred}
 use Rattle.arm_laws.specs.Takes.{taken_by, takes, parts_take, items_take}
-use Rattle.arm_laws.proofs.Matched.{some, some_map, all_match, items_alone, longer_some, pats_count, fields_are_parts, fields_all}
+use Rattle.arm_laws.proofs.Matched.{some, some_map, all_match, items_alone, longer_some, pats_count}
+use Rattle.arm_laws.proofs.Matched.{fields_are_parts, fields_all}
 
 -- ---- values that are no references
 

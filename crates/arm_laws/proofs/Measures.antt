@@ -166,7 +166,8 @@ mutual
       let f = and_right (nat_le (tree_count front + (rest_count longer + tree_count back)) most_parts)
       (rest_fits n longer && (parts_fit n front && parts_fit n back)) e in
       let g = and_right (rest_fits n longer) (parts_fit n front && parts_fit n back) f in
-      let last = rest_all longer n (arm_shapes back) (and_left (rest_fits n longer) (parts_fit n front && parts_fit n back) f)
+      let last = rest_all longer n (arm_shapes back)
+      (and_left (rest_fits n longer) (parts_fit n front && parts_fit n back) f)
       (arms_within back n (and_right (parts_fit n front) (parts_fit n back) g)) in
       all_behind (arm_shapes front) (and_more (rest_shapes longer) (arm_shapes back)) n
       (arms_within front n (and_left (parts_fit n front) (parts_fit n back) g)) last

@@ -1,13 +1,17 @@
 -- Rows of which each pattern has, with those below it, some property of its type and constructor.
-use Rattle.std.proofs.Common.{◌≡◌, ℕ, zero, suc, ◌+◌, ◌-◌, Bool, true, false, List, [], ◌∷◌, ◌++◌, map, take, drop, cond, Some, None, refl, sym, subst}
+use Rattle.std.proofs.Common.{◌≡◌, ℕ, zero, suc, ◌+◌, ◌-◌, Bool, true, false, List, [], ◌∷◌, ◌++◌, map, take, drop}
+use Rattle.std.proofs.Common.{cond, Some, None, refl, sym, subst}
 use Rattle.std.specs.Prelude.{⊤}
 use Rattle.std.specs.List.{flat_map}
 use Rattle.match_model.specs.Constructors.{FixedShape, LongerShape, MCtor, RowCtor, WildCtor, OrCtor, has_piece}
 use Rattle.match_model.specs.Contexts.{Context}
 use Rattle.match_model.specs.Lists.{Every}
 use Rattle.match_model.specs.Matrices.{MColumn}
-use Rattle.match_model.specs.ArenaPatterns.{MDePat, de_pat, MDePats, no_de_pats, more_de_pats, de_pats_list, uid_of, MDeArm}
-use Rattle.match_model.specs.Rows.{Head, Choice, choices_of, all_choices_of, choice_among, with_binds, choices_by, wildcards, heads_of, specialised_heads, all_specialised, expand_row, row_rest, column_of}
+use Rattle.match_model.specs.ArenaPatterns.{MDePat, de_pat, MDePats, no_de_pats, more_de_pats, de_pats_list, uid_of}
+use Rattle.match_model.specs.ArenaPatterns.{MDeArm}
+use Rattle.match_model.specs.Rows.{Head, Choice, choices_of, all_choices_of, choice_among, with_binds, choices_by}
+use Rattle.match_model.specs.Rows.{wildcards, heads_of, specialised_heads, all_specialised, expand_row, row_rest}
+use Rattle.match_model.specs.Rows.{column_of}
 use Rattle.match_model.specs.WitnessList.{row_of}
 use Rattle.pattern_matrix.specs.HeadRows.{AllTyped}
 use Rattle.arm_laws.specs.Near.{HasNodes, HaveNodes}

@@ -1,5 +1,6 @@
 -- The stacks that a search gives are parted.
-use Rattle.std.proofs.Common.{◌≡◌, ◌≤◌, ◌⊎◌, inl, inr, ℕ, suc, ◌+◌, Bool, List, [], ◌∷◌, ◌++◌, map, take, drop, length, refl, ap, subst, ◌∙◌, arith, length-append, length-take-le}
+use Rattle.std.proofs.Common.{◌≡◌, ◌≤◌, ◌⊎◌, inl, inr, ℕ, suc, ◌+◌, Bool, List, [], ◌∷◌, ◌++◌, map, take, drop}
+use Rattle.std.proofs.Common.{length, refl, ap, subst, ◌∙◌, arith, length-append, length-take-le}
 use Rattle.std.specs.List.{flat_map}
 use Rattle.match_model.specs.Values.{MValue}
 use Rattle.match_model.specs.Constructors.{MCtor}
@@ -9,12 +10,14 @@ use Rattle.match_model.specs.Lists.{Among, Every}
 use Rattle.match_model.specs.Matrices.{column_at}
 use Rattle.match_model.specs.Rows.{Head, expand_row, row_rest, column_of, all_specialised, parts_open, part_open}
 use Rattle.match_model.specs.Witness.{MWitness, AnyOf}
-use Rattle.match_model.specs.WitnessList.{Witnesses, taken, covered, no_row, anything, by_pieces, PieceWitnesses, no_piece, with_value, without_value, wrapped, witness_of, named_in}
+use Rattle.match_model.specs.WitnessList.{Witnesses, taken, covered, no_row, anything, by_pieces, PieceWitnesses}
+use Rattle.match_model.specs.WitnessList.{no_piece, with_value, without_value, wrapped, witness_of, named_in}
 use Rattle.constructor_sets.specs.Columns.{AreColumnPieces}
 use Rattle.constructor_sets.proofs.Whole.{made_pieces}
 use Rattle.pattern_matrix.specs.HeadRows.{AreTypes, AllTyped, AreMadeRows, cols}
 use Rattle.pattern_matrix.proofs.Made.{expand_made, rests_made, column_made, special_made}
-use Rattle.pattern_matrix.proofs.Places.{length-below, rests_typed, expanded_typed, expanded_none, heads_good, specials_typed, specials_types}
+use Rattle.pattern_matrix.proofs.Places.{length-below, rests_typed, expanded_typed, expanded_none, heads_good}
+use Rattle.pattern_matrix.proofs.Places.{specials_typed, specials_types}
 use Rattle.pattern_matrix.proofs.Exact.{AreLong, long_stacks, AreAllSided, all_sided}
 use Rattle.arm_laws.specs.Parted.{StandsBefore, first, later, Holding, PartedOne, in_parts, Parted, at_head, behind}
 use Rattle.arm_laws.specs.Parted as parted

@@ -239,7 +239,8 @@ closes_stop _ (by_comma cs) = at_comma cs
 closes_stop _ (by_round cs) = at_round cs
 closes_stop _ (by_square cs) = at_square cs
 
-pub round_step : (R : List Placed → Type 0) (cs : List ℕ) → Lexable cs R → Lexable (40 ∷ cs) (Then (Is marks.OpenRound) R)
+pub round_step : (R : List Placed → Type 0) (cs : List ℕ) → Lexable cs R
+    → Lexable (40 ∷ cs) (Then (Is marks.OpenRound) R)
 round_step R cs h = mark_step marks.OpenRound 40 R cs (open_round cs) refl h
 
 pub closed_round : (Q : List Placed → Type 0) (behind : List ℕ) → Lexable behind Q
@@ -359,7 +360,13 @@ brace_form_then n name fs Q us s =
 pub no_field_then : (n : ℕ) (Q : List Placed → Type 0) (us : List Placed) → Then (Is marks.CloseCurly) Q us
     → ListedFields n no_fields Q us
 no_field_then n Q us t =
-    record { items = []; rest = t.rest; list = rw t.whole (all_closed t.first t.rest t.is); same = refl; holds = t.holds }
+    record {
+      items = [];
+      rest = t.rest;
+      list = rw t.whole (all_closed t.first t.rest t.is);
+      same = refl;
+      holds = t.holds;
+    }
 
 -- a field by its name and pattern
 abbrev field_tree : List ℕ → PatternTree → FieldTree

@@ -39,10 +39,12 @@ signed_step (pos n) behind Q lt k h = number_step n behind Q lt k h
 signed_step (negsuc n) behind Q lt k h = negative_step (suc n) behind Q lt k h
 
 number_token : (n : ℕ) (l : Lexeme) → IsNumber n l → IsEndToken l (Int false (Some n) [])
-number_token n l e = rw e (record { end = refl; mark = λ m. refl; range = refl; by_ref = refl; mutable = refl; name = refl })
+number_token n l e =
+    rw e (record { end = refl; mark = λ m. refl; range = refl; by_ref = refl; mutable = refl; name = refl })
 
 char_token : (c : ℕ) (l : Lexeme) → l ≡ Character c → IsEndToken l (Char c)
-char_token c l e = rw e (record { end = refl; mark = λ m. refl; range = refl; by_ref = refl; mutable = refl; name = refl })
+char_token c l e =
+    rw e (record { end = refl; mark = λ m. refl; range = refl; by_ref = refl; mutable = refl; name = refl })
 
 -- two tokens in front
 two_first : {P R : Lexeme → Type 0} {Q : List Placed → Type 0} (us : List Placed) (t : Then P (Then R Q) us)
@@ -174,7 +176,8 @@ both_text xs ys low high a b behind Q k h =
     (sym same) (weaker _ _ _ (λ us s. both_then low high (Then (Is marks.CloseRound) Q) us s) first.alone)
 
 low_then : (low : LitTree) (Q : List Placed → Type 0) → ((us : List Placed) → Q us → NextIsNot begins_end us)
-    → (us : List Placed) → EndThen low (Then (Is marks.TwoDots) Q) us → RangeThen (patterns.Range (Some low) None false) Q us
+    → (us : List Placed) → EndThen low (Then (Is marks.TwoDots) Q) us
+    → RangeThen (patterns.Range (Some low) None false) Q us
 low_then low Q q us s =
     let m = s.holds in record {
       rest = m.rest;
@@ -191,8 +194,9 @@ low_text xs low a behind Q k h =
     let first = a (46 ∷ 46 ∷ 41 ∷ behind) _ (at_dots _) dotted in
     let same : (xs ++ 46 ∷ 46 ∷ []) ++ 41 ∷ behind ≡ xs ++ 46 ∷ 46 ∷ 41 ∷ behind =
     append_assoc xs (46 ∷ 46 ∷ []) (41 ∷ behind) in
-    subst (λ cs. Lexable cs (RangeThen (patterns.Range (Some low) None false) (Then (Is marks.CloseRound) Q))) (sym same)
-    (weaker _ _ _ (λ us s. low_then low (Then (Is marks.CloseRound) Q) (λ vs t. (calm_mark marks.CloseRound Q calm_round vs t).end) us s) first.alone)
+    subst (λ cs. Lexable cs (RangeThen (patterns.Range (Some low) None false) (Then (Is marks.CloseRound) Q)))
+    (sym same) (weaker _ _ _ (λ us s. low_then low (Then (Is marks.CloseRound) Q)
+    (λ vs t. (calm_mark marks.CloseRound Q calm_round vs t).end) us s) first.alone)
 
 high_then : (high : LitTree) (Q : List Placed → Type 0) (us : List Placed)
     → Then (Is marks.DotsEqual) (EndThen high Q) us → RangeThen (patterns.Range None (Some high) true) Q us
@@ -208,7 +212,8 @@ pub high_text : (ys : List ℕ) (high : LitTree) → IsEndText ys high
     → IsRangeText (46 ∷ 46 ∷ 61 ∷ ys) (patterns.Range None (Some high) true)
 high_text ys high b behind Q k h =
     let last = b (41 ∷ behind) (Then (Is marks.CloseRound) Q) (at_stop _ k) h in
-    weaker _ _ _ (λ us s. high_then high (Then (Is marks.CloseRound) Q) us s) (equal_step _ (ys ++ 41 ∷ behind) last.alone)
+    weaker _ _ _ (λ us s. high_then high (Then (Is marks.CloseRound) Q) us s)
+    (equal_step _ (ys ++ 41 ∷ behind) last.alone)
 
 -- ---- in parentheses
 
@@ -218,7 +223,8 @@ range_grouped : (n : ℕ) (shape : Shape) (Q : List Placed → Type 0) (us : Lis
 range_grouped n shape Q us same t =
     let s = t.holds in
     let c = s.holds in
-    let spelled : SpellsRange t.rest shape (c.first ∷ c.rest) = subst (λ vs. SpellsRange t.rest shape vs) c.whole s.spelled in
+    let spelled : SpellsRange t.rest shape (c.first ∷ c.rest) =
+    subst (λ vs. SpellsRange t.rest shape vs) c.whole s.spelled in
     let p = patterns.At (from_of t.rest) shape in
     let whole : PatternForm (SpellsPlain n) t.rest p (c.first ∷ c.rest) =
     one t.rest t.rest (c.first ∷ c.rest) false p (missing t.rest s.no_bar)
@@ -238,4 +244,5 @@ pub range_back : (n : ℕ) (cs : List ℕ) (shape : Shape) (behind : List ℕ) (
     → Both (grouped cs ++ behind) (Armed (suc n) (grouped_shape shape) Q)
 range_back n cs shape behind Q a same k h =
     both_weaker _ _ _ (λ us t. range_grouped n shape Q us same t)
-    (grouped_back cs behind (RangeThen shape (Then (Is marks.CloseRound) Q)) (a behind Q k (mark_step marks.CloseRound 41 Q behind (close_round behind) refl h)))
+    (grouped_back cs behind (RangeThen shape (Then (Is marks.CloseRound) Q))
+    (a behind Q k (mark_step marks.CloseRound 41 Q behind (close_round behind) refl h)))

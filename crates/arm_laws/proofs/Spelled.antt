@@ -57,7 +57,8 @@ spelled_whole us w f a =
     let p = patterns.At (from_of us) a.form in
     let form : PatternForm (SpellsPlain 64) us p a.rest = whole 64 us a.rest a.form a.spelled a.fresh
     (calm_end a.rest a.holds).bar in
-    let fits_it : fits p 64 ≡ true = sym (same_fits p 64) ∙ ap (λ s. fits (unplaced s) 64) a.same ∙ pattern_fits w 64 f in
+    let fits_it : fits p 64 ≡ true =
+    sym (same_fits p 64) ∙ ap (λ s. fits (unplaced s) 64) a.same ∙ pattern_fits w 64 f in
     (subst (λ vs. PatternForm (SpellsPlain 64) us p vs) a.holds form, fits_it)
 
 -- a text spells at most one pattern

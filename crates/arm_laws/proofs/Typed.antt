@@ -47,7 +47,8 @@ use Rattle.arm_laws.proofs.BuiltIn.{option_named, result_named, option_name, res
 -- ---- numbers
 
 unsigned_short : (top : ℕ) (z : ℤ) → top < 2 ^ 128 → in_range (closed (pos 0) (pos top)) z ≡ true → IsShortEnd (At z)
-unsigned_short top (pos n) lt e = let le : nat_le n top ≡ true = and_right (int_le (pos 0) (pos n)) (int_le (pos n) (pos top)) e in
+unsigned_short top (pos n) lt e =
+    let le : nat_le n top ≡ true = and_right (int_le (pos 0) (pos n)) (int_le (pos n) (pos top)) e in
     grind (arith, nat_tests)
 unsigned_short top (negsuc n) lt e = absurd cc
 
@@ -198,7 +199,8 @@ mutual
       (and_right (nat_eq (length (witnesses_list ws)) (cx.arity c t)) (witnesses_are_of cx (cx.sub c t) 0 ws)
       (and_right (has_ctor cx t c) _ e))
   unicode_of cx t (PointOf w) e =
-      unicode_of cx (cx.sub PointCtor t 0) w (and_right (has_ctor cx t PointCtor) (witness_is_of cx (cx.sub PointCtor t 0) w) e)
+      unicode_of cx (cx.sub PointCtor t 0) w
+      (and_right (has_ctor cx t PointCtor) (witness_is_of cx (cx.sub PointCtor t 0) w) e)
   unicode_of cx t (RowOf front longer back) e =
       let c = RowCtor (slice_shape (length (witnesses_list front)) longer (length (witnesses_list back))) in
       let first = witnesses_are_of cx (cx.sub c t) 0 front in
@@ -314,7 +316,8 @@ variant_spellable program t k ws names s = by_case (slice_get (variants_of progr
 node_spellable : (program : MProgram) (t : MType) (k : ℕ) (ws : List WitnessTree) → AreNames program
     → AllSpellable ws → IsSpellable (node_tree Whole program t k ws)
 node_spellable program (TupleType types) zero ws names s = trees_spellable ws s
-node_spellable program (TupleType types) (suc k) ws names s = variant_spellable program (TupleType types) (suc k) ws names s
+node_spellable program (TupleType types) (suc k) ws names s =
+    variant_spellable program (TupleType types) (suc k) ws names s
 node_spellable program t k ws names s = variant_spellable program t k ws names s
 
 point_spellable : (t : MType) (w : WitnessTree) → IsSpellable w → IsSpellable (point_tree t w)

@@ -46,7 +46,8 @@ use Rattle.arm_laws.proofs.Pieces.{name_step}
 
 module _ (n : ℕ) (inner : (w : WitnessTree) → Back n w) where
   part_step : (part : Part) (behind : List ℕ) (Q : List Placed → Type 0) → IsPartReady n part → Closes behind
-      → ((us : List Placed) → Q us → Calm us) → Lexable behind Q → Spaced (part_chars part ++ behind) (ItemThen n part Q)
+      → ((us : List Placed) → Q us → Calm us) → Lexable behind Q
+      → Spaced (part_chars part ++ behind) (ItemThen n part Q)
   part_step Dots behind Q r k q h =
       record { lexed = weaker _ _ _ (λ us t. dots_then n Q q us t) (dots_step Q behind k h); no_space = refl }
   part_step (Given w) behind Q r k q h =
@@ -120,8 +121,8 @@ module _ (n : ℕ) (inner : (w : WitnessTree) → Back n w) where
   row_items parts behind Q r h =
       let rest = joined (parts_chars parts) in
       let closing = mark_step marks.CloseSquare 93 Q behind (close_square behind) refl h in
-      let l = items_back (SliceItemForm (SpellsPlain n)) (make_slice n) marks.CloseSquare calm_square parts (93 ∷ behind) Q
-      r (by_square behind) refl closing in
+      let l = items_back (SliceItemForm (SpellsPlain n)) (make_slice n) marks.CloseSquare calm_square parts
+      (93 ∷ behind) Q r (by_square behind) refl closing in
       let lexed = mark_step marks.OpenSquare 91 _ (rest ++ (93 ∷ behind)) (open_square _) refl l.lexed in
       subst (λ cs. Both (91 ∷ cs) (Armed (suc n) (patterns.Slice (parts_trees parts)) Q))
       (sym (append_assoc rest (93 ∷ []) behind))

@@ -1,5 +1,6 @@
 -- The ranges of an arm that breaks no rule have ends that are literals or beside one.
-use Rattle.std.proofs.Common.{◌≡◌, inl, inr, zero, suc, ℤ, pos, negsuc, ◌-ℤ◌, ◌-◌, ◌^◌, ◌++◌, Bool, true, false, not, ◌&&◌, ◌||◌, List, [], ◌∷◌, map, Option, Some, None, refl, sym, subst, ◌∙◌, arith}
+use Rattle.std.proofs.Common.{◌≡◌, inl, inr, zero, suc, ℤ, pos, negsuc, ◌-ℤ◌, ◌-◌, ◌^◌, ◌++◌, Bool, true, false}
+use Rattle.std.proofs.Common.{not, ◌&&◌, ◌||◌, List, [], ◌∷◌, map, Option, Some, None, refl, sym, subst, ◌∙◌, arith}
 use Rattle.std.specs.Prelude.{int_le, int_lt}
 use Rattle.std.specs.List.{Contains}
 use Rattle.std.proofs.lemmas.Int.{ints}
@@ -22,7 +23,8 @@ use Rattle.witness_text.specs.Ranges.{begins_above_literals, ends_below_literals
 use Rattle.pattern_rules.specs.Settings.{Setting, place}
 use Rattle.pattern_rules.specs.Nodes.{Node, nodes}
 use Rattle.pattern_rules.specs.Faults.{ArmNode}
-use Rattle.pattern_rules.specs.Literals.{is_refused, has_type, number_of, is_outside, is_number_of, end_has_type, end_outside, end_number, range_meant, some_end_refused, same_kind}
+use Rattle.pattern_rules.specs.Literals.{is_refused, has_type, number_of, is_outside, is_number_of, end_has_type}
+use Rattle.pattern_rules.specs.Literals.{end_outside, end_number, range_meant, some_end_refused, same_kind}
 use Rattle.match_model.specs.declared.IntKind.TheVariants.{U8}
 use Rattle.pattern_rules.specs.NodeRules.{literal_fits, is_numeric, type_met}
 use Rattle.pattern_rules.specs.Promises.{literal_range, range_written, IsWritten}

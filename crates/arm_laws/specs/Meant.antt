@@ -4,9 +4,12 @@ use Rattle.std.specs.Prelude.{ℕ, suc, Bool, true, false, not, ◌&&◌, ◌||�
 use Rattle.match_model.specs.Types.{MType, TupleType, PointType}
 use Rattle.match_model.specs.Numbers.{MEnd, Free, At, MRange, has_one_number}
 use Rattle.match_model.specs.Declarations.{MProgram, node_types}
-use Rattle.match_model.specs.Patterns.{MRest, NoRest, SomeRest, MPat, WildPat, NumPat, FlagPat, TextPat, SpanPat, FormPat, ListPat, PointPat, MPats, no_pats, more_pats, MNumbered, no_numbered, more_numbered}
+use Rattle.match_model.specs.Patterns.{MRest, NoRest, SomeRest, MPat, WildPat, NumPat, FlagPat, TextPat, SpanPat}
+use Rattle.match_model.specs.Patterns.{FormPat, ListPat, PointPat, MPats, no_pats, more_pats, MNumbered}
+use Rattle.match_model.specs.Patterns.{no_numbered, more_numbered}
 use Rattle.match_model.specs.RustTypes.{inner_type}
-use Rattle.match_model.specs.Witness.{MWitness, FlagOf, SpanOf, TextOf, NodeOf, PointOf, RowOf, MWitnesses, no_witnesses, more_witnesses}
+use Rattle.match_model.specs.Witness.{MWitness, FlagOf, SpanOf, TextOf, NodeOf, PointOf, RowOf, MWitnesses}
+use Rattle.match_model.specs.Witness.{no_witnesses, more_witnesses}
 use Rattle.witness_names.specs.Named.{types_there}
 use Rattle.arm_laws.specs.Takes.{taken_by}
 

@@ -37,7 +37,8 @@ abbrev mutual
   takes program t LaterOf v = true
   takes program t (ElseOf ts) v = true
   takes program t (SpanOf r) v = fits (SpanOf (taken_by t r)) v
-  takes program t (NodeOf k ws) v = node_fits k (λ vs. parts_take program (types_there (node_types program t k)) ws vs) v
+  takes program t (NodeOf k ws) v =
+      node_fits k (λ vs. parts_take program (types_there (node_types program t k)) ws vs) v
   takes program t (PointOf w) v = point_fits (λ u. takes program (inner_type t) w u) v
   takes program t (RowOf front longer back) v =
       slice_fits (length (witnesses_list front)) longer (length (witnesses_list back))
