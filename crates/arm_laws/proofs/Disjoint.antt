@@ -23,7 +23,7 @@ use Rattle.match_model.specs.Witness.{MWitness, no_witnesses, witnesses_of, witn
 use Rattle.match_model.specs.WitnessList.{witness_of, named_in}
 use Rattle.match_model.specs.WitnessOrder.{Compared, Same, Before, NotBefore, and_then, compared, compare_nat}
 use Rattle.match_model.specs.WitnessOrder.{compare_low, compare_high, compare_range, compare_text, compare_shape}
-use Rattle.match_model.proofs.Basics.{both, untrue, nat_equal, int_equal, int_itself, text_equal, text_itself}
+use Rattle.match_model.proofs.Basics.{untrue, nat_equal, int_equal, int_itself, text_equal, text_itself}
 use Rattle.match_model.proofs.Basics.{or_left, or_right, nat_itself}
 use Rattle.range_split.proofs.Following.{Follow-together}
 use Rattle.constructor_sets.specs.InOrder.{IsEarlier, IsBeforeEach, AreInOrder}

@@ -20,8 +20,8 @@ use Rattle.decl_syntax.specs.Functions.{FunctionTree}
 use Rattle.decl_syntax.specs.Patterns.{Shape, LitTree, Flag, Char, Byte, Int, Str, Other}
 use Rattle.decl_syntax.specs.Patterns as patterns
 use Rattle.witness_text.specs.Ranges.{begins_above_literals, ends_below_literals}
-use Rattle.pattern_rules.specs.Settings.{Setting, place}
-use Rattle.pattern_rules.specs.Nodes.{Node, nodes}
+use Rattle.pattern_rules.specs.Settings.{Setting}
+use Rattle.pattern_rules.specs.Nodes.{Node}
 use Rattle.pattern_rules.specs.Faults.{ArmNode}
 use Rattle.pattern_rules.specs.Literals.{is_refused, has_type, number_of, is_outside, is_number_of, end_has_type}
 use Rattle.pattern_rules.specs.Literals.{end_outside, end_number, range_meant, some_end_refused, same_kind}
