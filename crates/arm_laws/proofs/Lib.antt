@@ -15,8 +15,10 @@ pub mod Leaves
 pub mod Matched
 pub mod Meaning
 pub mod Measures
+pub mod NamesFound
 pub mod Near
 pub mod Nodes
+pub mod Offsets
 pub mod Parting
 pub mod Parts
 pub mod Pieces

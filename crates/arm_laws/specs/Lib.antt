@@ -3,6 +3,7 @@ pub mod FunctionLaws
 pub mod LiteralEnds
 pub mod Meant
 pub mod Named
+pub mod NamedOnce
 pub mod Near
 pub mod Parted
 pub mod Patterns
@@ -10,4 +11,5 @@ pub mod Spellable
 pub mod Spelled
 pub mod SpellingLaws
 pub mod Takes
+pub mod TakesLaws
 pub mod TakingLaws
