@@ -12,6 +12,14 @@ use Rattle.match_model.specs.declared.Mode.TheVariants.{Move}
 use Rattle.match_model.specs.Texts.{text_eq}
 use Rattle.match_model.specs.Types.{MType, TupleType, PointType, SliceType, ArrayType, NamedType, MTypes, no_types}
 use Rattle.match_model.specs.Types.{more_types, types_list}
+use Rattle.std.specs.Prelude.{pos, not}
+use Rattle.match_model.specs.declared.Width.{Width}
+use Rattle.match_model.specs.SourcePatterns.{written_range, least_end, greatest_end, low_written, high_written}
+use Rattle.match_model.specs.Types.{CharType, IntType}
+use Rattle.match_model.specs.Numbers.{is_from, is_up_to, closed, kind_range, numbers_of, has_number}
+use Rattle.match_model.specs.Values.{Unseen}
+use Rattle.arm_laws.specs.Meant.{number_at}
+use Rattle.match_model.specs.Types.{MType, TupleType, PointType, SliceType, ArrayType, NamedType, MTypes, no_types, more_types, types_list}
 use Rattle.match_model.specs.Declarations.{MProgram, MItem, StructItem, EnumItem, OtherItem, declared, node_types}
 use Rattle.match_model.specs.Numbers.{MEnd, Free, At, MRange, in_range}
 use Rattle.match_model.specs.Constructors.{MShape, FixedShape, LongerShape, MCtor, PointCtor, FlagCtor, NumbersCtor}
@@ -83,15 +91,132 @@ number_means a b m (Num x) e n =
 number_means a b m (Point k v) e n = untrue (sym n)
 number_means a b m v e n = refl
 
-numbers_mean : (low high : MEnd) (m : Mode) (v : MValue) → is_ref v ≡ false →
-    some (ways (numbers_meant (record { low = low; high = high })) m v) ≡ fits
-    (SpanOf (record { low = low; high = high })) v
-numbers_mean Free high m v n = span_means (record { low = Free; high = high }) m v n
-numbers_mean (At a) Free m v n = span_means (record { low = At a; high = Free }) m v n
-numbers_mean (At a) (At b) m v n = go (int_eq a b) refl
+-- ---- numbers of a type
+
+-- the value is a number
+abbrev is_num : MValue → Bool
+is_num (Num x) = true
+is_num _ = false
+
+abbrev IsNumberType : MType → Type 0
+IsNumberType CharType = ⊤
+IsNumberType (IntType kind) = ⊤
+IsNumberType _ = ⊥
+
+no_named_number : (o : Option MItem) (r : MRange) → belongs (item_set o) (NumbersCtor r) ≡ true → ⊥
+no_named_number None r h = untrue h
+no_named_number (Some (StructItem v)) r h = untrue h
+no_named_number (Some OtherItem) r h = untrue h
+no_named_number (Some (EnumItem name false [])) r h = untrue h
+no_named_number (Some (EnumItem name true [])) r h = untrue h
+no_named_number (Some (EnumItem name marked (v ∷ vs))) r h = untrue h
+
+pub number_only : (program : MProgram) (t : MType) (r : MRange) → belongs (rust_set program t) (NumbersCtor r) ≡ true →
+    IsNumberType t
+number_only program CharType r h = tt
+number_only program (IntType kind) r h = tt
+number_only program (NamedType owner ts) r h = absurd (no_named_number (declared program owner) r h)
+number_only program t r h = untrue h
+
+num_only : (program : MProgram) (sure : Bool) (t : MType) (v : MValue) → IsNumberType t →
+    is_value program sure t v ≡ true → is_num v ≡ true
+num_only program sure CharType (Num x) i h = refl
+num_only program sure CharType Unseen i h = unseen sure h
   where
-    go : (t : Bool) → int_eq a b ≡ t →
-        some (ways (cond t (NumPat a) (SpanPat 0 (record { low = At a; high = At b }))) m v)
+    unseen : (b : Bool) → (not b && false) ≡ true → is_num Unseen ≡ true
+    unseen true h = untrue h
+    unseen false h = untrue h
+num_only program sure CharType v i h = untrue h
+num_only program sure (IntType kind) (Num x) i h = refl
+num_only program sure (IntType kind) Unseen i h = unseen sure h
+  where
+    unseen : (b : Bool) → (not b && false) ≡ true → is_num Unseen ≡ true
+    unseen true h = untrue h
+    unseen false h = untrue h
+num_only program sure (IntType kind) v i h = untrue h
+num_only program sure t v i h = absurd i
+
+or_not : (b : Bool) → (b || false) ≡ true → b ≡ true
+or_not true h = refl
+or_not false h = untrue h
+
+from_zero : (x : ℤ) → int_le (pos 0xe000) x ≡ true → int_le (pos 0) x ≡ true
+from_zero x h = grind (arith, ints)
+
+up_to_last : (x : ℤ) → int_le x (pos 0xd7ff) ≡ true → int_le x (pos 0x10ffff) ≡ true
+up_to_last x h = grind (arith, ints)
+
+-- a number of the type is no lower than its least, and no higher than its greatest
+least_from : (width : Width) (t : MType) (x : ℤ) → has_number width t x ≡ true →
+    is_from (least_end (numbers_of width t)) x ≡ true
+least_from width CharType x h = go (in_range (closed (pos 0) (pos 0xd7ff)) x) refl h
+  where
+    go : (b : Bool) → in_range (closed (pos 0) (pos 0xd7ff)) x ≡ b →
+        (b || (in_range (closed (pos 0xe000) (pos 0x10ffff)) x || false)) ≡ true → int_le (pos 0) x ≡ true
+    go true e h = (both (int_le (pos 0) x) (int_le x (pos 0xd7ff)) e).0
+    go false e h =
+        from_zero x (both (int_le (pos 0xe000) x) (int_le x (pos 0x10ffff))
+        (or_not (in_range (closed (pos 0xe000) (pos 0x10ffff)) x) h)).0
+least_from width (IntType kind) x h =
+    let r = kind_range width kind in
+    (both (is_from r.low x) (is_up_to r.high x) (or_not (in_range r x) h)).0
+least_from width t x h = untrue h
+
+greatest_up : (width : Width) (t : MType) (x : ℤ) → has_number width t x ≡ true →
+    is_up_to (greatest_end (numbers_of width t)) x ≡ true
+greatest_up width CharType x h = go (in_range (closed (pos 0) (pos 0xd7ff)) x) refl h
+  where
+    go : (b : Bool) → in_range (closed (pos 0) (pos 0xd7ff)) x ≡ b →
+        (b || (in_range (closed (pos 0xe000) (pos 0x10ffff)) x || false)) ≡ true → int_le x (pos 0x10ffff) ≡ true
+    go true e h = up_to_last x (both (int_le (pos 0) x) (int_le x (pos 0xd7ff)) e).1
+    go false e h =
+        (both (int_le (pos 0xe000) x) (int_le x (pos 0x10ffff))
+        (or_not (in_range (closed (pos 0xe000) (pos 0x10ffff)) x) h)).1
+greatest_up width (IntType kind) x h =
+    let r = kind_range width kind in
+    (both (is_from r.low x) (is_up_to r.high x) (or_not (in_range r x) h)).1
+greatest_up width t x h = untrue h
+
+low_same : (width : Width) (t : MType) (low : MEnd) (x : ℤ) → has_number width t x ≡ true →
+    is_from (low_written (numbers_of width t) (number_at low)) x ≡ is_from low x
+low_same width t Free x h = least_from width t x h
+low_same width t (At a) x h = refl
+
+high_same : (width : Width) (t : MType) (high : MEnd) (x : ℤ) → has_number width t x ≡ true →
+    is_up_to (high_written (numbers_of width t) true (number_at high)) x ≡ is_up_to high x
+high_same width t Free x h = greatest_up width t x h
+high_same width t (At b) x h = refl
+
+-- the range with its open ends closed fits the same values of the type
+closed_fits : (program : MProgram) (sure : Bool) (t : MType) (low high : MEnd) (v : MValue) →
+    is_value program sure t v ≡ true →
+    fits (SpanOf (written_range program.width t (number_at low) true (number_at high))) v
+    ≡ fits (SpanOf (record { low = low; high = high })) v
+closed_fits program sure t low high (Num x) h =
+    ap (λ b. b && is_up_to (high_written (numbers_of program.width t) true (number_at high)) x)
+    (low_same program.width t low x h)
+    ∙ ap (λ b. is_from low x && b) (high_same program.width t high x h)
+closed_fits program sure t low high v h = refl
+
+any_number : (v : MValue) → is_num v ≡ true → true ≡ fits (SpanOf (record { low = Free; high = Free })) v
+any_number (Num x) h = refl
+any_number v h = untrue h
+
+numbers_mean : (program : MProgram) (sure : Bool) (t : MType) (low high : MEnd) (m : Mode) (v : MValue) →
+    IsNumberType t → is_value program sure t v ≡ true → is_ref v ≡ false →
+    some (ways (numbers_meant program.width t (record { low = low; high = high })) m v) ≡ fits
+    (SpanOf (record { low = low; high = high })) v
+numbers_mean program sure t Free Free m v i h n = any_number v (num_only program sure t v i h)
+numbers_mean program sure t Free (At b) m v i h n =
+    span_means (written_range program.width t None true (Some b)) m v n
+    ∙ closed_fits program sure t Free (At b) v h
+numbers_mean program sure t (At a) Free m v i h n =
+    span_means (written_range program.width t (Some a) true None) m v n
+    ∙ closed_fits program sure t (At a) Free v h
+numbers_mean program sure t (At a) (At b) m v i h n = go (int_eq a b) refl
+  where
+    go : (c : Bool) → int_eq a b ≡ c →
+        some (ways (cond c (NumPat a) (SpanPat 0 (record { low = At a; high = At b }))) m v)
         ≡ fits (SpanOf (record { low = At a; high = At b })) v
     go true e = number_means a b m v (int_equal a b e) n
     go false e = span_means (record { low = At a; high = At b }) m v n
@@ -447,7 +572,8 @@ module _ (program : MProgram) where
     means sure t (TextOf u) m v d r h = untrue r
     means sure t (FlagOf b) m v d r h = flag_means b m v (no_ref t (FlagCtor b) sure v d (λ e. untrue e) h)
     means sure t (SpanOf q) m v d r h =
-        numbers_mean (taken_by t q).low (taken_by t q).high m v (no_ref t (NumbersCtor q) sure v d (λ e. untrue e) h)
+        numbers_mean program sure t (taken_by t q).low (taken_by t q).high m v (number_only program t q d) h
+        (no_ref t (NumbersCtor q) sure v d (λ e. untrue e) h)
     means sure t (NodeOf k ws) m (Node j parts) d r h =
         node_means sure t k ws m j parts d h
         (λ q i. parts_mean sure (types_there (node_types program t k)) ws i (values_list parts)

@@ -1,6 +1,9 @@
 -- The pattern that the text of an arm for a witness means, in the words of the definitions of matching; a range has
 -- the offset 0.
 use Rattle.std.specs.Prelude.{ℕ, suc, Bool, true, false, not, ◌&&◌, ◌||◌, List, ◌∷◌, Option, Some, None, is_some, cond}
+use Rattle.std.specs.Prelude.{ℤ}
+use Rattle.match_model.specs.declared.Width.{Width}
+use Rattle.match_model.specs.SourcePatterns.{written_range}
 use Rattle.match_model.specs.Types.{MType, TupleType, PointType}
 use Rattle.match_model.specs.Numbers.{MEnd, Free, At, MRange, has_one_number}
 use Rattle.match_model.specs.Declarations.{MProgram, node_types}
@@ -18,9 +21,19 @@ abbrev pub number_meant : MEnd → MPat
 number_meant Free = WildPat
 number_meant (At n) = NumPat n
 
--- numbers, one or several
-abbrev pub numbers_meant : MRange → MPat
-numbers_meant r = cond (has_one_number r) (number_meant r.low) (SpanPat 0 r)
+-- the number at which the end is
+abbrev pub number_at : MEnd → Option ℤ
+number_at Free = None
+number_at (At n) = Some n
+
+-- numbers of the type from one end to the other; an open end is closed by the type's own
+abbrev pub span_meant : Width → MType → (low high : MEnd) → MPat
+span_meant width t Free Free = WildPat
+span_meant width t low high = SpanPat 0 (written_range width t (number_at low) true (number_at high))
+
+-- numbers of the type, one or several
+abbrev pub numbers_meant : Width → MType → MRange → MPat
+numbers_meant width t r = cond (has_one_number r) (number_meant r.low) (span_meant width t r.low r.high)
 
 -- the text that the witness is, if it is one
 abbrev pub text_in : MWitness → Option (List ℕ)
@@ -57,7 +70,7 @@ abbrev mutual
   -- the pattern for a witness of the type
   pub meant : MProgram → MType → MWitness → MPat
   meant program t (FlagOf b) = FlagPat b
-  meant program t (SpanOf r) = numbers_meant (taken_by t r)
+  meant program t (SpanOf r) = numbers_meant program.width t (taken_by t r)
   meant program t (NodeOf k ws) = node_meant t k (parts_meant program (types_there (node_types program t k)) ws)
   meant program t (PointOf w) = point_meant (is_mutable t) (text_in w) (meant program (inner_type t) w)
   meant program t (RowOf front longer back) =
