@@ -14,6 +14,7 @@ pub mod Itself
 pub mod Leaves
 pub mod Matched
 pub mod Meaning
+pub mod MeantClosed
 pub mod Measures
 pub mod NamesFound
 pub mod Near
@@ -21,13 +22,17 @@ pub mod Nodes
 pub mod Offsets
 pub mod Parting
 pub mod Parts
+pub mod PatternTakes
 pub mod Pieces
 pub mod Ranges
 pub mod Spelled
+pub mod SpelledMeant
+pub mod SpelledNumbers
 pub mod Stacks
 pub mod Taking
 pub mod Telling
 pub mod Typed
+pub mod VariantMet
 pub mod Walk
 pub mod Widened
 pub mod Written

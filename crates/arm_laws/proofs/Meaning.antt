@@ -230,7 +230,7 @@ text_means : (t : List ℕ) (v : MValue) → some (text_ways t (Point false v)) 
 text_means t (Text u) = bare_some (text_eq t u)
 text_means t v = refl
 
-text_is : (w : MWitness) (t : List ℕ) → text_in w ≡ Some t → w ≡ TextOf t
+pub text_is : (w : MWitness) (t : List ℕ) → text_in w ≡ Some t → w ≡ TextOf t
 text_is (TextOf u) t e = let s : u ≡ t = cc in ap TextOf s
 text_is w t e = absurd (none e)
   where

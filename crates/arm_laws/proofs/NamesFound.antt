@@ -25,10 +25,10 @@ use Rattle.arm_laws.specs.TakesLaws.{NamesAreFound}
 
 -- ---- names
 
-same_name : (name : List ℕ) → bytes_eq name name ≡ true
+pub same_name : (name : List ℕ) → bytes_eq name name ≡ true
 same_name name = (bytes_eq-Decides name name).1 refl
 
-neither : (b c : Bool) → (b || c) ≡ false → (b ≡ false) × (c ≡ false)
+pub neither : (b c : Bool) → (b || c) ≡ false → (b ≡ false) × (c ≡ false)
 neither false c h = (refl, h)
 neither true c h = absurd cc
 
@@ -56,7 +56,7 @@ last_unlike : (name other : List ℕ) (before : List (List ℕ)) → is_among na
 last_unlike name other before h =
     (neither (bytes_eq name other) false (none_in (bytes_eq name) before (other ∷ []) h).1).0
 
-own_place : (before names : List (List ℕ)) (k : ℕ) (name : List ℕ) → repeats before names ≡ false →
+pub own_place : (before names : List (List ℕ)) (k : ℕ) (name : List ℕ) → repeats before names ≡ false →
     slice_get names k ≡ Some name → position (bytes_eq name) names ≡ Some k
 own_place before [] k name h e = absurd cc
 own_place before (n ∷ ns) zero name h e =

@@ -2,6 +2,7 @@ pub mod Completed
 pub mod FunctionLaws
 pub mod LiteralEnds
 pub mod Meant
+pub mod MeantTypes
 pub mod Named
 pub mod NamedOnce
 pub mod Near

@@ -1,5 +1,5 @@
 //! Laws without code on what the pattern that a text spells matches.
-ghost use Rattle.arm_laws.specs.TakesLaws.{NamesAreFound, OffsetsAreAlone};
+ghost use Rattle.arm_laws.specs.TakesLaws.{ArmPatternTakes, NamesAreFound, NumbersAreMeant, OffsetsAreAlone, SpelledIsMeant};
 
 /// Written patterns that differ only in their offsets match the same values.
 pub fn offsets_are_alone()
@@ -9,4 +9,19 @@ pub fn offsets_are_alone()
 /// The path by which an arm names a variant finds the variant.
 pub fn names_are_found()
     ensures { NamesAreFound }
+{}
+
+/// The pattern that an arm has for numbers is the one that is meant.
+pub fn numbers_are_meant()
+    ensures { NumbersAreMeant }
+{}
+
+/// The pattern that an arm has for a witness is the one that is meant.
+pub fn spelled_is_meant()
+    ensures { SpelledIsMeant }
+{}
+
+/// The pattern that an arm has for a witness matches just the values that the arm takes.
+pub fn arm_pattern_takes()
+    ensures { ArmPatternTakes }
 {}
