@@ -19,7 +19,6 @@ use Rattle.match_model.specs.Types.{CharType, IntType}
 use Rattle.match_model.specs.Numbers.{is_from, is_up_to, closed, kind_range, numbers_of, has_number}
 use Rattle.match_model.specs.Values.{Unseen}
 use Rattle.arm_laws.specs.Meant.{number_at}
-use Rattle.match_model.specs.Types.{MType, TupleType, PointType, SliceType, ArrayType, NamedType, MTypes, no_types, more_types, types_list}
 use Rattle.match_model.specs.Declarations.{MProgram, MItem, StructItem, EnumItem, OtherItem, declared, node_types}
 use Rattle.match_model.specs.Numbers.{MEnd, Free, At, MRange, in_range}
 use Rattle.match_model.specs.Constructors.{MShape, FixedShape, LongerShape, MCtor, PointCtor, FlagCtor, NumbersCtor}

@@ -104,8 +104,8 @@ given_struct all name form n [] i x e k h = absurd cc
 given_struct all name form n (y ∷ xs) zero x e k h =
     let same : y ≡ x = cc in
     let here : given_by all name n y.kind ≡ FoundStruct n =
-        ap (λ (z : ItemTree). given_by all name n z.kind) same ∙ ap (given_by all name n) k
-        ∙ rw (same_name name) refl in
+    ap (λ (z : ItemTree). given_by all name n z.kind) same ∙ ap (given_by all name n) k
+    ∙ rw (same_name name) refl in
     let z : n ≡ n + 0 = omega arith in
     ap (λ f. or_else f (given_from all name (n + 1) xs)) here ∙ ap FoundStruct z
 given_struct all name form n (y ∷ xs) (suc i) x e k h =
@@ -139,10 +139,10 @@ module _ (s : Setting) (once : IsNamedOnce s) where
       let functions = all_names function_names before in
       let values = all_names (value_names s.items) before in
       let t : is_named_twice s.items before x.kind ≡ false =
-          ap (passes (λ (item : ItemTree). is_named_twice s.items before item.kind)) (sym e) ∙ once.items i in
+      ap (passes (λ (item : ItemTree). is_named_twice s.items before item.kind)) (sym e) ∙ once.items i in
       let a = neither (repeats types (taken_names x.kind))
-          (some_among (function_names x.kind) functions || (some_among (function_names x.kind) values
-          || some_among (value_names s.items x.kind) functions)) t in
+      (some_among (function_names x.kind) functions || (some_among (function_names x.kind) values
+      || some_among (value_names s.items x.kind) functions)) t in
       (neither (is_among name types) (repeats (types ++ name ∷ []) []) (ap (repeats types) (sym k) ∙ a.0)).0
 
   -- the enum of the item
@@ -158,8 +158,8 @@ module _ (s : Setting) (once : IsNamedOnce s) where
       variant_number s.items (DeclaredItem i) v.name ≡ Some k
   variant_found i x name variants k v e kind there =
       let twice : has_variant_twice (Enum name variants) ≡ false =
-          ap has_variant_twice (sym kind) ∙ ap (passes (item_test rules.VariantTwice s.items)) (sym e)
-          ∙ once.variants i in
+      ap has_variant_twice (sym kind) ∙ ap (passes (item_test rules.VariantTwice s.items)) (sym e)
+      ∙ once.variants i in
       ap (λ (o : Option ItemTree). position (λ w. is_name v.name (Some w.0)) (map named_variant (imports.item_variants o))) e
       ∙ ap (λ z. position (λ w. is_name v.name (Some w.0)) (map named_variant (imports.kind_variants z))) kind
       ∙ position_map named_variant (λ w. is_name v.name (Some w.0)) variants
@@ -232,7 +232,7 @@ module _ (s : Setting) (once : IsNamedOnce s) where
       ≡ found_as (program s) owner k
   path_found (DeclaredItem i) arguments k v m h =
       let at : slice_get (program s).items i ≡ option_map (item_of (means s.items)) (slice_get s.items i) =
-          slice_get-map (item_of (means s.items)) s.items i in
+      slice_get-map (item_of (means s.items)) s.items i in
       ap (λ (o : Option MItem). path_finds s.items (path_of (declared_name o v.name))) at
       ∙ by_item i arguments k v (slice_get s.items i) refl
       (ap (λ (o : Option MItem). slice_get (map (filled_variant arguments) (item_variants o)) k) (sym at) ∙ h)

@@ -237,7 +237,7 @@ module _ (s : Setting) where
       resolved_shape s t 0 (unit_shape name) ≡ FormPat k (numbered 0 no_pats)
   unit_resolved t (PlainName n) found k e f u =
       let unit : is_unit_form (found_form s.items (name_finds s.items n)) ≡ true =
-          ap (λ x. is_unit_form (found_form s.items x)) e ∙ u n refl in
+      ap (λ x. is_unit_form (found_form s.items x)) e ∙ u n refl in
       ap (λ b. name_pattern b (found_if b (name_finds s.items n)) n) unit
       ∙ ap (λ x. FormPat (found_number x) (numbered 0 no_pats)) e ∙ ap (λ j. FormPat j (numbered 0 no_pats)) f
   unit_resolved t (VariantName owner n) found k e f u =

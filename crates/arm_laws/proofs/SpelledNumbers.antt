@@ -77,11 +77,11 @@ taken_one width kind r h e = by (begins_above_literals kind r.low) (ends_below_l
         range_taken kind r ≡ r
     by true b f g =
         let x : is_free r.high ≡ true =
-            ap (λ c. cond c (is_free r.high) (is_literal_end width (IntType kind) r.low)) (sym f) ∙ sides.0 in
+        ap (λ c. cond c (is_free r.high) (is_literal_end width (IntType kind) r.low)) (sym f) ∙ sides.0 in
         untrue (sym (open_above r.low r.high x) ∙ e)
     by false true f g =
         let x : is_free r.low ≡ true =
-            ap (λ c. cond c (is_free r.low) (is_literal_end width (IntType kind) r.high)) (sym g) ∙ sides.1 in
+        ap (λ c. cond c (is_free r.low) (is_literal_end width (IntType kind) r.high)) (sym g) ∙ sides.1 in
         untrue (sym (open_below r.low r.high x) ∙ e)
     by false false f g = rw (f, g) refl
 

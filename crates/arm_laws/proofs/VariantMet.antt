@@ -67,7 +67,9 @@ written_form : (names : Means) (arguments : MTypes) (variants : List VariantTree
 written_form names arguments [] k v h e = absurd cc
 written_form names arguments (w ∷ ws) zero v h e =
     let same : filled_variant arguments (variant_of names w) ≡ v = cc in (
-      w, refl, ap (λ (u : MVariant). u.form) same,
+      w,
+      refl,
+      ap (λ (u : MVariant). u.form) same,
       (neither (form_has_field_twice w.form) (list_any (λ (u : VariantTree). form_has_field_twice u.form) ws) e).0,
     )
 written_form names arguments (w ∷ ws) (suc k) v h e =
@@ -108,7 +110,7 @@ module _ (s : Setting) (once : IsNamedOnce s) where
   met_by_kind i x arguments (suc k) v e (Struct name form) kind h = absurd cc
   met_by_kind i x arguments k v e (Enum name variants) kind h =
       let w = written_form (means s.items) arguments variants k v h
-          (no_field_twice i x (Enum name variants) e kind) in
+      (no_field_twice i x (Enum name variants) e kind) in
       record {
         number = refl;
         types = λ j. refl;
@@ -143,7 +145,7 @@ module _ (s : Setting) (once : IsNamedOnce s) where
   no_brace arguments zero v h fields e = let same : UnitForm ≡ v.form = cc in cc
   no_brace arguments (suc zero) v h fields e =
       let same : filled_form arguments (TupleForm (parameter 0 ∷ [])) ≡ v.form
-          = cc in cc
+      = cc in cc
   no_brace arguments (suc (suc k)) v h fields e = cc
 
   no_brace_either : (arguments : MTypes) (k : ℕ) (v : MVariant) →
@@ -151,10 +153,10 @@ module _ (s : Setting) (once : IsNamedOnce s) where
       (fields : List MField) → v.form ≡ BraceForm fields → ⊥
   no_brace_either arguments zero v h fields e =
       let same : filled_form arguments (TupleForm (parameter 0 ∷ [])) ≡ v.form
-          = cc in cc
+      = cc in cc
   no_brace_either arguments (suc zero) v h fields e =
       let same : filled_form arguments (TupleForm (parameter 1 ∷ [])) ≡ v.form
-          = cc in cc
+      = cc in cc
   no_brace_either arguments (suc (suc k)) v h fields e = cc
 
   pub variant_met : (owner : MOwner) (arguments : MTypes) (k : ℕ) (v : MVariant) →
@@ -162,7 +164,7 @@ module _ (s : Setting) (once : IsNamedOnce s) where
       IsMet s owner arguments k v (found_as (program s) owner k)
   variant_met (DeclaredItem i) arguments k v h =
       let at : slice_get (program s).items i ≡ option_map (item_of (means s.items)) (slice_get s.items i) =
-          slice_get-map (item_of (means s.items)) s.items i in
+      slice_get-map (item_of (means s.items)) s.items i in
       subst (λ (o : Option MItem). IsMet s (DeclaredItem i) arguments k v (declared_as o i k)) (sym at)
       (met_by_item i arguments k v (slice_get s.items i) refl
       (ap (λ (o : Option MItem). slice_get (map (filled_variant arguments) (item_variants o)) k) (sym at) ∙ h))
