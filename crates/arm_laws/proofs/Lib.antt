@@ -6,6 +6,14 @@ pub mod BuiltIn
 pub mod Completing
 pub mod Differing
 pub mod Disjoint
+pub mod FineArms
+pub mod FineForms
+pub mod FineFunctions
+pub mod FineLeaves
+pub mod FineLists
+pub mod FineNames
+pub mod FineNumbers
+pub mod FineTests
 pub mod Fitting
 pub mod Follows
 pub mod Forms
@@ -32,6 +40,7 @@ pub mod Stacks
 pub mod Taking
 pub mod Telling
 pub mod Typed
+pub mod Unplaced
 pub mod VariantMet
 pub mod Walk
 pub mod Widened

@@ -1,4 +1,7 @@
 pub mod Completed
+pub mod Fine
+pub mod FineLaws
+pub mod Found
 pub mod FunctionLaws
 pub mod LiteralEnds
 pub mod Meant

@@ -1,4 +1,6 @@
 //! Laws without code: each function does nothing, and its contract is the law.
+ghost use Rattle.arm_laws.specs.Fine.{ArmPatternIsFine};
+ghost use Rattle.arm_laws.specs.FineLaws.{FineArmsBreakNone};
 ghost use Rattle.arm_laws.specs.FunctionLaws.{ArmsComplete, PatternsComplete, VerdictIsOrdered, WrittenIsNear};
 ghost use Rattle.arm_laws.specs.SpellingLaws.{ArmOfWitnessSpells, ArmTextSpells};
 ghost use Rattle.arm_laws.specs.TakingLaws.{EarlierTakesNone, FittingIsTaken, MeantIsTaken};
@@ -48,4 +50,14 @@ pub fn arms_complete()
 /// Arms of patterns that match just what is taken complete it.
 pub fn patterns_complete()
     ensures { PatternsComplete }
+{}
+
+/// The pattern for a witness breaks no rule.
+pub fn arm_pattern_is_fine()
+    ensures { ArmPatternIsFine }
+{}
+
+/// A function that breaks no rule breaks none with arms of patterns that break none.
+pub fn fine_arms_break_none()
+    ensures { FineArmsBreakNone }
 {}
