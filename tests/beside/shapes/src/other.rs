@@ -1,0 +1,4 @@
+pub enum Colour {
+    Black,
+    Blue { depth: u8, shade: String },
+}
