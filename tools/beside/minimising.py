@@ -43,7 +43,7 @@ def smaller_patterns(pattern):
             item = inner[one:other].strip()
             name = re.match(r"\w+: ", item)
             hole = (name.group() if name else "") + "_"
-            if item not in ("", "_", "..", hole) and "@" not in item[:-4] and (name or "{" not in pattern[:start][-2:]):
+            if item not in ("", "_", "..", hole) and (name or "{" not in pattern[:start][-2:]):
                 blank = " " if inner[one:other].startswith(" ") else ""
                 yield pattern[: start + one] + blank + hole + pattern[start + other :]
 
