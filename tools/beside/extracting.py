@@ -17,7 +17,7 @@ def build(registry):
     if shutil.which("cargo") is None:
         sys.exit("beside: cargo is not on the PATH")
     if not any(pathlib.Path(registry).glob("syn-1.*")):
-        sys.exit(f"beside: {registry} has no syn 1: apt-get install librust-syn-dev")
+        sys.exit(f"beside: {registry} has no syn 1, and tests/README.md tells how to install it")
     sources = ['source.crates-io.replace-with="system"', f"source.system.directory={json.dumps(registry)}"]
     command = ["cargo", "build", "--quiet", "--offline", "--release"]
     command += [word for source in sources for word in ("--config", source)]
@@ -40,4 +40,4 @@ def extract(tool, out, crate):
     if ran.returncode != 0:
         sys.exit(f"beside: {crate}: {ran.stderr.strip()}")
     counts = json.loads(ran.stdout)
-    return counts, sorted((out / counts["crate"]).glob("*.rs"))
+    return counts, [out / counts["crate"] / f"{number:05}.rs" for number in range(1, counts["written"] + 1)]

@@ -49,13 +49,18 @@ def write(page, outcomes):
     """Writes the tables of the page."""
     shown = [outcome for outcome in outcomes if outcome.counts["matches"]]
     rows = [cells(outcome) for outcome in shown]
-    total = ("all " + f"{len(shown)}", *(sum(row[at] for row in rows) for at in range(1, len(COLUMNS))))
+    total = (f"all {len(shown)}", *(sum(row[at] for row in rows) for at in range(1, len(COLUMNS))))
     left_out = totals(shown, lambda it: it.counts["left_out"])
-    refused = sum(it.refused for it in shown)
-    if refused:
-        left_out.append(("refused by both judges, since a type was found wrongly", refused))
+    left_out += counted("refused by both judges, since a type was found wrongly", [it.refused for it in shown])
+    explained = totals(shown, lambda it: it.explained)
+    explained += counted("nothing explains it", [it.unexplained for it in shown])
     text = page.read_text(encoding="utf-8")
     text = put(text, "crates", table(COLUMNS, [total, *rows]))
     text = put(text, "left out", table(("Why a match is left out", "Matches"), left_out))
-    text = put(text, "explained", table(("Why the judges differ", "Matches"), totals(shown, lambda it: it.explained)))
+    text = put(text, "explained", table(("Why the judges differ", "Matches"), explained))
     page.write_text(text, encoding="utf-8")
+
+
+def counted(words, numbers):
+    """The row of the sum of these numbers, if it is not 0."""
+    return [(words, sum(numbers))] if any(numbers) else []
