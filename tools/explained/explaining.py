@@ -18,9 +18,11 @@ MARK = b"\xef\xbb\xbf"
 
 
 def rule_texts():
-    """The texts of the rules by their numbers, as the program has them."""
+    """The title and the label of each rule by its number, as the program has them."""
     with open(RULES, encoding="utf-8") as file:
-        return {int(number): text for number, text in re.findall(r'^ *(\d+) => (?:\{\s*)?Some\(\s*"(.*)"', file.read(), re.M)}
+        source = file.read()
+    titles, labels = (dict(re.findall(r'^ *(\d+) => (?:\{\s*)?Some\(\s*"(.*)"', part, re.M)) for part in source.split("pub fn rule_label"))
+    return {int(number): (titles[number], labels[number]) for number in titles}
 
 
 def functions_with_arms(data):
@@ -108,12 +110,12 @@ def broken_at(data, refused):
 
 
 def findings_of(data, report):
-    """((from, to) or None, whether it breaks a build, first line, notes by a function of the text's name)."""
+    """((from, to) or None, whether it breaks a build, message, label, place of another range or None, notes)."""
     rules = rule_texts()
     if "functions" not in report:
         refused = report["refused"]
-        return [(refused_at(data, refused), True, f"error: the file breaks rule {refused['rule']} ({refused['name']})",
-                 lambda name: [f"note: {rules[refused['rule']]}"])]
+        return [(refused_at(data, refused), True, *rules[refused["rule"]], None,
+                 [f"note: the file breaks rule {refused['rule']} ({refused['name']})"])]
     found = []
     for entry, (head, _) in zip(report["functions"], functions_with_arms(data), strict=True):
         found.extend(function_findings(data, entry, head, rules))
@@ -126,30 +128,39 @@ def function_findings(data, entry, head, rules):
     function = entry["name"]
     if "refused" in entry:
         refused = entry["refused"]
-        return [(broken_at(data, refused), True, f"error: `{function}` breaks rule {refused['rule']} ({refused['name']})",
-                 lambda name: [f"note: {rules[refused['rule']]}"])]
+        return [(broken_at(data, refused), True, *rules[refused["rule"]], None,
+                 [f"note: `{function}` breaks rule {refused['rule']} ({refused['name']})"])]
     found = []
     if not entry["exhaustive"]:
-        found.append((head, True, f"error: the match of `{function}` is not exhaustive",
-                      lambda name: missing([witness["text"] for witness in entry["witnesses"]])))
+        texts = [witness["text"] for witness in entry["witnesses"]]
+        word = "" if not texts else "pattern " if len(texts) == 1 else "patterns "
+        found.append((head, True, f"non-exhaustive patterns: {cases(texts)} not covered", f"{word}{cases(texts)} not covered", None,
+                      missing(function, texts)))
     for dead in entry["unreachable"]:
         kind = "arm" if dead["whole"] else "alternative"
-        found.append((pattern_at(data, dead["at"], dead["whole"]), False, f"warning: unreachable {kind} in the match of `{function}`",
-                      lambda name: ["note: no value comes to it"]))
+        found.append((pattern_at(data, dead["at"], dead["whole"]), False, "unreachable pattern", "no value can reach this", None,
+                      [f"note: no value of the match of `{function}` reaches this {kind}"]))
     for overlap in entry["overlaps"]:
-        found.append((pattern_at(data, overlap["at"], False), False, f"warning: ranges overlap in the match of `{function}`",
-                      lambda name, overlap=overlap: [overlap_note(data, name, overlap)]))
+        found.append((pattern_at(data, overlap["at"], False), False, "multiple patterns overlap on their endpoints",
+                      f"this range overlaps on `{overlap['value']}`...", pattern_at(data, overlap["with"], False),
+                      ["note: you likely meant to write mutually exclusive ranges"]))
     return found
 
 
-def missing(texts):
-    notes = [f"missing: `{text}`" for text in texts[:WITNESSES]]
-    return notes + ([f"missing: and {len(texts) - WITNESSES} more"] if len(texts) > WITNESSES else [])
+def cases(texts):
+    """Cases as rustc lists them."""
+    names = [f"`{text}`" for text in texts[:3]]
+    if not names:
+        return "some values"
+    if len(texts) > 3:
+        return f"{', '.join(names)} and {len(texts) - 3} more"
+    return names[0] if len(names) == 1 else f"{', '.join(names[:-1])} and {names[-1]}"
 
 
-def overlap_note(data, name, overlap):
-    line, column = place_of(data, overlap["with"])
-    return f"note: both have {overlap['value']}; the other range is at {name}:{line}:{column}"
+def missing(function, texts):
+    notes = [f"help: add an arm for `{text}`" for text in texts[:WITNESSES]]
+    more = [f"help: and for {len(texts) - WITNESSES} more"] if len(texts) > WITNESSES else []
+    return notes + more + [f"note: the match of `{function}` leaves cases out: {len(texts)}"]
 
 
 def place_of(data, at):
@@ -182,7 +193,7 @@ def frame(data, name, at, to):
     right = shown(behind[:MOST]) + ("..." if len(behind) > MOST else "")
     pad = " " * len(str(line))
     carets = "^" * max(columns(shown(marked[:MOST])), 1)
-    return f"{pad}--> {name}:{line}:{column}\n{pad} |\n{line} | {left}{right}\n{pad} | {' ' * columns(left)}{carets}\n"
+    return f"{pad}--> {name}:{line}:{column}\n{pad} |\n{line} | {left}{right}\n{pad} | {' ' * columns(left)}{carets}"
 
 
 def explained(data, name, report):
@@ -191,8 +202,10 @@ def explained(data, name, report):
     if not found:
         return "", False
     text = ""
-    for span, _, first, notes in found:
-        text += first + "\n" + (f"--> {name}\n" if span is None else frame(data, name, *span))
-        text += "".join(f"  = {note}\n" for note in notes(name)) + "\n"
-    errors = sum(breaks for _, breaks, _, _ in found)
+    for span, breaks, message, label, other, notes in found:
+        text += f"{'error' if breaks else 'warning'}: {message}\n"
+        text += f"--> {name}\n  = note: {label}\n" if span is None else f"{frame(data, name, *span)} {label}\n"
+        text += f"note: ... with this range\n{frame(data, name, *other)}\n" if other else ""
+        text += "".join(f"  = {note}\n" for note in notes) + "\n"
+    errors = sum(finding[1] for finding in found)
     return f"{text}errors: {errors}, warnings: {len(found) - errors}\n", errors > 0

@@ -47,7 +47,7 @@ no_text name text mark [] none = refl
 no_text name text mark (f ∷ fs) none = absurd (omega arith)
 
 -- what is not shown is counted
-pub some_more : (n : ℕ) → 0 < n → codes "  = missing: and " ++ (decimal n ++ codes " more\n") ≡ more_note n
+pub some_more : (n : ℕ) → 0 < n → codes "  = help: and for " ++ (decimal n ++ codes " more\n") ≡ more_note n
 some_more zero some = absurd (omega arith)
 some_more (suc n) some = refl
 

@@ -5,8 +5,9 @@ use Rattle.std.proofs.lemmas.List.{length-map, get_or-map, drop_more, take_rest}
 use Rattle.std.proofs.lemmas.List.Sums.{count_by_more_yes, count_by_more_no}
 use Rattle.explain_text.specs.Sources.{mark_length}
 use Rattle.explain_text.specs.Findings.{FindingTree, finding_view, kind_view}
-use Rattle.explain_text.specs.Notes.{witness_note, more_note, missing_note}
-use Rattle.explain_text.specs.Texts.{IsInside, is_error, is_inside, error_count, whole_text, finding_text, counts_text, outcome_of_findings, Outcome, Told, NotInFile, Answers, AnswersBy}
+use Rattle.explain_text.specs.Messages.{is_error}
+use Rattle.explain_text.specs.Notes.{witness_note, more_note, count_note, missing_note}
+use Rattle.explain_text.specs.Texts.{IsInside, is_inside, error_count, whole_text, finding_text, counts_text, outcome_of_findings, Outcome, Told, NotInFile, Answers, AnswersBy}
 use Rattle.explain_text.specs.declared.findings.Finding.{Finding}
 use Rattle.explain_places.specs.declared.pieces.Piece.{Piece}
 use Rattle.explain_places.specs.declared.spans.Place.TheVariants as places
@@ -15,7 +16,7 @@ use Rattle.explain_text.specs.declared.explaining.Explained.{Explained}
 use Rattle.explain_text.specs.declared.explaining.Fault.{Fault}
 use Rattle.explain_text.specs.declared.explaining.Fault.TheVariants.{NoReport, NoPlace, NoMemory}
 use Rattle.explain_text.specs.declared.findings.Kind.TheVariants as kinds
-use Rattle.explain_lines.proofs.Adding.{two_added}
+use Rattle.explain_lines.proofs.Adding.{three_added}
 use Rattle.explain_text.proofs.Inside.{all_inside, some_text, first_mapped}
 
 -- what an index past the end would read
@@ -54,17 +55,19 @@ witness_more ws i d old new whole lt e h =
     ∙ append_assoc old (witness_note (get_or ws i d).now) (flat_map witness_note (map (λ w. w.now) (drop (i + 1) ws)))
     ∙ ap (λ (l : List (Bor (List ℕ))). old ++ flat_map witness_note (map (λ w. w.now) l)) (sym (drop_more ws i d lt)) ∙ h
 
--- the first witnesses, and how many there are more
-pub missing_added : (ws : List (Bor (List ℕ))) (shown : ℕ) (old mid new : List ℕ) → shown ≡ min 8 (length ws) →
-    mid ≡ old ++ flat_map witness_note (map (λ w. w.now) (take shown ws)) → new ≡ mid ++ more_note (length ws - shown) →
-    new ≡ old ++ missing_note (map (λ w. w.now) ws)
+-- the first witnesses, how many there are more, and how many there are
+pub missing_added : (function : List ℕ) (ws : List (Bor (List ℕ))) (shown : ℕ) (old mid near new : List ℕ) → shown ≡ min 8 (length ws) →
+    mid ≡ old ++ flat_map witness_note (map (λ w. w.now) (take shown ws)) → near ≡ mid ++ more_note (length ws - shown) → new ≡ near ++ count_note function (length ws) →
+    new ≡ old ++ missing_note function (map (λ w. w.now) ws)
 unfolding missing_note
-missing_added ws shown old mid new few e f =
-    let rest : length ws - shown ≡ length (map (λ (w : Bor (List ℕ)). w.now) ws) - 8 = omega (arith, few, length-map ws (λ (w : Bor (List ℕ)). w.now)) in
-    two_added old mid new _ _
+missing_added function ws shown old mid near new few e f g =
+    let long = length-map ws (λ (w : Bor (List ℕ)). w.now) in
+    let rest : length ws - shown ≡ length (map (λ (w : Bor (List ℕ)). w.now) ws) - 8 = omega (arith, few, long) in
+    three_added old mid near new _ _ _
     (e ∙ ap (λ n. old ++ flat_map witness_note (map (λ w. w.now) (take n ws))) few
     ∙ ap (λ l. old ++ flat_map witness_note l) (first_mapped (λ (w : Bor (List ℕ)). w.now) 8 ws))
     (f ∙ ap (λ n. mid ++ more_note n) rest)
+    (g ∙ ap (λ n. near ++ count_note function n) (sym long))
 
 -- all findings and the counts
 pub whole_added : (name text : List ℕ) (mark : ℕ) (fs : List Finding) (start mid new : List ℕ) (errors : ℕ) → 0 < length fs → start ≡ [] →

@@ -26,7 +26,7 @@ source_text line left right = decimal line ++ (codes " | " ++ (left ++ (right ++
 -- carets below what is marked, which stands behind what is shown before it; at least one
 unfoldable pub caret_text : List ℕ → List ℕ → List ℕ → List ℕ
 caret_text pad left marked =
-    pad ++ (codes " | " ++ (replicate (str_width false (chars left)) 32 ++ (replicate (max (str_width false (chars marked)) 1) 94 ++ codes "\n")))
+    pad ++ (codes " | " ++ (replicate (str_width false (chars left)) 32 ++ replicate (max (str_width false (chars marked)) 1) 94))
 
 -- the place of what stands from one byte to another, its line, and carets
 unfoldable pub frame_text : List ℕ → List ℕ → ℕ → ℕ → List ℕ

@@ -12,18 +12,11 @@ use Rattle.explain_text.specs.Findings.{KindTree, OfMissing, OfUnreached, OfOver
 use Rattle.explain_text.specs.Order.{in_file_order, start_of}
 use Rattle.explain_text.specs.Sources.{mark_length}
 use Rattle.explain_text.specs.Frames.{span_text}
-use Rattle.explain_text.specs.Notes.{heading_text, note_text, other_of}
+use Rattle.explain_text.specs.Messages.{is_error, label_text, level_text, message_text, quoted_text}
+use Rattle.explain_text.specs.Notes.{note_text, other_of, other_text}
 use Rattle.explain_text.specs.declared.explaining.Explained.{Explained}
 use Rattle.explain_text.specs.declared.explaining.Fault.{Fault}
 use Rattle.explain_text.specs.declared.explaining.Fault.TheVariants.{NoReport, NoPlace, NoMemory}
-
--- the finding breaks a build
-abbrev pub is_error : KindTree → Bool
-is_error (OfMissing function witnesses) = true
-is_error (OfUnreached function whole) = false
-is_error (OfOverlap function other value) = false
-is_error (OfRefused function rule name) = true
-is_error (OfFileRefused rule name) = true
 
 -- a place is in the file, or none is told
 abbrev pub is_found : List ℕ → Place → Bool
@@ -40,16 +33,21 @@ pub record IsInside (long mark : ℕ) (f : FindingTree) : Type 0 where
   pub place : start_of f.place - mark ≤ long
   pub other : start_of (other_of f.kind) - mark ≤ long
 
--- where a finding stands: its place and its line, or the file alone
-abbrev pub position_text : List ℕ → List ℕ → ℕ → Place → List ℕ
-position_text name text mark (There s) = span_text name text mark s
-position_text name text mark Nowhere = codes "--> " ++ (name ++ codes "\n")
-position_text name text mark Lost = codes "--> " ++ (name ++ codes "\n")
+-- where a finding stands, with what is said there: its place and its line, or the file alone
+abbrev pub position_text : List ℕ → List ℕ → ℕ → List ℕ → Place → List ℕ
+position_text name text mark label (There s) = span_text name text mark s ++ quoted_text (codes " ") label (codes "\n")
+position_text name text mark label Nowhere = codes "--> " ++ (name ++ quoted_text (codes "\n  = note: ") label (codes "\n"))
+position_text name text mark label Lost = codes "--> " ++ (name ++ quoted_text (codes "\n  = note: ") label (codes "\n"))
+
+-- the first line of a finding
+unfoldable pub heading_text : KindTree → List ℕ
+heading_text kind = level_text kind ++ (codes ": " ++ (message_text kind ++ codes "\n"))
 
 -- a finding
 unfoldable pub finding_text : List ℕ → List ℕ → ℕ → FindingTree → List ℕ
 finding_text name text mark f =
-    heading_text f.kind ++ (position_text name text mark f.place ++ (note_text name text mark f.kind ++ codes "\n"))
+    heading_text f.kind
+    ++ (position_text name text mark (label_text f.kind) f.place ++ (other_text name text mark (other_of f.kind) ++ (note_text f.kind ++ codes "\n")))
 
 -- how many findings break a build
 abbrev pub error_count : List FindingTree → ℕ

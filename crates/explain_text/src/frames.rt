@@ -110,7 +110,6 @@ fn push_caret(
     text.push_str(" | ")?;
     text.push_str(space.as_str())?;
     text.push_str(line.as_str())?;
-    text.push_str("\n")?;
     Ok(())
 }
 

@@ -11,6 +11,7 @@
 mod explaining;
 mod findings;
 mod frames;
+mod messages;
 mod notes;
 mod order;
 mod shown;

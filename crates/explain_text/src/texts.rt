@@ -3,26 +3,18 @@ ghost use Rattle.std.specs.Prelude.{◌≡◌, ◌++◌, ◌≤◌, ◌-◌, ◌
 ghost use Rattle.std.specs.List.{All, list_all};
 ghost use Rattle.explain_lines.specs.Steps.{IsSpotOf};
 ghost use Rattle.explain_text.specs.Findings.{finding_view, kind_view};
+ghost use Rattle.explain_text.specs.Messages.{is_error, label_text};
 ghost use Rattle.explain_text.specs.Notes.{other_of};
 ghost use Rattle.explain_text.specs.Order.{start_of};
-ghost use Rattle.explain_text.specs.Texts.{IsInside, is_error, is_found, is_inside, position_text, finding_text, error_count, counts_text, whole_text};
+ghost use Rattle.explain_text.specs.Texts.{IsInside, is_found, is_inside, position_text, heading_text, finding_text, error_count, counts_text, whole_text};
 
 use crate::findings::{Finding, Kind};
 use crate::frames::push_frame;
-use crate::notes::{push_heading, push_notes};
+use crate::messages::{is_error, level_text, push_label, push_message, push_quoted};
+use crate::notes::{other_of, push_notes, push_other};
 use crate::source::Source;
 use explain_places::Place;
 use std::alloc::{AllocError, Global};
-
-// Whether a finding breaks a build.
-pub(crate) fn is_error(kind: &Kind<'_, '_>) -> bool
-    ensures { result ≡ is_error (kind_view kind.now) }
-{
-    match kind {
-        Kind::Missing { .. } | Kind::Refused { .. } | Kind::FileRefused { .. } => true,
-        Kind::Unreached { .. } | Kind::Overlap { .. } => false,
-    }
-}
 
 // Whether a place is in the file, or none is told.
 fn is_found(file: &[u8], place: Place) -> bool
@@ -32,16 +24,6 @@ fn is_found(file: &[u8], place: Place) -> bool
         Place::There(span) => span.from <= file.len(),
         Place::Nowhere => true,
         Place::Lost => false,
-    }
-}
-
-// The place of the other range, and none where there is no other.
-fn other_of(kind: &Kind<'_, '_>) -> Place
-    ensures { result ≡ other_of (kind_view kind.now) }
-{
-    match kind {
-        Kind::Overlap { other, .. } => *other,
-        _ => Place::Nowhere,
     }
 }
 
@@ -64,27 +46,52 @@ pub(crate) fn are_inside(file: &[u8], findings: &[Finding<'_, '_>]) -> bool
     true
 }
 
-// Adds where a finding stands.
+// Adds where a finding stands, with what is said there.
 fn push_position(
     alloc: Global,
     text: &mut String,
     source: &Source<'_>,
+    label: &str,
     place: Place,
 ) -> Result<(), AllocError>
     requires right { All (IsSpotOf source.now.text.now) source.now.spots.now }
     requires within { start_of place - source.now.mark ≤ length source.now.text.now }
     ensures { OnOk result (string_bytes text.new ≡ string_bytes text.old
-        ++ position_text source.now.name.now source.now.text.now source.now.mark place) }
+        ++ position_text source.now.name.now source.now.text.now source.now.mark label.now place) }
 {
     match place {
-        Place::There(span) => push_frame(alloc, text, source, &span),
+        Place::There(span) => {
+            push_frame(alloc, text, source, &span)?;
+            push_quoted(text, " ", label, "\n")?;
+            Ok(())
+        }
         Place::Nowhere | Place::Lost => {
             text.push_str("--> ")?;
             text.push_str(source.name)?;
-            text.push_str("\n")?;
+            push_quoted(text, "\n  = note: ", label, "\n")?;
             Ok(())
         }
     }
+}
+
+// Adds the first line of a finding.
+fn push_heading(text: &mut String, kind: &Kind<'_, '_>) -> Result<(), AllocError>
+    ensures { OnOk result (string_bytes text.new ≡ string_bytes text.old ++ heading_text (kind_view kind.now)) }
+{
+    text.push_str(level_text(kind))?;
+    text.push_str(": ")?;
+    push_message(text, kind)?;
+    text.push_str("\n")?;
+    Ok(())
+}
+
+// What is said at the place of a finding.
+fn label_text(alloc: Global, kind: &Kind<'_, '_>) -> Result<String, AllocError>
+    ensures { IfOk result (λ label. string_bytes label ≡ label_text (kind_view kind.now)) }
+{
+    let mut label = String::new(alloc);
+    push_label(&mut label, kind)?;
+    Ok(label)
 }
 
 // Adds a finding.
@@ -99,9 +106,11 @@ fn push_finding(
     ensures { OnOk result (string_bytes text.new ≡ string_bytes text.old
         ++ finding_text source.now.name.now source.now.text.now source.now.mark (finding_view finding.now)) }
 {
+    let label = label_text(alloc, &finding.kind)?;
     push_heading(text, &finding.kind)?;
-    push_position(alloc, text, source, finding.place)?;
-    push_notes(text, source, &finding.kind)?;
+    push_position(alloc, text, source, label.as_str(), finding.place)?;
+    push_other(alloc, text, source, other_of(&finding.kind))?;
+    push_notes(text, &finding.kind)?;
     text.push_str("\n")?;
     Ok(())
 }

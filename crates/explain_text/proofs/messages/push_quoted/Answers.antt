@@ -1,6 +1,6 @@
-use Rattle.explain_text.specs.Notes.{quoted_text}
+use Rattle.explain_text.specs.Messages.{quoted_text}
 use Rattle.explain_lines.proofs.Adding.{three_added}
-use Rattle.explain_text.proofs.notes.push_named.Goals as goal
+use Rattle.explain_text.proofs.messages.push_quoted.Goals as goal
 
 pub returns : goal.returns
 unfolding quoted_text

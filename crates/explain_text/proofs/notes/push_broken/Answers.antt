@@ -1,8 +1,0 @@
-use Rattle.explain_text.specs.Notes.{rule_heading}
-use Rattle.explain_lines.proofs.Adding.{three_added}
-use Rattle.explain_text.proofs.notes.push_broken.Goals as goal
-
-pub returns : goal.returns
-unfolding rule_heading
-returns c =
-    three_added _ _ _ _ _ _ _ c.in_ok-push_str.ensures.bytes c.in_ok-write.ensures.bytes c.in_ok-push_named.ensures
