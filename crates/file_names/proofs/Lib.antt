@@ -1,0 +1,9 @@
+pub mod Declared
+pub mod Functions
+pub mod Kept
+pub mod Lexed
+pub mod Patterns
+pub mod Pieces
+pub mod Programs
+pub mod Tokens
+pub mod Types
