@@ -2,7 +2,6 @@ pub mod Apart
 pub mod ArmChars
 pub mod Armed
 pub mod Bases
-pub mod BuiltIn
 pub mod Completing
 pub mod Differing
 pub mod Disjoint

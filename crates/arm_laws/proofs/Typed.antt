@@ -38,11 +38,12 @@ use Rattle.witness_names.specs.Named.{node_tree, point_tree}
 use Rattle.witness_names.specs.Named.{row_tree, types_there, named_by, parts_by, items_by, numbers_tree}
 use Rattle.arm_laws.specs.LiteralEnds.{is_literal_end, has_literal_ends, literal_ends, parts_literal}
 use Rattle.arm_laws.specs.LiteralEnds.{items_literal}
-use Rattle.arm_laws.specs.Named.{AreFieldNames, IsNamedForm, IsNamedVariant, AreNamedVariants, IsNamedItem, AreNames}
+use Rattle.file_names.specs.Named.{AreFieldNames, IsNamedForm, AreNames}
+use Rattle.file_names.proofs.BuiltIn.{option_name, result_name}
+use Rattle.file_names.proofs.Variants.{IsOwnerNamed, IsTypeNamed, type_named, variant_named}
 use Rattle.arm_laws.specs.Patterns.{range_written}
 use Rattle.arm_laws.specs.Spellable.{IsShortEnd, IsScalarEnd, IsSpellable, AreSpellable, AreSpellableFields}
 use Rattle.arm_laws.specs.Takes.{range_taken, greatest_of}
-use Rattle.arm_laws.proofs.BuiltIn.{option_named, result_named, option_name, result_name}
 
 -- ---- numbers
 
@@ -222,63 +223,28 @@ mutual
 
 -- ---- names
 
-no_variant : (args : MTypes) (k : ℕ) (v : MVariant) → slice_get (map (filled_variant args) []) k ≡ Some v → ⊥
-no_variant args k v e = cc
-
-found : (vs : List MVariant) (k : ℕ) (v : MVariant) → AreNamedVariants vs → slice_get vs k ≡ Some v → IsNamedVariant v
-found [] k v a e = absurd cc
-found (u ∷ vs) zero v a e = let same : u ≡ v = cc in subst IsNamedVariant same a.0
-found (u ∷ vs) (suc k) v a e = found vs k v a.1 e
-
-fields_filled : (args : MTypes) (fs : List MField) → AreFieldNames fs → AreFieldNames (map (filled_field args) fs)
-fields_filled args [] a = tt
-fields_filled args (f ∷ fs) a = (a.0, fields_filled args fs a.1)
-
-form_filled : (args : MTypes) (form : MForm) → IsNamedForm form → IsNamedForm (filled_form args form)
-form_filled args UnitForm a = tt
-form_filled args (TupleForm types) a = tt
-form_filled args (BraceForm fs) a = fields_filled args fs a
-
 -- a variant of a named type has a name that is one
 abbrev IsVariantOf : MProgram → MType → MVariant → Type 0
 IsVariantOf program t v = IsFormName (name_by Whole program t v.name) × IsNamedForm v.form
 
-filled_found : (args : MTypes) (vs : List MVariant) (k : ℕ) (v : MVariant) → AreNamedVariants vs
-    → slice_get (map (filled_variant args) vs) k ≡ Some v → IsName v.name × IsNamedForm v.form
-filled_found args vs k v a e = by_case (slice_get vs k) refl (sym (variant_filled args vs k) ∙ e)
-  where
-    by_case : (o : Option MVariant) → slice_get vs k ≡ o → option_map (filled_variant args) o ≡ Some v
-        → IsName v.name × IsNamedForm v.form
-    by_case None f g = absurd cc
-    by_case (Some u) f g =
-        let same : filled_variant args u ≡ v = cc in
-        let b = found vs k u a f in
-        subst (λ (x : MVariant). IsName x.name × IsNamedForm x.form) same (b.0, form_filled args u.form b.1)
+declared_formed : (o : Option MItem) (name : List ℕ) → IsOwnerNamed o → IsName name → IsFormName (declared_name o name)
+declared_formed None name o n = n
+declared_formed (Some OtherItem) name o n = n
+declared_formed (Some (StructItem u)) name o n = n
+declared_formed (Some (EnumItem owner marked vs)) name o n = (o, n)
 
-declared_found : (program : MProgram) (i : ℕ) (args : MTypes) (k : ℕ) (v : MVariant) (o : Option MItem)
-    → slice_get program.items i ≡ o → ((item : MItem) → o ≡ Some item → IsNamedItem item)
-    → slice_get (map (filled_variant args) (item_variants o)) k ≡ Some v
-    → IsFormName (declared_name o v.name) × IsNamedForm v.form
-declared_found program i args k v None e names f = absurd (no_variant args k v f)
-declared_found program i args k v (Some OtherItem) e names f = absurd (no_variant args k v f)
-declared_found program i args k v (Some (StructItem u)) e names f =
-    filled_found args (u ∷ []) k v (names (StructItem u) refl, tt) f
-declared_found program i args k v (Some (EnumItem name marked vs)) e names f =
-    let a = names (EnumItem name marked vs) refl in
-    let b = filled_found args vs k v a.1 f in
-    ((a.0, b.0), b.1)
+path_formed : (program : MProgram) (t : MType) (name : List ℕ) → IsTypeNamed program t → IsName name
+    → IsFormName (name_by Whole program t name)
+path_formed program (NamedType (DeclaredItem i) args) name o n = declared_formed (slice_get program.items i) name o n
+path_formed program (NamedType OptionOwner args) name o n = (option_name, n)
+path_formed program (NamedType ResultOwner args) name o n = (result_name, n)
+path_formed program _ name o n = n
 
-variant_named : (program : MProgram) (t : MType) (k : ℕ) (v : MVariant) → AreNames program
+variant_formed : (program : MProgram) (t : MType) (k : ℕ) (v : MVariant) → AreNames program
     → slice_get (variants_of program t) k ≡ Some v → IsVariantOf program t v
-variant_named program (NamedType (DeclaredItem i) args) k v names e =
-    declared_found program i args k v (slice_get program.items i) refl (names i) e
-variant_named program (NamedType OptionOwner args) k v names e =
-    let b = filled_found args (item_variants (Some option_item)) k v option_named e in
-    ((option_name, b.0), b.1)
-variant_named program (NamedType ResultOwner args) k v names e =
-    let b = filled_found args (item_variants (Some result_item)) k v result_named e in
-    ((result_name, b.0), b.1)
-variant_named program _ k v names e = absurd cc
+variant_formed program t k v names e =
+    let a = variant_named program t k v names e in
+    (path_formed program t v.name (type_named program t names) a.0, a.1)
 
 -- ---- trees
 
@@ -310,7 +276,7 @@ variant_spellable program t k ws names s = by_case (slice_get (variants_of progr
         → IsSpellable (variant_tree Whole program t o ws)
     by_case None e = tt
     by_case (Some v) e =
-        let b = variant_named program t k v names e in
+        let b = variant_formed program t k v names e in
         form_spellable (name_by Whole program t v.name) v.form ws b.0 b.1 s
 
 node_spellable : (program : MProgram) (t : MType) (k : ℕ) (ws : List WitnessTree) → AreNames program

@@ -11,7 +11,7 @@ use Rattle.witness_text.specs.Texts.{arm_text}
 use Rattle.arm_maker.specs.Arms.{arm_tree}
 use Rattle.arm_maker.specs.Sizes.{arm_fits, most_levels}
 use Rattle.arm_laws.specs.LiteralEnds.{literal_ends}
-use Rattle.arm_laws.specs.Named.{AreNames}
+use Rattle.file_names.specs.Named.{AreNames}
 use Rattle.arm_laws.specs.Patterns.{arm_shape, unplaced, without_places}
 use Rattle.arm_laws.specs.Spellable.{IsSpellable, is_referred}
 use Rattle.arm_laws.specs.Spelled.{SpellsAlone}

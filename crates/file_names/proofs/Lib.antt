@@ -1,3 +1,4 @@
+pub mod BuiltIn
 pub mod Declared
 pub mod Functions
 pub mod Kept
@@ -7,3 +8,4 @@ pub mod Pieces
 pub mod Programs
 pub mod Tokens
 pub mod Types
+pub mod Variants

@@ -1,10 +1,8 @@
 -- Each name token of a text has a name, also where `&&` and `>>` count as two marks.
-use Rattle.std.proofs.Common.{◌≡◌, ℕ, List, [], ◌∷◌, ◌++◌, Option, Some, None, subst}
+use Rattle.std.proofs.Common.{◌≡◌, ℕ, ◌+◌, List, [], ◌∷◌, ◌++◌, Option, Some, None, subst, chars}
 use Rattle.decl_lexer.specs.declared.marks.Mark.{Mark}
-use Rattle.decl_lexer.specs.Begins.{Begins}
 use Rattle.decl_lexer.specs.Lexing.{Placed, width, First, End, Found, Broken, Finds, nothing, takes, fails, skips}
 use Rattle.decl_lexer.specs.Lexing.{Lexes, ends, goes_on, without_mark, mark_width}
-use Rattle.std.proofs.Common.{chars}
 use Rattle.decl_syntax.specs.Units.{units, halves, doubled_mark}
 use Rattle.match_model.specs.Lists.{Every}
 use Rattle.file_names.specs.Items.{IsNamed, IsTokenNamed}

@@ -56,10 +56,10 @@ number_again program sure (NamedType o ts) n h = absurd cc
 
 -- texts
 
-scalar_is : (c : ℕ) → is_scalar c ≡ true → scalar c ≡ true
+pub scalar_is : (c : ℕ) → is_scalar c ≡ true → scalar c ≡ true
 scalar_is c h = grind (arith, nat_tests, h)
 
-scalars_are : (cs : List ℕ) → list_all is_scalar cs ≡ true → scalars cs ≡ true
+pub scalars_are : (cs : List ℕ) → list_all is_scalar cs ≡ true → scalars cs ≡ true
 scalars_are [] h = refl
 scalars_are (c ∷ cs) h =
     let here = both (is_scalar c) (list_all is_scalar cs) h in

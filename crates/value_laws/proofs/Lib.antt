@@ -3,3 +3,4 @@ pub mod Ordered
 pub mod Leaves
 pub mod Paths
 pub mod Again
+pub mod Canonical

@@ -1,5 +1,5 @@
 //! Laws without code: each function does nothing, and its contract is the law.
-ghost use Rattle.value_laws.specs.Laws.{MeansAgain, ReadsBackAsValue};
+ghost use Rattle.value_laws.specs.Laws.{FileReadsBack, MeansAgain, ReadsBackAsValue};
 
 /// A value of a type that is written with its names is read as itself.
 pub fn written_value_means_again()
@@ -10,4 +10,9 @@ pub fn written_value_means_again()
 /// identifiers.
 pub fn written_value_reads_back()
     ensures { ReadsBackAsValue }
+{}
+
+/// The text of a value of a file's type is read as that value: where it has at most 64 levels and no number above 128 bits.
+pub fn file_value_reads_back()
+    ensures { FileReadsBack }
 {}

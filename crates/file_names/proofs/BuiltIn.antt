@@ -4,7 +4,7 @@ use Rattle.std.specs.Prelude.{Some, is_some}
 use Rattle.std.specs.Str.{IsAscii, bytes_eq}
 use Rattle.std.specs.List.{list_all}
 use Rattle.std.proofs.lemmas.List.{get_or_default}
-use Rattle.std.proofs.lemmas.Str.{chars-IsAscii}
+use Rattle.std.proofs.lemmas.Str.{chars-IsAscii, IsUtf8-from_ascii}
 use Rattle.unicode_ident.proofs.Computing.{unicode_ident}
 use Rattle.unicode_ident.specs.Ident.{is_xid_continue}
 use Rattle.unicode_normalization.specs.Forms.{Nfc}
@@ -15,8 +15,7 @@ use Rattle.decl_lexer.specs.Words.{word_of}
 use Rattle.match_model.specs.Declarations.{option_item, result_item, item_variants}
 use Rattle.value_syntax.specs.Canonical.{IsName}
 use Rattle.value_syntax.proofs.Encoded.{all_ascii, ascii_bytes}
-use Rattle.arm_laws.specs.Named.{AreNamedVariants}
-use Rattle.arm_laws.proofs.ArmChars.{itself}
+use Rattle.file_names.specs.Named.{AreNamedVariants}
 
 all_low : (bs : List ℕ) → IsAscii bs → All (λ c. c < 128) bs
 all_low bs h k d lt = rw (get_or_default bs k d 0 lt) (h k)
@@ -26,7 +25,7 @@ ascii_name : (bs : List ℕ) → all_ascii bs ≡ true → first_passes is_name_
     → list_all is_xid_continue bs ≡ true → bytes_eq bs (codes "_") ≡ false → is_some (word_of bs) ≡ false → IsName bs
 ascii_name bs a s c u w =
     let same : chars bs ≡ bs = chars-IsAscii bs (ascii_bytes bs a) in record {
-      utf8 = (bs, itself bs a);
+      utf8 = IsUtf8-from_ascii bs (ascii_bytes bs a);
       starts = rw same s;
       continues = rw same c;
       composed = rw same (normalize-ascii Nfc bs (all_low bs (ascii_bytes bs a)));
