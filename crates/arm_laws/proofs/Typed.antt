@@ -1,7 +1,7 @@
 -- A witness of a type with its names has a text that is a pattern.
 use Rattle.std.proofs.Common.{◌≡◌, ℕ, ℤ, pos, negsuc, zero, suc, ◌-◌, ◌<◌, ◌^◌, Bool, true, false, ◌&&◌, ◌||◌, cond}
-use Rattle.std.proofs.Common.{List, [], ◌∷◌, Option, Some, None, refl, sym, subst, ◌∙◌, arith, length}
-use Rattle.std.specs.Prelude.{map, slice_get, nat_eq, nat_le, int_le, option_map}
+use Rattle.std.proofs.Common.{List, [], ◌∷◌, Option, Some, None, refl, arith, length}
+use Rattle.std.specs.Prelude.{slice_get, nat_eq, nat_le, int_le}
 use Rattle.std.specs.List.{list_all}
 use Rattle.std.proofs.lemmas.Bool.Decides.{nat_tests}
 use lib.Utf8.{scalar, scalars}
@@ -12,32 +12,27 @@ use Rattle.match_model.specs.declared.IntKind.TheVariants.{U8, U16, U32, U64, U1
 use Rattle.match_model.specs.declared.IntKind.TheVariants.{ISize}
 use Rattle.match_model.specs.Constructors.{MSet, TextSet, TextCtor, PointCtor, RowCtor, belongs, is_free}
 use Rattle.match_model.specs.Contexts.{Context}
-use Rattle.match_model.specs.Declarations.{MField, MForm, UnitForm, TupleForm, BraceForm, MVariant, MItem, StructItem}
-use Rattle.match_model.specs.Declarations.{EnumItem, OtherItem, MProgram, item_variants, filled_field, filled_form}
-use Rattle.match_model.specs.Declarations.{filled_variant, option_item, result_item, variants_of, node_types}
+use Rattle.match_model.specs.Declarations.{MField, MForm, UnitForm, TupleForm, BraceForm, MVariant, MItem}
+use Rattle.match_model.specs.Declarations.{StructItem, EnumItem, OtherItem, MProgram, variants_of, node_types}
 use Rattle.match_model.specs.Numbers.{MEnd, Free, At, MRange, in_range, has_one_number, closed}
 use Rattle.match_model.specs.RustTypes.{rust_context, inner_type}
 use Rattle.match_model.specs.OfType.{node_ctor, has_ctor, witness_is_of, witnesses_are_of}
 use Rattle.match_model.specs.Texts.{is_scalar}
-use Rattle.match_model.specs.Types.{DeclaredItem, OptionOwner, ResultOwner, MType, CharType}
-use Rattle.match_model.specs.Types.{IntType, TupleType, PointType, SliceType, ArrayType, NamedType}
-use Rattle.match_model.specs.Types.{MTypes}
-use Rattle.match_model.specs.Witness.{MWitness, AnyOf, LaterOf, FlagOf, SpanOf, TextOf, ElseOf, NodeOf, PointOf, RowOf}
-use Rattle.match_model.specs.Witness.{MWitnesses, no_witnesses, more_witnesses, witnesses_list, slice_shape}
+use Rattle.match_model.specs.Types.{DeclaredItem, OptionOwner, ResultOwner, MType, CharType, IntType, TupleType}
+use Rattle.match_model.specs.Types.{PointType, SliceType, ArrayType, NamedType}
+use Rattle.match_model.specs.Witness.{MWitness, AnyOf, LaterOf, FlagOf, SpanOf, TextOf, ElseOf, NodeOf, PointOf}
+use Rattle.match_model.specs.Witness.{RowOf, MWitnesses, no_witnesses, more_witnesses, witnesses_list, slice_shape}
 use Rattle.match_model.specs.Witness.{back_is_allowed}
-use Rattle.match_model.proofs.Basics.{variant_filled}
 use Rattle.number_kinds.specs.Literals.{is_literal_of}
 use Rattle.value_syntax.specs.Canonical.{IsName, IsFormName}
 use Rattle.value_syntax.proofs.LexedNames.{and_left, and_right}
 use Rattle.witness_text.specs.Ranges.{begins_above_literals, ends_below_literals}
-use Rattle.witness_text.specs.Trees.{NameTree, WitnessTree}
-use Rattle.witness_text.specs.Trees.{trees_of, fields_of}
+use Rattle.witness_text.specs.Trees.{NameTree, WitnessTree, trees_of, fields_of}
 use Rattle.witness_names.specs.declared.paths.Paths.TheVariants.{Whole}
 use Rattle.witness_names.specs.Named.{char_end, declared_name, name_by, named_fields, form_tree, variant_tree}
-use Rattle.witness_names.specs.Named.{node_tree, point_tree}
-use Rattle.witness_names.specs.Named.{row_tree, types_there, named_by, parts_by, items_by, numbers_tree}
-use Rattle.arm_laws.specs.LiteralEnds.{is_literal_end, has_literal_ends, literal_ends, parts_literal}
-use Rattle.arm_laws.specs.LiteralEnds.{items_literal}
+use Rattle.witness_names.specs.Named.{node_tree, point_tree, row_tree, types_there, named_by, parts_by, items_by}
+use Rattle.witness_names.specs.Named.{numbers_tree}
+use Rattle.arm_laws.specs.LiteralEnds.{is_literal_end, has_literal_ends, literal_ends, parts_literal, items_literal}
 use Rattle.file_names.specs.Named.{AreFieldNames, IsNamedForm, AreNames}
 use Rattle.file_names.proofs.BuiltIn.{option_name, result_name}
 use Rattle.file_names.proofs.Variants.{IsOwnerNamed, IsTypeNamed, type_named, variant_named}

@@ -1,11 +1,11 @@
 -- The names of the items that tokens spell are those of name tokens.
-use Rattle.std.proofs.Common.{◌≡◌, ℕ, Bool, true, false, List, [], ◌∷◌, Option, Some, None, subst}
+use Rattle.std.proofs.Common.{ℕ, Bool, true, false, List, [], ◌∷◌, Option, subst}
 use Rattle.decl_lexer.specs.declared.marks.Mark.TheVariants as marks
 use Rattle.decl_lexer.specs.declared.words.Word.{Word}
 use Rattle.decl_lexer.specs.declared.words.Word.TheVariants as words
 use Rattle.decl_lexer.specs.Lexing.{Placed}
 use Rattle.decl_syntax.specs.Units.{units}
-use Rattle.decl_syntax.specs.Items.{FieldItem, ItemTree}
+use Rattle.decl_syntax.specs.Items.{FieldItem}
 use Rattle.decl_parser.specs.declared.runs.Until.TheVariants as until
 use Rattle.decl_parser.specs.DeclarationGrammar.{SpellsLifetime, a_lifetime, SpellsParam, free, bounded}
 use Rattle.decl_parser.specs.DeclarationGrammar.{SpellsParams, no_params, params, SpellsVisibility, private, public}
@@ -21,8 +21,8 @@ use Rattle.decl_parser.specs.ItemGrammar.{SpellsKind, an_enum, a_struct, an_impo
 use Rattle.decl_parser.specs.ItemGrammar.{SpellsItems}
 use Rattle.match_model.specs.Lists.{Every}
 use Rattle.value_syntax.specs.Canonical.{IsName}
-use Rattle.file_names.specs.Items.{IsNamed, IsGiven, IsFieldNamed, IsFormNamed, IsVariantNamed, AreImportsNamed}
-use Rattle.file_names.specs.Items.{IsKindNamed, IsItemNamed}
+use Rattle.file_names.specs.Items.{IsNamed, IsGiven, IsFormNamed, IsVariantNamed, AreImportsNamed, IsKindNamed}
+use Rattle.file_names.specs.Items.{IsItemNamed}
 use Rattle.file_names.specs.Laws.{ItemNamesAreNames}
 use Rattle.file_names.proofs.Functions.{function_kept}
 use Rattle.file_names.proofs.Kept.{AreNamed, Kept, Gives, list_kept, list_gives, separated_kept, attributes_kept}

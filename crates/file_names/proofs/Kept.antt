@@ -1,12 +1,11 @@
 -- What holds of tokens holds of those behind what they begin with: lists, runs and attributes.
-use Rattle.std.proofs.Common.{◌≡◌, Bool, List, [], ◌∷◌, ◌++◌}
+use Rattle.std.proofs.Common.{Bool, List, [], ◌∷◌, ◌++◌}
 use Rattle.decl_lexer.specs.declared.marks.Mark.{Mark}
 use Rattle.decl_lexer.specs.declared.marks.Mark.TheVariants as marks
 use Rattle.decl_lexer.specs.Begins.{Lexeme}
 use Rattle.decl_lexer.specs.Lexing.{Placed}
 use Rattle.decl_syntax.specs.Grammar.{Spelling, CommaList, closed, last, next, Separated, only, further, Maybe}
 use Rattle.decl_syntax.specs.Grammar.{missing, there, Many, no_more, one_more}
-use Rattle.decl_syntax.specs.Patterns.{AttrTree}
 use Rattle.decl_syntax.specs.Runs.{SpellsAttribute, attribute, SpellsAttributes}
 use Rattle.decl_parser.specs.declared.runs.Until.{Until}
 use Rattle.decl_parser.specs.RunGrammar.{SpellsRun, spelled}

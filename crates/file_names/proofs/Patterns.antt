@@ -1,20 +1,19 @@
 -- What holds of tokens holds of those behind a pattern.
-use Rattle.std.proofs.Common.{ℕ, zero, suc, List, [], ◌∷◌}
+use Rattle.std.proofs.Common.{ℕ, zero, suc, [], ◌∷◌}
 use Rattle.decl_lexer.specs.declared.marks.Mark.TheVariants as marks
 use Rattle.decl_lexer.specs.declared.words.Word.TheVariants as words
 use Rattle.decl_lexer.specs.Begins.{Lexeme}
-use Rattle.decl_lexer.specs.Lexing.{Placed}
-use Rattle.decl_syntax.specs.EndGrammar.{OneToken, one_token, Segment, IsSegment, SpellsPath, SpellsEnd, plain_end}
+use Rattle.decl_syntax.specs.EndGrammar.{OneToken, one_token, IsSegment, SpellsPath, SpellsEnd, plain_end}
 use Rattle.decl_syntax.specs.EndGrammar.{negative_end, path_end, SpellsRange, both_ends, low_end, high_end}
 use Rattle.decl_syntax.specs.FieldNames.{SpellsLabel, label}
-use Rattle.decl_syntax.specs.Grammar.{Spelling, CommaList, Separated, Many}
-use Rattle.decl_syntax.specs.PatternGrammar.{Binding, SpellsBinding, binding, AltForm, a_range, a_plain}
-use Rattle.decl_syntax.specs.PatternGrammar.{PatternForm, one, several, ItemForm, a_rest, a_pattern}
-use Rattle.decl_syntax.specs.PatternGrammar.{SpellsBoundRest, bound_rest, SliceItemForm, a_bound_rest, an_item}
-use Rattle.decl_syntax.specs.PatternGrammar.{FieldForm, labelled, shorthand, FieldList, all_closed, all_dotted}
-use Rattle.decl_syntax.specs.PatternGrammar.{last_field, next_field, PlainForm, wild, literal, negative, bound_as}
-use Rattle.decl_syntax.specs.PatternGrammar.{bound, path, tuple_form, brace_form, unit, only_rest, group, tuple}
-use Rattle.decl_syntax.specs.PatternGrammar.{slice, point, SpellsPlain, SpellsPattern}
+use Rattle.decl_syntax.specs.Grammar.{Spelling}
+use Rattle.decl_syntax.specs.PatternGrammar.{SpellsBinding, binding, AltForm, a_range, a_plain, PatternForm, one}
+use Rattle.decl_syntax.specs.PatternGrammar.{several, ItemForm, a_rest, a_pattern, SpellsBoundRest, bound_rest}
+use Rattle.decl_syntax.specs.PatternGrammar.{SliceItemForm, a_bound_rest, an_item, FieldForm, labelled, shorthand}
+use Rattle.decl_syntax.specs.PatternGrammar.{FieldList, all_closed, all_dotted, last_field, next_field, PlainForm}
+use Rattle.decl_syntax.specs.PatternGrammar.{wild, literal, negative, bound_as, bound, path, tuple_form, brace_form}
+use Rattle.decl_syntax.specs.PatternGrammar.{unit, only_rest, group, tuple, slice, point, SpellsPlain}
+use Rattle.decl_syntax.specs.PatternGrammar.{SpellsPattern}
 use Rattle.decl_syntax.specs.Patterns.{Shape}
 use Rattle.decl_syntax.specs.Units.{is_mark, is_word}
 use Rattle.file_names.proofs.Kept.{Kept, list_kept, separated_kept, maybe_kept, attributes_kept}

@@ -136,9 +136,10 @@ quote_named text inside =
 
 byte_named : (text inside : List ℕ) → BeginsNamed (byte_at text inside)
 byte_named text inside =
-    cases_named (byte_cases text inside) (breaks 2 text)
-    ((λ _. escaped_named quoted.Bytes Byte text inside (λ c. tt)),
-      ((λ _. plain_named Byte text inside (λ c. tt)), tt)) tt
+    cases_named (byte_cases text inside) (breaks 2 text) (
+      (λ _. escaped_named quoted.Bytes Byte text inside (λ c. tt)),
+      ((λ _. plain_named Byte text inside (λ c. tt)), tt),
+    ) tt
 
 -- ---- texts
 

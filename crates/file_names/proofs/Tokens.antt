@@ -1,11 +1,11 @@
 -- Each name token of a text has a name, also where `&&` and `>>` count as two marks.
-use Rattle.std.proofs.Common.{◌≡◌, ℕ, ◌+◌, List, [], ◌∷◌, ◌++◌, Option, Some, None, subst, chars}
+use Rattle.std.proofs.Common.{ℕ, ◌+◌, List, [], ◌∷◌, ◌++◌, Option, Some, None, subst, chars}
 use Rattle.decl_lexer.specs.declared.marks.Mark.{Mark}
 use Rattle.decl_lexer.specs.Lexing.{Placed, width, First, End, Found, Broken, Finds, nothing, takes, fails, skips}
 use Rattle.decl_lexer.specs.Lexing.{Lexes, ends, goes_on, without_mark, mark_width}
 use Rattle.decl_syntax.specs.Units.{units, halves, doubled_mark}
 use Rattle.match_model.specs.Lists.{Every}
-use Rattle.file_names.specs.Items.{IsNamed, IsTokenNamed}
+use Rattle.file_names.specs.Items.{IsTokenNamed}
 use Rattle.file_names.specs.Laws.{TokenNamesAreNames}
 use Rattle.file_names.proofs.Pieces.{BeginsNamed, piece_named}
 

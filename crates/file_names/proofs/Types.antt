@@ -1,9 +1,8 @@
 -- What holds of tokens holds of those behind a type.
-use Rattle.std.proofs.Common.{ℕ, zero, suc, List, ◌∷◌}
+use Rattle.std.proofs.Common.{ℕ, zero, suc, ◌∷◌}
 use Rattle.decl_lexer.specs.declared.marks.Mark.TheVariants as marks
 use Rattle.decl_lexer.specs.declared.words.Word.TheVariants as words
-use Rattle.decl_lexer.specs.Lexing.{Placed}
-use Rattle.decl_syntax.specs.Grammar.{Spelling, CommaList}
+use Rattle.decl_syntax.specs.Grammar.{Spelling}
 use Rattle.decl_syntax.specs.TypeGrammar.{ArgumentForm, lifetime, argument, TypeForm, never, unit, round, tuple}
 use Rattle.decl_syntax.specs.TypeGrammar.{point, slice, array, named, applied, SpellsType}
 use Rattle.decl_syntax.specs.Types.{TypeTree}

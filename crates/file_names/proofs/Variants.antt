@@ -1,13 +1,14 @@
 -- The variants of a type have names that are identifiers, and so has the enum that declares them.
 use Rattle.std.proofs.Common.{◌≡◌, ℕ, zero, suc, List, [], ◌∷◌, Option, Some, None, refl, sym, subst, ◌∙◌}
 use Rattle.std.specs.Prelude.{map, slice_get, option_map}
-use Rattle.match_model.specs.Declarations.{MField, MForm, UnitForm, TupleForm, BraceForm, MVariant, MItem, StructItem}
-use Rattle.match_model.specs.Declarations.{EnumItem, OtherItem, MProgram, item_variants, filled_field, filled_form}
-use Rattle.match_model.specs.Declarations.{filled_variant, option_item, result_item, variants_of}
+use Rattle.match_model.specs.Declarations.{MField, MForm, UnitForm, TupleForm, BraceForm, MVariant, MItem}
+use Rattle.match_model.specs.Declarations.{StructItem, EnumItem, OtherItem, MProgram, item_variants, filled_field}
+use Rattle.match_model.specs.Declarations.{filled_form, filled_variant, option_item, result_item, variants_of}
 use Rattle.match_model.specs.Types.{DeclaredItem, OptionOwner, ResultOwner, MType, NamedType, MTypes}
 use Rattle.match_model.proofs.Basics.{variant_filled}
 use Rattle.value_syntax.specs.Canonical.{IsName}
-use Rattle.file_names.specs.Named.{AreFieldNames, IsNamedForm, IsNamedVariant, AreNamedVariants, IsNamedItem, AreNames}
+use Rattle.file_names.specs.Named.{AreFieldNames, IsNamedForm, IsNamedVariant, AreNamedVariants, IsNamedItem}
+use Rattle.file_names.specs.Named.{AreNames}
 use Rattle.file_names.proofs.BuiltIn.{option_named, result_named}
 
 -- ---- variants with arguments in the place of parameters

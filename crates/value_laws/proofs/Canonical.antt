@@ -5,8 +5,8 @@ use Rattle.std.proofs.lemmas.Bool.Decides.{nat_tests}
 use Rattle.std.specs.Prelude.{nat_lt}
 use Rattle.std.specs.List.{list_all}
 use lib.Utf8.{scalars}
-use Rattle.match_model.specs.Declarations.{MField, MForm, UnitForm, TupleForm, BraceForm, MVariant, MItem, StructItem}
-use Rattle.match_model.specs.Declarations.{EnumItem, OtherItem, MProgram, variants_of, node_types}
+use Rattle.match_model.specs.Declarations.{MField, MForm, UnitForm, TupleForm, BraceForm, MVariant, MItem}
+use Rattle.match_model.specs.Declarations.{StructItem, EnumItem, OtherItem, MProgram, variants_of, node_types}
 use Rattle.match_model.specs.Lists.{Every}
 use Rattle.match_model.specs.RustTypes.{inner_type}
 use Rattle.match_model.specs.Texts.{is_scalar}
@@ -19,9 +19,9 @@ use Rattle.value_syntax.specs.Canonical.{IsName, IsFormName, IsCanonical, AreCan
 use Rattle.value_syntax.specs.Trees.{WrittenTree, WrittenText, values_from, fields_from}
 use Rattle.witness_text.specs.Trees.{NameTree}
 use Rattle.witness_names.specs.Named.{declared_name, form_name, types_there}
-use Rattle.witness_names.specs.NamedValues.{written_integer, character_or, written_number, written_point, written_fields}
-use Rattle.witness_names.specs.NamedValues.{written_form, written_variant, written_node, written_value, written_parts}
-use Rattle.witness_names.specs.NamedValues.{written_items}
+use Rattle.witness_names.specs.NamedValues.{written_integer, character_or, written_number, written_point}
+use Rattle.witness_names.specs.NamedValues.{written_fields, written_form, written_variant, written_node}
+use Rattle.witness_names.specs.NamedValues.{written_value, written_parts, written_items}
 use Rattle.file_names.specs.Named.{AreFieldNames, IsNamedForm, AreNames}
 use Rattle.file_names.proofs.Variants.{IsOwnerNamed, IsTypeNamed, type_named, variant_named}
 use Rattle.value_laws.specs.Short.{is_short, has_short_numbers, have_short_numbers}

@@ -1,5 +1,5 @@
 -- How large the numbers of a value are (our own choice: what a text of a value can hold).
-use Rattle.std.specs.Prelude.{ℕ, suc, ◌^◌, ℤ, pos, negsuc, Bool, true, ◌&&◌, nat_lt}
+use Rattle.std.specs.Prelude.{suc, ◌^◌, ℤ, pos, negsuc, Bool, true, ◌&&◌, nat_lt}
 use Rattle.match_model.specs.Values.{MValue, Num, Node, Point, Row, MValues, no_values, more_values}
 
 -- the number has at most 128 bits beside its sign
