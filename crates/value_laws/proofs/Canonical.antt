@@ -5,6 +5,8 @@ use Rattle.std.proofs.lemmas.Bool.Decides.{nat_tests}
 use Rattle.std.specs.Prelude.{nat_lt}
 use Rattle.std.specs.List.{list_all}
 use lib.Utf8.{scalars}
+use Rattle.match_model.specs.declared.Width.{Width}
+use Rattle.match_model.specs.declared.Width.TheVariants.{Endless}
 use Rattle.match_model.specs.Declarations.{MField, MForm, UnitForm, TupleForm, BraceForm, MVariant, MItem}
 use Rattle.match_model.specs.Declarations.{StructItem, EnumItem, OtherItem, MProgram, variants_of, node_types}
 use Rattle.match_model.specs.Lists.{Every}
@@ -26,21 +28,36 @@ use Rattle.file_names.specs.Named.{AreFieldNames, IsNamedForm, AreNames}
 use Rattle.file_names.proofs.Variants.{IsOwnerNamed, IsTypeNamed, type_named, variant_named}
 use Rattle.value_laws.specs.Short.{is_short, has_short_numbers, have_short_numbers}
 use Rattle.value_laws.proofs.Leaves.{both, scalar_is, scalars_are}
+use Rattle.value_laws.proofs.Shorts.{number_short}
 
--- ---- texts
+-- ---- numbers and texts
 
 abbrev mutual
-  -- the texts of a value are Unicode
-  IsUnicode : MValue → Type 0
-  IsUnicode (Text cs) = scalars cs ≡ true
-  IsUnicode (Node k vs) = AreUnicode vs
-  IsUnicode (Point mutable v) = IsUnicode v
-  IsUnicode (Row vs) = AreUnicode vs
-  IsUnicode _ = Unit {0}
+  -- the numbers of a value have at most 128 bits, and its texts are Unicode
+  IsWritable : MValue → Type 0
+  IsWritable (Num n) = is_short n ≡ true
+  IsWritable (Text cs) = scalars cs ≡ true
+  IsWritable (Node k vs) = AreWritable vs
+  IsWritable (Point mutable v) = IsWritable v
+  IsWritable (Row vs) = AreWritable vs
+  IsWritable _ = Unit {0}
 
-  AreUnicode : MValues → Type 0
-  AreUnicode no_values = Unit {0}
-  AreUnicode (more_values v vs) = IsUnicode v × AreUnicode vs
+  AreWritable : MValues → Type 0
+  AreWritable no_values = Unit {0}
+  AreWritable (more_values v vs) = IsWritable v × AreWritable vs
+
+-- its numbers are short where a number of a type may be longer
+abbrev pub IsShort : Width → MValue → Type 0
+IsShort width v = width ≡ Endless → has_short_numbers v ≡ true
+
+abbrev AreShort : Width → MValues → Type 0
+AreShort width vs = width ≡ Endless → have_short_numbers vs ≡ true
+
+first_short : (width : Width) (v : MValue) (vs : MValues) → AreShort width (more_values v vs) → IsShort width v
+first_short width v vs s e = (both (has_short_numbers v) (have_short_numbers vs) (s e)).0
+
+others_short : (width : Width) (v : MValue) (vs : MValues) → AreShort width (more_values v vs) → AreShort width vs
+others_short width v vs s e = (both (has_short_numbers v) (have_short_numbers vs) (s e)).1
 
 -- what is there passes the test
 from_some : {A P : Type 0} (o : Option A) (test : A → Bool) → (elim o [ None ↦ false | Some x ↦ test x ]) ≡ true
@@ -48,38 +65,43 @@ from_some : {A P : Type 0} (o : Option A) (test : A → Bool) → (elim o [ None
 from_some None test h k = absurd cc
 from_some (Some x) test h k = k x h
 
--- so are those of a value of a type
+-- a value of a type is so
 module _ (program : MProgram) where
   mutual
-    unicode_of : (sure : Bool) (t : MType) (v : MValue) → is_value program sure t v ≡ true → IsUnicode v
-    unicode_of sure t (Flag b) h = tt
-    unicode_of sure t (Num n) h = tt
-    unicode_of sure t (Text cs) h = scalars_are cs (both (is_str t) (list_all is_scalar cs) h).1
-    unicode_of sure t (Node k vs) h =
+    writable : (sure : Bool) (t : MType) (v : MValue) → IsShort program.width v → is_value program sure t v ≡ true
+        → IsWritable v
+    writable sure t (Flag b) s h = tt
+    writable sure t (Num n) s h = number_short program.width t n s h
+    writable sure t (Text cs) s h = scalars_are cs (both (is_str t) (list_all is_scalar cs) h).1
+    writable sure t (Node k vs) s h =
         from_some (node_types program t k) (λ types. are_values program sure types vs) h
-        (λ types e. parts_unicode sure types vs e)
-    unicode_of sure t (Point m v) h =
-        from_some (type_behind t m) (λ inner. is_value program false inner v) h (λ inner e. unicode_of false inner v e)
-    unicode_of sure t (Row vs) h =
+        (λ types e. parts_writable sure types vs s e)
+    writable sure t (Point m v) s h =
+        from_some (type_behind t m) (λ inner. is_value program false inner v) h (λ inner e. writable false inner v s e)
+    writable sure t (Row vs) s h =
         from_some (item_type t (length (values_list vs))) (λ item. all_are_values program sure item vs) h
-        (λ item e. items_unicode sure item vs e)
-    unicode_of sure t Thing h = tt
-    unicode_of sure t Later h = tt
-    unicode_of sure t Unseen h = tt
+        (λ item e. items_writable sure item vs s e)
+    writable sure t Thing s h = tt
+    writable sure t Later s h = tt
+    writable sure t Unseen s h = tt
 
-    parts_unicode : (sure : Bool) (ts : MTypes) (vs : MValues) → are_values program sure ts vs ≡ true → AreUnicode vs
-    parts_unicode sure no_types no_values h = tt
-    parts_unicode sure no_types (more_values v vs) h = absurd cc
-    parts_unicode sure (more_types t ts) no_values h = absurd cc
-    parts_unicode sure (more_types t ts) (more_values v vs) h =
+    parts_writable : (sure : Bool) (ts : MTypes) (vs : MValues) → AreShort program.width vs
+        → are_values program sure ts vs ≡ true → AreWritable vs
+    parts_writable sure no_types no_values s h = tt
+    parts_writable sure no_types (more_values v vs) s h = absurd cc
+    parts_writable sure (more_types t ts) no_values s h = absurd cc
+    parts_writable sure (more_types t ts) (more_values v vs) s h =
         let each = both (is_value program sure t v) (are_values program sure ts vs) h in
-        (unicode_of sure t v each.0, parts_unicode sure ts vs each.1)
+        let first = writable sure t v (first_short program.width v vs s) each.0 in
+        (first, parts_writable sure ts vs (others_short program.width v vs s) each.1)
 
-    items_unicode : (sure : Bool) (t : MType) (vs : MValues) → all_are_values program sure t vs ≡ true → AreUnicode vs
-    items_unicode sure t no_values h = tt
-    items_unicode sure t (more_values v vs) h =
+    items_writable : (sure : Bool) (t : MType) (vs : MValues) → AreShort program.width vs
+        → all_are_values program sure t vs ≡ true → AreWritable vs
+    items_writable sure t no_values s h = tt
+    items_writable sure t (more_values v vs) s h =
         let each = both (is_value program sure t v) (all_are_values program sure t vs) h in
-        (unicode_of sure t v each.0, items_unicode sure t vs each.1)
+        let first = writable sure t v (first_short program.width v vs s) each.0 in
+        (first, items_writable sure t vs (others_short program.width v vs s) each.1)
 
 -- ---- numbers
 
@@ -154,39 +176,32 @@ module _ (program : MProgram) (names : AreNames program) where
   node_canonical t k ws h = variant_canonical t k ws h (slice_get (variants_of program t) k) refl
 
   mutual
-    value_canonical : (t : MType) (v : MValue) → IsUnicode v → has_short_numbers v ≡ true
-        → IsCanonical (written_value program t v)
-    value_canonical t (Flag b) u h = tt
-    value_canonical t (Num n) u h = number_canonical t n h
-    value_canonical t (Text cs) u h = (cs, (u, refl))
-    value_canonical t (Node k vs) u h =
+    value_canonical : (t : MType) (v : MValue) → IsWritable v → IsCanonical (written_value program t v)
+    value_canonical t (Flag b) u = tt
+    value_canonical t (Num n) u = number_canonical t n u
+    value_canonical t (Text cs) u = (cs, (u, refl))
+    value_canonical t (Node k vs) u =
         let types = types_there (node_types program t k) in
-        node_canonical t k (written_parts program types vs) (parts_canonical types vs u h)
-    value_canonical t (Point m v) u h =
-        point_canonical m (written_value program (inner_type t) v) (value_canonical (inner_type t) v u h)
-    value_canonical t (Row vs) u h =
-        trees_canonical (written_items program (inner_type t) vs) (items_canonical (inner_type t) vs u h)
-    value_canonical t Thing u h = tt
-    value_canonical t Later u h = tt
-    value_canonical t Unseen u h = tt
+        node_canonical t k (written_parts program types vs) (parts_canonical types vs u)
+    value_canonical t (Point m v) u =
+        point_canonical m (written_value program (inner_type t) v) (value_canonical (inner_type t) v u)
+    value_canonical t (Row vs) u =
+        trees_canonical (written_items program (inner_type t) vs) (items_canonical (inner_type t) vs u)
+    value_canonical t Thing u = tt
+    value_canonical t Later u = tt
+    value_canonical t Unseen u = tt
 
-    parts_canonical : (ts : List MType) (vs : MValues) → AreUnicode vs → have_short_numbers vs ≡ true
+    parts_canonical : (ts : List MType) (vs : MValues) → AreWritable vs
         → Every IsCanonical (written_parts program ts vs)
-    parts_canonical ts no_values u h = tt
-    parts_canonical [] (more_values v vs) u h = tt
-    parts_canonical (t ∷ ts) (more_values v vs) u h =
-        let each = both (has_short_numbers v) (have_short_numbers vs) h in
-        (value_canonical t v u.0 each.0, parts_canonical ts vs u.1 each.1)
+    parts_canonical ts no_values u = tt
+    parts_canonical [] (more_values v vs) u = tt
+    parts_canonical (t ∷ ts) (more_values v vs) u = (value_canonical t v u.0, parts_canonical ts vs u.1)
 
-    items_canonical : (t : MType) (vs : MValues) → AreUnicode vs → have_short_numbers vs ≡ true
-        → Every IsCanonical (written_items program t vs)
-    items_canonical t no_values u h = tt
-    items_canonical t (more_values v vs) u h =
-        let each = both (has_short_numbers v) (have_short_numbers vs) h in
-        (value_canonical t v u.0 each.0, items_canonical t vs u.1 each.1)
+    items_canonical : (t : MType) (vs : MValues) → AreWritable vs → Every IsCanonical (written_items program t vs)
+    items_canonical t no_values u = tt
+    items_canonical t (more_values v vs) u = (value_canonical t v u.0, items_canonical t vs u.1)
 
 -- a value of a type of the program, whose numbers have at most 128 bits
 pub written_canonical : (program : MProgram) → AreNames program → (sure : Bool) (t : MType) (v : MValue)
-    → is_value program sure t v ≡ true → has_short_numbers v ≡ true → IsCanonical (written_value program t v)
-written_canonical program names sure t v h short =
-    value_canonical program names t v (unicode_of program sure t v h) short
+    → IsShort program.width v → is_value program sure t v ≡ true → IsCanonical (written_value program t v)
+written_canonical program names sure t v s h = value_canonical program names t v (writable program sure t v s h)

@@ -27,10 +27,10 @@ there_if b a h = ap (λ c. some_if c a) h
 
 -- numbers
 
-scalar_number : (width : Width) (c : ℕ) → has_number width CharType (pos c) ≡ true → is_scalar c ≡ true
+pub scalar_number : (width : Width) (c : ℕ) → has_number width CharType (pos c) ≡ true → is_scalar c ≡ true
 scalar_number width c h = grind (arith, nat_tests, ints, h)
 
-no_negative : (width : Width) (n : ℕ) → has_number width CharType (negsuc n) ≡ true → false ≡ true
+pub no_negative : (width : Width) (n : ℕ) → has_number width CharType (negsuc n) ≡ true → false ≡ true
 no_negative width n h = grind (arith, nat_tests, ints, h)
 
 char_again : (program : MProgram) (sure : Bool) (c : ℕ) (b : Bool) → has_number program.width CharType (pos c) ≡ true → b ≡ true →

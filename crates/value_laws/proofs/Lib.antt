@@ -4,3 +4,4 @@ pub mod Leaves
 pub mod Paths
 pub mod Again
 pub mod Canonical
+pub mod Shorts

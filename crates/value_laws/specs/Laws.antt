@@ -5,6 +5,7 @@ use Rattle.decl_syntax.specs.Units.{units}
 use Rattle.decl_syntax.specs.Items.{ItemTree}
 use Rattle.decl_parser.specs.FileGrammar.{IsFile}
 use Rattle.match_model.specs.declared.Width.{Width}
+use Rattle.match_model.specs.declared.Width.TheVariants.{Endless}
 use Rattle.match_model.specs.Types.{MType}
 use Rattle.match_model.specs.Typing.{is_value}
 use Rattle.match_model.specs.Values.{MValue}
@@ -34,11 +35,11 @@ ReadsBackAsValue =
     IsReadValue (program_of items width) sure t (written_text (written_value (program_of items width) t v)) v
 
 -- the names of a file are identifiers, so of the items of a file no more is asked than that the value has at most 64
--- levels and no number above 128 bits
+-- levels, and no number above 128 bits where `usize` and `isize` have no width
 abbrev pub FileReadsBack : Type 0
 FileReadsBack =
-    (bytes : List ℕ) (tokens : List Placed) (items : List ItemTree) (width : Width) (sure : Bool) (t : MType) (v : MValue) →
-    HasTokens bytes tokens → IsFile (units tokens) items → BreaksNone items width →
-    IsTrue (is_value (program_of items width) sure t v) → has_short_numbers v ≡ true →
+    (bytes : List ℕ) (tokens : List Placed) (items : List ItemTree) (width : Width) (sure : Bool) (t : MType)
+    (v : MValue) → HasTokens bytes tokens → IsFile (units tokens) items → BreaksNone items width →
+    IsTrue (is_value (program_of items width) sure t v) → (width ≡ Endless → has_short_numbers v ≡ true) →
     value_fits 64 (written_value (program_of items width) t v) ≡ true →
     IsReadValue (program_of items width) sure t (written_text (written_value (program_of items width) t v)) v

@@ -12,7 +12,8 @@ pub fn written_value_reads_back()
     ensures { ReadsBackAsValue }
 {}
 
-/// The text of a value of a file's type is read as that value: where it has at most 64 levels and no number above 128 bits.
+/// The text of a value of a file's type is read as that value: where it has at most 64 levels, and no number above 128
+/// bits if `usize` and `isize` have no width.
 pub fn file_value_reads_back()
     ensures { FileReadsBack }
 {}

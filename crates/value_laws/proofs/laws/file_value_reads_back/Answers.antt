@@ -11,5 +11,5 @@ pub returns : goal.returns
 returns c = λ bytes tokens items width sure t v lexed spelled none h short fits.
     let names = program_names_are_names bytes tokens items width lexed spelled in
     let w = written_value (program_of items width) t v in
-    let canonical = written_canonical (program_of items width) names sure t v h short in
+    let canonical = written_canonical (program_of items width) names sure t v short h in
     (w, reads_back w canonical fits, value_again (program_of items width) (type_own items width none) sure t v h)
