@@ -18,6 +18,7 @@ use Rattle.match_model.specs.Witness.{RowOf, MWitnesses, no_witnesses, more_witn
 use Rattle.match_model.specs.Witness.{node_fits, point_fits, slice_fits, fits, all_fit}
 use Rattle.match_model.proofs.Basics.{both, untrue}
 use Rattle.decl_syntax.specs.Patterns.{Flag, Str}
+use Rattle.pattern_rules.specs.Faults.{scrutinee_type}
 use Rattle.pattern_rules.specs.Literals.{is_outside}
 use Rattle.pattern_rules.specs.Nodes.{Standing, Elsewhere, nodes}
 use Rattle.pattern_rules.specs.Settings.{Setting, program, place, bottom_type}
@@ -31,12 +32,15 @@ use Rattle.arm_maker.proofs.Typed.{IsOfType, AreParts, AreItems, node_parts, poi
 use Rattle.arm_laws.specs.Fine.{ArmPatternIsFine}
 use Rattle.arm_laws.specs.Found.{FindsVariant, PathsFind, PartsFind, ItemsFind}
 use Rattle.arm_laws.specs.LiteralEnds.{literal_ends, parts_literal, items_literal}
+use Rattle.arm_laws.specs.MeantTypes.{IsMeantType}
 use Rattle.arm_laws.specs.Patterns.{unplaced, point_shape, arm_shape}
+use Rattle.arm_laws.proofs.FineFound.{meant_paths_find}
 use Rattle.arm_laws.proofs.FineTests.{PassesAll, all_at}
 use Rattle.arm_laws.proofs.FineLeaves.{wild, literal, point}
 use Rattle.arm_laws.proofs.FineNumbers.{AllPass, span_pass}
 use Rattle.arm_laws.proofs.FineLists.{IsPassing, ArePassing, AllPassing, tuple_pass, slice_pass, array_pass}
 use Rattle.arm_laws.proofs.FineForms.{variant_pass}
+use Rattle.arm_laws.proofs.MeantClosed.{meant_types, scrutinee_meant}
 use Rattle.arm_laws.proofs.Unplaced.{placed_pass}
 
 -- ---- values that fit
@@ -236,8 +240,10 @@ module _ (s : Setting) where
         (passing t w v finds.0 d.0 a.0 b.0, items_passing t ws vs finds.1 d.1 a.1 b.1)
 
 pub arm_pattern_is_fine : ArmPatternIsFine
-arm_pattern_is_fine s t w v p finds d l f e i n at =
+arm_pattern_is_fine s f w v p once d l k e i n at =
+    let t = scrutinee_type s f in
+    let finds = meant_paths_find s once (IsMeantType s) (meant_types s) t w (scrutinee_meant s f) in
     all_at s (nodes s Elsewhere [] (place t Move) p) i n
     (placed_pass s Elsewhere [] (place t Move) p
     (subst (λ q. AllNodes (PassesAll s) (nodes s Elsewhere [] (place t Move) q)) (sym e)
-    (passing s t w v finds d l f Elsewhere []))) at
+    (passing s t w v finds d l k Elsewhere []))) at

@@ -7,6 +7,7 @@ pub mod Differing
 pub mod Disjoint
 pub mod FineArms
 pub mod FineForms
+pub mod FineFound
 pub mod FineFunctions
 pub mod FineLeaves
 pub mod FineLists
