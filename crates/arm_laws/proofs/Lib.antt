@@ -24,6 +24,7 @@ pub mod Matched
 pub mod Meaning
 pub mod MeantClosed
 pub mod Measures
+pub mod NamedOnce
 pub mod NamesFound
 pub mod Near
 pub mod Nodes

@@ -14,6 +14,7 @@ use Rattle.match_model.specs.Matching.{ways}
 use Rattle.decl_syntax.specs.Functions.{FunctionTree}
 use Rattle.decl_syntax.specs.Patterns.{PatternTree}
 use Rattle.type_names.specs.Finding.{path_finds}
+use Rattle.type_table.specs.Faults.{BreaksNone}
 use Rattle.pattern_rules.specs.Settings.{Setting, program}
 use Rattle.pattern_rules.specs.Faults.{scrutinee_type}
 use Rattle.pattern_rules.specs.Resolved.{resolved}
@@ -32,6 +33,10 @@ abbrev pub OffsetsAreAlone : Type 0
 OffsetsAreAlone = (s : Setting) (t : MType) (p q : PatternTree) (m : Mode) (v : MValue) →
     without_places p ≡ without_places q →
     not (is_empty_list (ways (resolved s t p) m v)) ≡ not (is_empty_list (ways (resolved s t q) m v))
+
+-- law: in a file of which no item breaks a rule on declarations no name stands twice
+abbrev pub NamesStandOnce : Type 0
+NamesStandOnce = (s : Setting) → BreaksNone s.items s.width → IsNamedOnce s
 
 -- law: the path by which an arm names a variant of a type finds it, where no name of the file stands twice
 abbrev pub NamesAreFound : Type 0

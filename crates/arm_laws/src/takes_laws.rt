@@ -1,9 +1,15 @@
 //! Laws without code on what the pattern that a text spells matches.
-ghost use Rattle.arm_laws.specs.TakesLaws.{ArmPatternTakes, NamesAreFound, NumbersAreMeant, OffsetsAreAlone, SpelledIsMeant};
+ghost use Rattle.arm_laws.specs.TakesLaws.{ArmPatternTakes, NamesAreFound, NamesStandOnce, NumbersAreMeant};
+ghost use Rattle.arm_laws.specs.TakesLaws.{OffsetsAreAlone, SpelledIsMeant};
 
 /// Written patterns that differ only in their offsets match the same values.
 pub fn offsets_are_alone()
     ensures { OffsetsAreAlone }
+{}
+
+/// In a file of which no item breaks a rule on declarations no name stands twice.
+pub fn names_stand_once()
+    ensures { NamesStandOnce }
 {}
 
 /// The path by which an arm names a variant finds the variant.
