@@ -45,13 +45,13 @@ contains_later : {A : Type 0} (x y : A) (xs : List A) → Contains xs y → Cont
 contains_later x y xs (k, l, e) = (suc k, omega (arith, l), e)
 
 -- what holds of each element of one list holds of what stands for it in another
-every_made : {A B : Type 0} (P : B → Type 0) (g : A → B) (xs : List A) → ((x : A) → Contains xs x → P (g x)) →
+pub every_made : {A B : Type 0} (P : B → Type 0) (g : A → B) (xs : List A) → ((x : A) → Contains xs x → P (g x)) →
     Every P (map g xs)
 every_made P g [] f = tt
 every_made P g (x ∷ xs) f =
     (f x (0, omega arith, refl), every_made P g xs (λ y c. f y (contains_later x y xs c)))
 
-every_of : {A : Type 0} (P : A → Type 0) (xs : List A) → Every P xs → (x : A) → Contains xs x → P x
+pub every_of : {A : Type 0} (P : A → Type 0) (xs : List A) → Every P xs → (x : A) → Contains xs x → P x
 every_of P [] h x (k, l, e) = absurd (omega (arith, l))
 every_of P (y ∷ xs) h x (zero, l, e) = subst P e h.0
 every_of P (y ∷ xs) h x (suc k, l, e) = every_of P xs h.1 x (k, omega (arith, l), e)
@@ -102,7 +102,7 @@ module _ (s : Setting) (f : FunctionTree) where
       pats_made ps (every_right (RangeHolds (λ r t. IsMadeRange r)) (all_within p) (all_below ps) g),
     )
 
-  abbrev shown : ArmTree → MDeArm MType
+  abbrev pub shown : ArmTree → MDeArm MType
   shown a = record { pat = elaborated_arm s f a; guarded = a.guarded }
 
   arms_made : (arms : List ArmTree) → ((a : ArmTree) → Contains arms a → IsSoundArm s f a) → AreArmsMade
@@ -113,7 +113,7 @@ module _ (s : Setting) (f : FunctionTree) where
     arms_made arms (λ b c. h b (contains_later a b arms c)),
   )
 
-  near_list : (witnesses : List MWitness) → IsJudged s f witnesses →
+  pub near_list : (witnesses : List MWitness) → IsJudged s f witnesses →
       IsNearList (program s) (elaborated_match s f) witnesses
   near_list witnesses h = record {
     type = h.type;

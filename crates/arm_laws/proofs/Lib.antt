@@ -19,6 +19,7 @@ pub mod Follows
 pub mod Forms
 pub mod Fresh
 pub mod Itself
+pub mod Kept
 pub mod Leaves
 pub mod Matched
 pub mod Meaning
@@ -32,6 +33,7 @@ pub mod Offsets
 pub mod Parting
 pub mod Parts
 pub mod PatternTakes
+pub mod PieceEnds
 pub mod Pieces
 pub mod Ranges
 pub mod Spelled
@@ -40,9 +42,11 @@ pub mod SpelledNumbers
 pub mod Stacks
 pub mod Taking
 pub mod Telling
+pub mod TextPlaces
 pub mod Typed
 pub mod Unplaced
 pub mod VariantMet
+pub mod VerdictKept
 pub mod Walk
 pub mod Widened
 pub mod Written

@@ -21,7 +21,7 @@ use Rattle.arm_laws.specs.Near.{IsNear, AreNear}
 use Rattle.arm_laws.proofs.Bases.{IsOpenBeyond, IsOpenCtor}
 use Rattle.arm_laws.proofs.Follows.{IsLow, IsHigh, HasEnds, ends}
 
-heads_near : (kind : IntKind) (heads : List MCtor) → Every (AreNear (IntType kind)) heads → (n : ℤ) →
+pub heads_near : (kind : IntKind) (heads : List MCtor) → Every (AreNear (IntType kind)) heads → (n : ℤ) →
     is_cut_at (filter_map range_of heads) n ≡ true → IsNear kind n
 heads_near kind [] h n e = untrue e
 heads_near kind (NumbersCtor r ∷ heads) h n e =
@@ -56,14 +56,14 @@ whole_low width _ = refl
 one_back : (n : ℤ) → n +ℤ pos 1 -ℤ pos 1 ≡ n
 one_back n = omega (arith, ints)
 
-high_near : (width : Width) (kind : IntKind) (e : MEnd) → IsHigh (IsNear kind) (kind_range width kind).high e →
+pub high_near : (width : Width) (kind : IntKind) (e : MEnd) → IsHigh (IsNear kind) (kind_range width kind).high e →
     begins_above_literals kind e ≡ false
 high_near width kind e (inl s) = subst (λ x. begins_above_literals kind x ≡ false) (sym s) (whole_high width kind)
 high_near width kind e (inr (n, s, q)) =
     subst (λ x. begins_above_literals kind x ≡ false) (sym s)
     (subst (λ m. begins_above_literals kind (At m) ≡ false) (one_back n) q.0)
 
-low_near : (width : Width) (kind : IntKind) (e : MEnd) → IsLow (IsNear kind) (kind_range width kind).low e →
+pub low_near : (width : Width) (kind : IntKind) (e : MEnd) → IsLow (IsNear kind) (kind_range width kind).low e →
     ends_below_literals kind e ≡ false
 low_near width kind e (inl s) = subst (λ x. ends_below_literals kind x ≡ false) (sym s) (whole_low width kind)
 low_near width kind e (inr (n, s, q)) = subst (λ x. ends_below_literals kind x ≡ false) (sym s) q.1
@@ -115,7 +115,7 @@ open_each width kind (r ∷ ps) ((a, b, (x, y)), h) p (inl e) =
     (open_ends kind r.low r.high x (high_near width kind r.high b) (low_near width kind r.low a) y)
 open_each width kind (r ∷ ps) h p (inr a) = open_each width kind ps h.1 p a
 
-append_none : (ps qs : List MRange) → qs ≡ [] → map NumbersCtor (ps ++ qs) ≡ map NumbersCtor ps
+pub append_none : (ps qs : List MRange) → qs ≡ [] → map NumbersCtor (ps ++ qs) ≡ map NumbersCtor ps
 append_none ps qs e = ap (λ xs. map NumbersCtor (ps ++ xs)) e ∙ gone ps
   where
     gone : (ps : List MRange) → map NumbersCtor (ps ++ []) ≡ map NumbersCtor ps

@@ -17,3 +17,4 @@ pub mod SpellingLaws
 pub mod Takes
 pub mod TakesLaws
 pub mod TakingLaws
+pub mod VerdictLaws

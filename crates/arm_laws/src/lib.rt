@@ -4,3 +4,4 @@
 
 pub mod laws;
 pub mod takes_laws;
+pub mod verdict_laws;
