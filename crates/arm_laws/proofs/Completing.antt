@@ -30,7 +30,8 @@ use Rattle.pattern_laws.proofs.ArmsKept.{arms_typed, arm_made}
 use Rattle.pattern_laws.proofs.Everywhere.{RangeHolds}
 use Rattle.pattern_laws.proofs.Everywhere as everywhere
 use Rattle.arm_maker.specs.Order.{AreInArmOrder, IsOneFirst}
-use Rattle.arm_laws.specs.Completed.{Serves, AreCompleting, plain_arm, IsPatternFor, DoComplete}
+use Rattle.arm_laws.specs.Completed.{Serves, AreCompleting, IsPatternFor}
+use Rattle.arm_laws.specs.Completes.{plain_arm, DoComplete}
 use Rattle.arm_laws.specs.FunctionLaws.{VerdictIsOrdered, ArmsComplete, PatternsComplete, IsJudged}
 use Rattle.arm_laws.specs.TakingLaws.{TakesNone}
 use Rattle.arm_laws.specs.Near.{AreNear, HasNodes, IsNearList}

@@ -11,7 +11,7 @@ use Rattle.pattern_rules.specs.Faults.{ArmNode, NodeRule, node_rules, alternativ
 use Rattle.pattern_rules.specs.Faults.{nodes_of_arms, function_nodes, scrutinee_type, NoNodeBreaks}
 use Rattle.pattern_rules.specs.Nodes.{Node, Elsewhere, nodes}
 use Rattle.pattern_rules.specs.Settings.{Setting, place}
-use Rattle.arm_laws.specs.Completed.{plain_arm, with_arms}
+use Rattle.arm_laws.specs.Completes.{plain_arm, with_arms}
 use Rattle.arm_laws.specs.FineLaws.{FineArmsBreakNone}
 
 -- none of the nodes breaks one of these rules

@@ -1,6 +1,7 @@
 pub mod Apart
 pub mod ArmChars
 pub mod Armed
+pub mod ArmsDone
 pub mod Bases
 pub mod Completing
 pub mod Differing
@@ -36,6 +37,7 @@ pub mod PatternTakes
 pub mod PieceEnds
 pub mod Pieces
 pub mod Ranges
+pub mod ReferredTrees
 pub mod Spelled
 pub mod SpelledMeant
 pub mod SpelledNumbers

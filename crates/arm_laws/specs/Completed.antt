@@ -1,12 +1,11 @@
--- When arms that are added to a function complete its match (our own choice; rustc suggests to add such arms).
-use Rattle.std.specs.Prelude.{◌≡◌, ◌<◌, ℕ, ◌+◌, false, not, List, [], ◌++◌, length, map}
+-- No meaning: arms, or patterns, that match just what the arms for witnesses take, and that complete a match.
+use Rattle.std.specs.Prelude.{◌≡◌, ◌<◌, ℕ, ◌+◌, false, not, List, ◌++◌, length}
 use Rattle.match_model.specs.declared.Mode.TheVariants.{Move}
 use Rattle.match_model.specs.Values.{MValue}
 use Rattle.match_model.specs.Witness.{MWitness}
 use Rattle.match_model.specs.Match.{ArmWays, is_empty_list, arm_matches, IsExhaustive, IsArmReachable}
 use Rattle.match_model.specs.Matching.{ways}
 use Rattle.decl_syntax.specs.Patterns.{PatternTree}
-use Rattle.decl_syntax.specs.Items.{ArmTree}
 use Rattle.decl_syntax.specs.Functions.{FunctionTree}
 use Rattle.pattern_rules.specs.Settings.{Setting, program}
 use Rattle.pattern_rules.specs.Faults.{scrutinee_type}
@@ -25,21 +24,7 @@ pub record AreCompleting (s : Setting) (f : FunctionTree) (arms : List ArmWays) 
   pub each_reached : (k : ℕ) → k < length arms →
       IsArmReachable (Domain s f) (written_arms s f ++ arms) (length f.arms + k)
 
--- an arm of this pattern, without a guard
-abbrev pub plain_arm : PatternTree → ArmTree
-plain_arm p = record { attrs = []; pattern = p; guarded = false }
-
--- the function with such arms behind its own
-abbrev pub with_arms : FunctionTree → List PatternTree → FunctionTree
-with_arms f ps = record f { arms = f.arms ++ map plain_arm ps }
-
 -- the pattern matches just the values that the arm for the witness takes
 abbrev pub IsPatternFor : Setting → FunctionTree → MWitness → PatternTree → Type 0
 IsPatternFor s f w p = (v : MValue) → Domain s f v →
     not (is_empty_list (ways (resolved s (scrutinee_type s f) p) Move v)) ≡ takes (program s) (scrutinee_type s f) w v
-
--- with arms of these patterns the function's match is exhaustive, and a value comes to each of them
-pub record DoComplete (s : Setting) (f : FunctionTree) (ps : List PatternTree) : Type 0 where
-  pub exhaustive : IsExhaustive (Domain s (with_arms f ps)) (written_arms s (with_arms f ps))
-  pub each_reached : (k : ℕ) → k < length ps →
-      IsArmReachable (Domain s (with_arms f ps)) (written_arms s (with_arms f ps)) (length f.arms + k)

@@ -5,7 +5,7 @@ use Rattle.decl_syntax.specs.Functions.{FunctionTree}
 use Rattle.decl_syntax.specs.Patterns.{PatternTree}
 use Rattle.pattern_rules.specs.Faults.{BreaksNone, scrutinee_type}
 use Rattle.pattern_rules.specs.Settings.{Setting}
-use Rattle.arm_laws.specs.Completed.{with_arms}
+use Rattle.arm_laws.specs.Completes.{with_arms}
 use Rattle.arm_laws.specs.Fine.{IsFinePattern}
 
 -- law: a function that breaks no rule breaks none with arms of such patterns behind its own

@@ -14,7 +14,8 @@ use Rattle.pattern_rules.specs.Faults.{scrutinee_type}
 use Rattle.pattern_rules.specs.ShownMatches.{IsSoundArm, elaborated_arm}
 use Rattle.pattern_rules.specs.Verdicts.{IsVerdictOn}
 use Rattle.arm_maker.specs.Order.{AreInArmOrder, IsOneFirst}
-use Rattle.arm_laws.specs.Completed.{Serves, AreCompleting, IsPatternFor, DoComplete}
+use Rattle.arm_laws.specs.Completed.{Serves, AreCompleting, IsPatternFor}
+use Rattle.arm_laws.specs.Completes.{DoComplete}
 use Rattle.arm_laws.specs.Near.{AreNear, HasNodes}
 
 -- law: the ranges of an arm that breaks no rule have ends that are literals or beside one

@@ -1,4 +1,5 @@
 pub mod Completed
+pub mod Completes
 pub mod Fine
 pub mod FineLaws
 pub mod Found
