@@ -3,6 +3,7 @@ use Rattle.std.proofs.Common.{◌≡◌, ℕ, zero, suc, Bool, true, List, [], �
 use Rattle.std.specs.List.{AllZip, Contains, list_all}
 use Rattle.decl_syntax.specs.Functions.{FunctionTree}
 use Rattle.decl_syntax.specs.Patterns.{PatternTree}
+use Rattle.decl_syntax.specs.Units.{units}
 use Rattle.match_model.specs.Lists.{Among, Each}
 use Rattle.match_model.specs.OfType.{witness_is_of}
 use Rattle.match_model.specs.RustTypes.{rust_context}
@@ -12,6 +13,10 @@ use Rattle.match_model.proofs.Basics.{both}
 use Rattle.keyed_rows.proofs.Members.{among-contains}
 use Rattle.pattern_rules.specs.Faults.{scrutinee_type}
 use Rattle.pattern_rules.specs.Settings.{Setting, program}
+use Rattle.pattern_laws.proofs.ParsedSound.{parsed_functions}
+use Rattle.pattern_laws.proofs.SoundFiles.{files_are_sound}
+use Rattle.file_names.specs.Named.{AreNames}
+use Rattle.file_names.proofs.Programs.{program_names_are_names}
 use Rattle.arm_maker.specs.Arms.{arm_tree, patterns_of, AreArms}
 use Rattle.arm_maker.specs.Sizes.{arm_fits, most_levels}
 use Rattle.arm_laws.specs.Completed.{IsPatternFor}
@@ -19,11 +24,10 @@ use Rattle.arm_laws.specs.Fine.{IsFinePattern}
 use Rattle.arm_laws.specs.FunctionLaws.{IsJudged}
 use Rattle.arm_laws.specs.LiteralEnds.{literal_ends}
 use Rattle.arm_laws.specs.Meant.{is_referred}
-use Rattle.arm_laws.specs.Named.{AreNames}
 use Rattle.arm_laws.specs.NamedOnce.{IsNamedOnce}
 use Rattle.arm_laws.specs.Spelled.{SpellsAlone}
 use Rattle.arm_laws.specs.SpellingLaws.{SpellsItsPattern}
-use Rattle.arm_laws.specs.VerdictLaws.{ArmTextsComplete}
+use Rattle.arm_laws.specs.VerdictLaws.{ArmTextsComplete, ArmsCompleteMatch}
 use Rattle.arm_laws.proofs.Completing.{patterns_complete}
 use Rattle.arm_laws.proofs.FineArms.{arm_pattern_is_fine}
 use Rattle.arm_laws.proofs.FineFunctions.{fine_arms_break_none}
@@ -111,3 +115,27 @@ arm_texts_complete s f witnesses texts h fine unbroken names arms =
       fine = fine_arms_break_none s f all.patterns fine all.fine;
       complete = patterns_complete s f witnesses sorted all.patterns h arms.in_order all.served;
     }
+
+pub arms_complete_match : ArmsCompleteMatch
+arms_complete_match bytes tokens s f witnesses texts h arms =
+    let sound = files_are_sound (units tokens) s h.spelled h.unbroken in
+    let parsed = parsed_functions bytes tokens s.items h.item f h.lexed h.spelled h.among h.is in
+    let type_is = sound.scrutinee h.item f h.among h.is h.fine in
+    let names = program_names_are_names bytes tokens s.items s.width h.lexed h.spelled in
+    arm_texts_complete s f witnesses texts
+    (record {
+      sound = sound.sound;
+      type = type_is;
+      arms = λ a c. record {
+        sound = sound.sound;
+        type_is = type_is;
+        fine = h.fine;
+        among = c;
+        spelled = parsed.spelled a c;
+        ascend = parsed.ascend a c;
+      };
+      exhaustive = h.exhaustive;
+      unreachable = h.unreachable;
+      verdict = h.verdict;
+    })
+    h.fine h.unbroken names arms

@@ -1,5 +1,5 @@
 //! Laws without code on the witnesses of a verdict and on the arms that are made of them.
-ghost use Rattle.arm_laws.specs.VerdictLaws.{ArmTextsComplete, VerdictEndsAtLiterals};
+ghost use Rattle.arm_laws.specs.VerdictLaws.{ArmTextsComplete, ArmsCompleteMatch, VerdictEndsAtLiterals};
 ghost use Rattle.arm_laws.specs.VerdictLaws.{VerdictTextsAreReferred};
 
 /// The ranges in the witnesses of a verdict end at literals or lie beyond them.
@@ -16,4 +16,10 @@ pub fn verdict_texts_are_referred()
 /// patterns the function breaks no rule and is exhaustive, and a value comes to each.
 pub fn arm_texts_complete()
     ensures { ArmTextsComplete }
+{}
+
+/// So it is for each function that breaks no rule, in a file that the tokens of a source spell and of which no item
+/// breaks a rule on declarations.
+pub fn arms_complete_match()
+    ensures { ArmsCompleteMatch }
 {}

@@ -5,8 +5,10 @@ use Rattle.std.specs.Prelude.{◌==◌, slice_get, String, string_bytes}
 use Rattle.std.specs.declared.alloc.Global.{Global}
 use Rattle.std.proofs.lemmas.Bool.Decides.{nat_tests}
 use Rattle.std.proofs.lemmas.List.Elements.{All-cons, All-nil}
+use Rattle.arm_laws.specs.VerdictLaws.{ArmsCompleteMatch, IsFound}
 use Rattle.arm_maker.specs.Arms.{AreArms, are_small}
 use Rattle.arm_maker.specs.Order.{IsOneFirst}
+use Rattle.decl_lexer.specs.Lexing.{Placed}
 use Rattle.decl_syntax.specs.Functions.{FunctionTree}
 use Rattle.decl_syntax.specs.Items.{ItemTree}
 use Rattle.match_model.specs.Declarations.{MProgram}
@@ -32,6 +34,7 @@ use Rattle.match_top.specs.declared.words.Command.{Command}
 use Rattle.match_top.specs.declared.words.Command.TheVariants.{Arms}
 use Rattle.match_top.specs.Reports.{numbered, too_large, ShowsArms, has_arms, is_too_large, IsFineEntry, IsEntry, is_judged, is_no_arm}
 use Rattle.match_top.specs.Reporting.{setting_in, IsFineFunction, IsVerdictFor}
+use Rattle.match_top.proofs.Entries.{contains_at}
 
 -- a refusal by a rule that tells the item alone
 abbrev pub refusal_with : (rule number : ℕ) → Refusal
@@ -75,14 +78,36 @@ module _ (x : Source) (items : List ItemTree) (number : ℕ) (f : FunctionTree) 
       is_judged (subst (λ (c : Command). IsFineEntry c (setting_in x items) (numbered number f) e) (sym is)
       (record { fine = fine.fine; exhaustive = j.exhaustive; unreachable = map by_offset (plain_entries j.unreachable.items); witnesses = map plain_witness j.witnesses.items; verdict = verdict; shows = show }))
 
-  pub arms_entry : (command : Command) (name : List ℕ) (texts : List (List ℕ)) → command ≡ Arms → name ≡ f.name
+  -- tokens spell the file, and these are the witnesses of the function's verdict
+  found : (bytes : List ℕ) × (tokens : List Placed) × IsFound bytes tokens (setting_in x items) f (map plain_witness j.witnesses.items)
+  found =
+      let spelled = fine.sound.spelled in (
+        spelled.0,
+        spelled.1,
+        record {
+          lexed = spelled.2;
+          spelled = spelled.3;
+          unbroken = fine.sound.table_is.unbroken;
+          item = fine.stands.item;
+          among = contains_at items number fine.stands.item fine.stands.there;
+          is = fine.stands.is;
+          fine = fine.fine;
+          exhaustive = j.exhaustive;
+          unreachable = map by_offset (plain_entries j.unreachable.items);
+          verdict = verdict;
+        },
+      )
+
+  pub arms_entry : ArmsCompleteMatch → (command : Command) (name : List ℕ) (texts : List (List ℕ)) → command ≡ Arms → name ≡ f.name
       → AreArms (table_program x.table.now) (table_type x.table.now ty) (map plain_witness j.witnesses.items) texts
       → IsEntry command (setting_in x items) (numbered number f) (ArmedFunction name texts)
-  arms_entry command name texts is name_is arms =
+  arms_entry complete command name texts is name_is arms =
       let ws = map plain_witness j.witnesses.items in
+      let there : AreArms (program (setting_in x items)) (scrutinee_type (setting_in x items) f) ws texts =
+      subst (λ (p : MProgram). AreArms p (scrutinee_type (setting_in x items) f) ws texts) fine.sound.table_is.program
+      (subst (λ (t : MType). AreArms (table_program x.table.now) t ws texts) type_is arms) in
       armed command (ArmedFunction name texts) is
-      (has_arms texts
-      (subst (λ (p : MProgram). AreArms p (scrutinee_type (setting_in x items) f) ws texts) fine.sound.table_is.program (subst (λ (t : MType). AreArms (table_program x.table.now) t ws texts) type_is arms))
+      (has_arms texts there (complete found.0 found.1 (setting_in x items) f ws texts found.2 there)
       (ap (λ (n : List ℕ). ArmedFunction n texts) name_is))
 
   pub large_entry : (command : Command) (name : List ℕ) (r : Refusal) → command ≡ Arms → name ≡ f.name → r ≡ too_large number

@@ -125,9 +125,9 @@ true_is_false e = absurd (not_same e)
 
 -- so one entry shows them
 arms_same : (s : Setting) (number : ℕ) (f : FunctionTree) (ws : List MWitness) (e d : ReportEntry) → ShowsArms s number f ws e → ShowsArms s number f ws d → e ≡ d
-arms_same s number f ws e d (has_arms texts a is) (has_arms others b other) = is ∙ ap (ArmedFunction f.name) (texts_same s f ws texts others a b) ∙ sym other
-arms_same s number f ws e d (has_arms texts a is) (is_too_large b other) = true_is_false (sym a.small ∙ b)
-arms_same s number f ws e d (is_too_large a is) (has_arms others b other) = true_is_false (sym b.small ∙ a)
+arms_same s number f ws e d (has_arms texts a whole is) (has_arms others b all other) = is ∙ ap (ArmedFunction f.name) (texts_same s f ws texts others a b) ∙ sym other
+arms_same s number f ws e d (has_arms texts a whole is) (is_too_large b other) = true_is_false (sym a.small ∙ b)
+arms_same s number f ws e d (is_too_large a is) (has_arms others b all other) = true_is_false (sym b.small ∙ a)
 arms_same s number f ws e d (is_too_large a is) (is_too_large b other) = is ∙ sym other
 
 -- where a function has the entry of one that breaks no rule, it breaks none

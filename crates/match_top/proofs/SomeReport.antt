@@ -2,7 +2,8 @@
 use Rattle.std.proofs.Common.{◌≡◌, ◌∙◌, ◌⊎◌, ℕ, zero, suc, ◌+◌, Bool, true, false, List, [], ◌∷◌, ◌++◌, Option, Some, None, inl, inr, refl, sym, ap, arith}
 use Rattle.std.specs.List.{AllZip, list_all, Contains}
 use Rattle.std.specs.Prelude.{slice_get, IsTrue}
-use Rattle.arm_maker.specs.Arms.{are_small, patterns_of}
+use Rattle.arm_laws.specs.VerdictLaws.{ArmsCompleteMatch, IsFound}
+use Rattle.arm_maker.specs.Arms.{AreArms, are_small, patterns_of}
 use Rattle.arm_maker.proofs.Typed.{IsOfType}
 use Rattle.decl_lexer.specs.Lexing.{Placed, HasTokens}
 use Rattle.decl_parser.specs.FileGrammar.{IsFile}
@@ -77,9 +78,9 @@ entry_by command s f of_fine (Some x) fault = (
 entry_by command s f of_fine None fine = let e = of_fine fine in (e.0, is_judged e.1)
 
 -- what the laws of rules, of spelled functions, of sound files and of verdicts tell of entries
-module _ (walk_tells : WalkTells) (spelled_functions : ParsedFunctionsAreSpelled) (sound_files : FilesAreSound) (some_verdict : SomeVerdict) (some_overlaps : SomeOverlaps) where
+module _ (walk_tells : WalkTells) (spelled_functions : ParsedFunctionsAreSpelled) (sound_files : FilesAreSound) (some_verdict : SomeVerdict) (some_overlaps : SomeOverlaps) (complete : ArmsCompleteMatch) where
   -- a function of a file that tokens spell
-  module _ (source : List ℕ) (tokens : List Placed) (s : Setting) (i : ℕ) (f : NumberedFunction) (lexed : HasTokens source tokens) (spelled : IsFile (units tokens) s.items) (sound : IsSoundFile s)
+  module _ (source : List ℕ) (tokens : List Placed) (s : Setting) (i : ℕ) (f : NumberedFunction) (lexed : HasTokens source tokens) (spelled : IsFile (units tokens) s.items) (unbroken : BreaksNone s.items s.width) (sound : IsSoundFile s)
       (at : StandsAt s.items i f.function) (fine : patterns.BreaksNone s f.function) where
     among : Contains s.items at.item
     among = contains_at s.items i at.item at.there
@@ -103,6 +104,21 @@ module _ (walk_tells : WalkTells) (spelled_functions : ParsedFunctionsAreSpelled
           record { fine = fine; exhaustive = v.0; unreachable = v.1; witnesses = v.2; verdict = v.3; overlaps = os.0; overlaps_are = os.1; tree = None; tree_is = refl; shows = refl },
         )
 
+    found_there : (exhaustive : Bool) (unreachable : List Entry) (witnesses : List MWitness) → IsVerdictOn s f.function exhaustive unreachable witnesses
+        → IsFound source tokens s f.function witnesses
+    found_there exhaustive unreachable witnesses verdict = record {
+      lexed = lexed;
+      spelled = spelled;
+      unbroken = unbroken;
+      item = at.item;
+      among = among;
+      is = at.is;
+      fine = fine;
+      exhaustive = exhaustive;
+      unreachable = unreachable;
+      verdict = verdict;
+    }
+
     armed_by : (exhaustive : Bool) (unreachable : List Entry) (witnesses : List MWitness) → IsVerdictOn s f.function exhaustive unreachable witnesses
         → (small : Bool) → are_small (program s) (scrutinee_type s f.function) witnesses ≡ small → (e : ReportEntry) × IsFineEntry Arms s f e
     armed_by exhaustive unreachable witnesses verdict false e = (
@@ -112,7 +128,8 @@ module _ (walk_tells : WalkTells) (spelled_functions : ParsedFunctionsAreSpelled
     armed_by exhaustive unreachable witnesses verdict true e =
         let typed = each_contained (IsOfType (program s) (scrutinee_type s f.function)) witnesses verdict.typed in
         let o = some_order (program s) (scrutinee_type s f.function) witnesses typed (one_first witnesses verdict.cover.ascending) in
-        let texts = patterns_of (program s) (scrutinee_type s f.function) o.0 in (
+        let texts = patterns_of (program s) (scrutinee_type s f.function) o.0 in
+        let arms_are : AreArms (program s) (scrutinee_type s f.function) witnesses texts = record { sorted = o.0; in_order = o.1; small = e; texts_are = refl } in (
           ArmedFunction f.function.name texts,
           record {
             fine = fine;
@@ -120,7 +137,7 @@ module _ (walk_tells : WalkTells) (spelled_functions : ParsedFunctionsAreSpelled
             unreachable = unreachable;
             witnesses = witnesses;
             verdict = verdict;
-            shows = has_arms texts (record { sorted = o.0; in_order = o.1; small = e; texts_are = refl }) refl;
+            shows = has_arms texts arms_are (complete source tokens s f.function witnesses texts (found_there exhaustive unreachable witnesses verdict) arms_are) refl;
           },
         )
 
@@ -131,13 +148,13 @@ module _ (walk_tells : WalkTells) (spelled_functions : ParsedFunctionsAreSpelled
   some_entry_of source tokens s k f lexed spelled unbroken there =
       let at = stands_behind 0 s.items k f there in
       let sound : IsSoundFile s = sound_files (units tokens) s spelled unbroken in
-      entry_by Check s f (checked source tokens s at.0 f lexed spelled sound at.2) (first_fault s f.function) (walk_tells s f.function)
+      entry_by Check s f (checked source tokens s at.0 f lexed spelled unbroken sound at.2) (first_fault s f.function) (walk_tells s f.function)
 
   pub some_arms_of : SomeEntry Arms
   some_arms_of source tokens s k f lexed spelled unbroken there =
       let at = stands_behind 0 s.items k f there in
       let sound : IsSoundFile s = sound_files (units tokens) s spelled unbroken in
-      entry_by Arms s f (armed source tokens s at.0 f lexed spelled sound at.2) (first_fault s f.function) (walk_tells s f.function)
+      entry_by Arms s f (armed source tokens s at.0 f lexed spelled unbroken sound at.2) (first_fault s f.function) (walk_tells s f.function)
 
 -- where each function has an entry, there is a report
 module _ (command : Command) (some : SomeEntry command) where

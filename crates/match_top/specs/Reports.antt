@@ -8,6 +8,7 @@ use Rattle.match_model.specs.Trees.{MNode}
 use Rattle.match_model.specs.Unreachable.{Entry}
 use Rattle.match_model.specs.Witness.{MWitness}
 use Rattle.type_table.specs.Faults.{BreaksNone}
+use Rattle.arm_laws.specs.Completes.{Completes}
 use Rattle.arm_maker.specs.Arms.{AreArms, are_small}
 use Rattle.pattern_rules.specs.Faults as patterns
 use Rattle.pattern_rules.specs.Faults.{IsFirstPatternFault, scrutinee_type}
@@ -113,9 +114,9 @@ pub record IsRefusedFunction (s : Setting) (number : ℕ) (f : FunctionTree) (e 
 abbrev pub too_large : (number : ℕ) → Refusal
 too_large number = record { rule = 50; item = Some number; arm = None; at = None }
 
--- the entry shows the arms to add for these witnesses, or it tells that one would be too large
+-- the entry shows the arms to add for these witnesses, which complete the match, or it tells that one would be too large
 pub data ShowsArms (s : Setting) (number : ℕ) (f : FunctionTree) (witnesses : List MWitness) (e : ReportEntry) : Type 0 where
-  has_arms : (texts : List (List ℕ)) → AreArms (program s) (scrutinee_type s f) witnesses texts →
+  has_arms : (texts : List (List ℕ)) → AreArms (program s) (scrutinee_type s f) witnesses texts → Completes s f texts →
       e ≡ ArmedFunction f.name texts → ShowsArms s number f witnesses e
   is_too_large : are_small (program s) (scrutinee_type s f) witnesses ≡ false →
       e ≡ RefusedFunction f.name (too_large number) → ShowsArms s number f witnesses e

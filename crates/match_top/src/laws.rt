@@ -4,6 +4,7 @@ ghost use Rattle.match_top.specs.Laws.{OneAnswer, OneFirstFault, OneEntry, SomeE
 ghost use Rattle.match_top.specs.Laws.{EntriesAreWithoutTrees, AnswersAreWithoutTrees};
 ghost use Rattle.match_top.specs.declared.words.Command.TheVariants.{Check, Arms};
 
+use arm_laws::verdict_laws::arms_complete_match;
 use decl_lexer::{one_fault as one_lexing_fault, one_token_list, tokens_or_fault};
 use decl_parser::{file_or_fault, one_fault, one_file};
 use pattern_laws::laws::{
@@ -52,6 +53,7 @@ pub fn one_entry()
     files_are_sound();
     some_verdict();
     some_overlaps();
+    arms_complete_match();
 }
 
 /// A file that the tokens of a source spell, and of which no item breaks a rule on declarations, has a report for `check`
@@ -65,6 +67,7 @@ pub fn some_report()
     files_are_sound();
     some_verdict();
     some_overlaps();
+    arms_complete_match();
 }
 
 /// What `check` has for a function or a file is what `trees` has, without the decision trees, and with the same status.

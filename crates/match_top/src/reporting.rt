@@ -23,6 +23,7 @@ use crate::refusals::refusal_of;
 use crate::source::Source;
 use crate::trees::{named_tree, tree_of};
 use crate::words::Command;
+use arm_laws::verdict_laws::arms_complete_match;
 use arm_maker::{ArmFault, arm_texts};
 use bumpalo::Bump;
 use decl_lexer::Name;
@@ -265,6 +266,7 @@ fn add_armed(
         → ReportsOn command (setting_in source.now whole) fs so_far
         → IfOk result (ReportsOn command (setting_in source.now whole) (fs ++ numbered number (function_view f) ∷ [])) }
 {
+    arms_complete_match();
     let arena = Bump::new(alloc);
     let placer = Placer::new(&arena);
     let m = match_of(alloc, source, &placer, number, &f)?;

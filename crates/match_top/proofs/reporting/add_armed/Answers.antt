@@ -54,7 +54,7 @@ returns-in-Ok g c = λ command is fs h.
     let arms = subst (λ (ws : List Witness). AreArms (table_program x.table.now) (table_type x.table.now c.in_ok-m.m.ty) (map plain_witness ws) (map string_bytes c.in-Ok.texts.items)) c.deref.ensures.value c.in-Ok.ensures.arms in
     c.add_texts.ensures command (setting_in x g.whole) fs (numbered c.args.number f) h
     (subst (λ (ts : List (String Global)). IsEntry command (setting_in x g.whole) (numbered c.args.number f) (ArmedFunction c.as_str.result.now (map string_bytes ts))) (sym c.deref-in-Ok.ensures.value)
-    (arms_entry x g.whole c.args.number f c.in_ok-m.m.ty c.in_ok-judgement.judgement c.requires.0 made.shown.type_is verdict command _ (map string_bytes c.in-Ok.texts.items) is c.as_str.ensures.value arms))
+    (arms_entry x g.whole c.args.number f c.in_ok-m.m.ty c.in_ok-judgement.judgement c.requires.0 made.shown.type_is verdict c.arms_complete_match.ensures command _ (map string_bytes c.in-Ok.texts.items) is c.as_str.ensures.value arms))
     (omega (arith, length-map c.args.f.arms.items arm_view, c.len-count.ensures))
 
 pub returns-in-Err-Rule : goal.returns-in-Err-Rule
