@@ -2,7 +2,8 @@
 
 It reads `.rt` files by their tokens, without types: a call is a name before `(` or `::<`, so two functions of one
 name count as one where nothing tells them apart. Names are those that a check prints: the modules of a file, then the
-type, then for a method of a trait's impl the trait too.
+type, then for a method of a trait's impl the trait too. A method of a type's own impl is named by the module that
+declares the type (`homes`).
 """
 import dataclasses
 import pathlib
@@ -139,11 +140,22 @@ def cycle_of(words):
     return words[at + 2] if words[at + 1 : at + 2] == ["("] else ""
 
 
-class Reader:
-    """Reads one file."""
+def homes(texts):
+    """The modules of the types that the files of a crate declare, by name, where just one file declares the name."""
+    found = {}
+    for file, text in texts.items():
+        line = tokens(text)
+        for before, after in zip(line, line[1:]):
+            if before.kind == after.kind == "word" and before.text in ("struct", "enum", "union"):
+                found.setdefault(after.text, set()).add(module_of(file))
+    return {name: next(iter(modules)) for name, modules in found.items() if len(modules) == 1}
 
-    def __init__(self, crate, file, text):
-        self.crate, self.file, self.text = crate, file, text
+
+class Reader:
+    """Reads one file, with the modules of the crate's types where these are known."""
+
+    def __init__(self, crate, file, text, places=None):
+        self.crate, self.file, self.text, self.places = crate, file, text, places or {}
         self.line = tokens(text)
         self.found = []
 
@@ -218,7 +230,8 @@ class Reader:
             generics = generics + parameters(line[at + 2 : angled(line, at + 2)])
         if "impl" in (token.text for token in line[at : body[0]]):
             generics = generics + ("impl",)
-        words = path + tuple(part for part in (owner + trait,) if part) + (name,)
+        home = self.places.get(owner, path) if owner and not trait else path
+        words = home + tuple(part for part in (owner + trait,) if part) + (name,)
         head = line[first].start if first < len(line) else line[at].start
         is_bare = "pub" in before and before[before.index("pub") + 1 : before.index("pub") + 2] != ["("]
         self.found.append(

@@ -31,7 +31,7 @@ class Edit:
         """Finds the functions that it changes, or says why it is tried alone."""
         changed = []
         for path, text in self.texts.items():
-            found = path.endswith(".rt") and changed_bodies(self.crate, path, sources.texts[path], text)
+            found = path.endswith(".rt") and changed_bodies(sources, path, text)
             if not found:
                 self.odd = f"it changes more of {path} than bodies of functions"
                 return
@@ -46,12 +46,17 @@ class Sources:
 
     def __init__(self, crate):
         self.crate, self.texts = crate, self.texts_of(crate)
+        code = {path: text for path, text in self.texts.items() if path.startswith("src/") and path.endswith(".rt")}
+        self.homes = functions.homes(code)
         self.all = []
-        for path in sorted(self.texts):
-            if path.startswith("src/") and path.endswith(".rt"):
-                self.all += functions.Reader(crate, path, self.texts[path]).read()
+        for path in sorted(code):
+            self.all += self.functions_in(path, code[path])
         self.unit = {it.path: unit_of(it) for it in self.all}
         self.below = closure(self.calls())
+
+    def functions_in(self, path, text):
+        """The functions of a text of one of the crate's files."""
+        return functions.Reader(self.crate, path, text, self.homes).read()
 
     @staticmethod
     def texts_of(crate):
@@ -85,7 +90,10 @@ class Sources:
         """Whether the proof of each function that an edit changes can be started: no cycle, and no answers needed."""
         for it in edit.changed:
             folder = "proofs/" + it.path.replace("::", "/") + "/"
-            if it.cycle or any(path.startswith(folder) and path != folder + "Invariants.antt" for path in self.texts):
+            alone = "/".join([*folder.split("/")[:-2], "+" + it.name, ""])
+            if it.cycle or any(path.startswith(alone) for path in self.texts):
+                return False
+            if any(path.startswith(folder) and path != folder + "Invariants.antt" for path in self.texts):
                 return False
         return True
 
@@ -163,10 +171,11 @@ def outside(text, found):
     return rest + [text[at:]]
 
 
-def changed_bodies(crate, path, before, after):
-    """The functions of a file whose bodies differ, where nothing else does."""
+def changed_bodies(sources, path, after):
+    """The functions of a file whose bodies differ from those of another text of it, where nothing else does."""
+    before = sources.texts[path]
     try:
-        old, new = functions.Reader(crate, path, before).read(), functions.Reader(crate, path, after).read()
+        old, new = sources.functions_in(path, before), sources.functions_in(path, after)
     except ValueError:
         return []
     if outside(before, old) != outside(after, new):

@@ -13,8 +13,9 @@ import tempfile
 
 import planning
 
-REFUSED, THROUGH, OTHER, UNREAD, GONE, UNSURE = (
+REFUSED, OUTDATED, THROUGH, OTHER, UNREAD, GONE, UNSURE = (
     "refused",
+    "refused by a proof that names what is gone",
     "let through",
     "refused only through another function",
     "does not compile",
@@ -87,9 +88,12 @@ def owned(name, unit):
     return plain == unit or plain.startswith(unit + "::")
 
 
-def folder_of(path, sources):
-    """The folder of the proof files of a function, or of its cycle of calls."""
-    return "proofs/" + sources.unit[path].replace("::", "/")
+def folders_of(path, sources):
+    """The folders that a function's proof files may be in: that of the function or of its cycle of calls, and that of a
+    function that calls itself.
+    """
+    parts = ["proofs", *sources.unit[path].split("::")]
+    return "/".join(parts) + "/", "/".join([*parts[:-1], "+" + parts[-1]]) + "/"
 
 
 def lines_of(function, text):
@@ -98,27 +102,25 @@ def lines_of(function, text):
 
 
 def own_errors(said, function, sources, text):
-    """The errors in the function's own proof files or in its own body, but for those of a name that is gone."""
+    """The errors in the function's own proof files or in its own body, each with whether a name is gone there."""
     first, last = lines_of(function, text)
-    folder = folder_of(function.path, sources)
+    folders = folders_of(function.path, sources)
     for path, line, told in ERROR.findall(said):
-        is_own = path.startswith(folder + "/") or (path == function.file and first <= int(line) <= last)
-        if is_own and not NAMES.search(re.sub(r"`[^`]*`", "", told)):
-            yield f"{path}:{line}: {told}"
+        if path.startswith(folders) or (path == function.file and first <= int(line) <= last):
+            yield f"{path}:{line}: {told}", bool(NAMES.search(re.sub(r"`[^`]*`", "", told)))
 
 
-def function_now(function, texts):
+def function_now(function, sources, texts):
     """The same function where the edits have moved it."""
-    text = texts[function.file]
-    for it in planning.functions.Reader(function.crate, function.file, text).read():
+    for it in sources.functions_in(function.file, texts[function.file]):
         if it.path == function.path:
             return it
     return function
 
 
 def signs(said, edit, sources, texts):
-    """The signs that the goals of an edit's own functions refuse it, and what the check says of these functions."""
-    found, told = [], []
+    """What refuses an edit in its own functions' goals, the names that are gone there, and what is said of these."""
+    found, gone, told = [], [], []
     for function in edit.changed:
         members = [path for path, unit in sources.unit.items() if unit == sources.unit[function.path]]
         for name, line in LINE.findall(said):
@@ -127,15 +129,19 @@ def signs(said, edit, sources, texts):
                 told.append(line)
                 if re.search(r"`search` did not prove `", line):
                     found.append(f"{name}: {line}")
-        found += own_errors(said, function_now(function, texts), sources, texts[function.file])
-    return found, told
+        now = function_now(function, sources, texts)
+        for error, is_name in own_errors(said, now, sources, texts[function.file]):
+            (gone if is_name else found).append(error)
+    return found, gone, told
 
 
 def verdict(said, edit, sources, texts):
     """What a check says of an edit, and why."""
-    found, told = signs(said, edit, sources, texts)
+    found, gone, told = signs(said, edit, sources, texts)
     if found:
         return REFUSED, found[0]
+    if gone and "not proved" in told:
+        return OUTDATED, gone[0]
     waits = any(f"has not tried the goals of `{edit.crate}::{it.path}`" in said for it in edit.changed)
     if told and not waits and all(line == "proved" for line in told):
         return THROUGH, "each function that it changes is proved"
@@ -172,12 +178,15 @@ def judged(check, sources, edits, flag="--only"):
 def settled(check, sources, edits, flag):
     """The same, where each edit that is not refused for sure is tried once more without others, by a check.
 
-    Where that tells nothing either, as at a limit of the prover, `rt must-fail` decides.
+    Where its proof then names what is gone, it counts as refused, as `rt must-fail` has it. Where the check tells
+    nothing, as at a limit of the prover, `rt must-fail` decides.
     """
     found = judged(check, sources, edits, flag)
     for edit in edits:
-        if found[edit][0] in (OTHER, UNSURE) or (flag == "--start" and found[edit][0] == THROUGH):
+        if found[edit][0] in (OTHER, OUTDATED, UNSURE) or (flag == "--start" and found[edit][0] == THROUGH):
             found.update(judged(check, sources, [edit]))
+        if found[edit][0] == OUTDATED:
+            found[edit] = REFUSED, found[edit][1]
         if found[edit][0] == UNSURE:
             found.update(tried_alone([edit]))
     return found
