@@ -32,7 +32,7 @@ use verdict_json::demo_bytes;
 
 /// What is written, and the status of a run that has written it.
 #[derive(Drop)]
-pub(crate) struct Answer {
+pub struct Answer {
     pub text: Vec<u8>,
     pub status: Status,
 }

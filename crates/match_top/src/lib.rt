@@ -11,11 +11,13 @@
 //! a function, the engine's verdict on it, and which of its ranges overlap), `trees` (its decision tree, where it is asked
 //! for). For the outcome of one value: `evaluating` (the function, its first fault, the value), `finding` (the function by its name), `telling` (the values of names as they are shown); what
 //! the arms of its match do with the value is told by `first_match`. `refusals` has what both refuse.
+//! `report` (in `embedding`) has the same answers for a source that lies in memory.
 //! `laws` says that a file has one answer, and that no function is left out of a report.
 #![tactic(auto)]
 
 mod answering;
 mod demo_words;
+mod embedding;
 mod evaluating;
 mod finding;
 mod judging;
@@ -32,9 +34,11 @@ mod trees;
 mod words;
 mod writing;
 
+pub use answering::Answer;
 pub use demo_file::demo_source;
+pub use embedding::report;
 pub use laws::{check_is_without_trees, one_answer, one_entry, one_first_fault, some_report};
 pub use option_words::Options;
 pub use statuses::Status;
 pub use top::run;
-pub use words::Command;
+pub use words::{Command, Evaluation, Question, Request};

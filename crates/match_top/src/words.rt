@@ -20,9 +20,10 @@ pub enum Command {
     Arms,
 }
 
-/// A function, a value of its scrutinee as it is written, and the answers of the guards, a letter each.
+/// A function, a value of its scrutinee as it is written, and the answers of the guards, a letter each: `t` accepts, any
+/// other refuses.
 #[derive(Clone, Copy)]
-pub(crate) struct Evaluation<'w> {
+pub struct Evaluation<'w> {
     pub function: &'w str,
     pub value: &'w str,
     pub answers: &'w str,
@@ -30,7 +31,7 @@ pub(crate) struct Evaluation<'w> {
 
 /// What is asked of a file.
 #[derive(Clone, Copy)]
-pub(crate) enum Question<'w> {
+pub enum Question<'w> {
     /// The report on all functions.
     Report(Command),
     /// What the match of one function does with a value.
@@ -41,7 +42,7 @@ pub(crate) enum Question<'w> {
 
 /// What is asked of a file, and by which options the file is read.
 #[derive(Clone, Copy)]
-pub(crate) struct Request<'w> {
+pub struct Request<'w> {
     pub question: Question<'w>,
     pub options: Options,
 }
