@@ -70,7 +70,7 @@ def optimising(folder, target):
 
 def needed(crates):
     """The lines of crates.txt of these crates and of those that they stand on, in its order."""
-    lines = {line.split(":")[0]: line for line in (ROOT / "crates.txt").read_text().splitlines() if ":" in line}
+    lines = {line.split(":")[0].split()[0]: line for line in (ROOT / "crates.txt").read_text().splitlines() if ":" in line}
     found, open_names = set(), list(crates)
     while open_names:
         name = open_names.pop()

@@ -202,7 +202,7 @@ def tried_alone(edits):
                 os.path.join(room, "crates", name),
                 ignore=shutil.ignore_patterns("must-fail", "incremental"),
             )
-        lines = [line for line in lines_of_crates() if os.path.isdir(os.path.join(room, "crates", line.split(":")[0]))]
+        lines = [line for line in lines_of_crates() if os.path.isdir(os.path.join(room, "crates", line.split(":")[0].split()[0]))]
         with open(os.path.join(room, "crates.txt"), "w", encoding="utf-8") as file:
             file.write("\n".join(lines) + "\n")
         shutil.copy(os.path.join(planning.TOP, "HANDLES"), room)
@@ -232,7 +232,7 @@ def lines_of_crates():
 
 def below(crate):
     """The crates that a crate stands on."""
-    uses = {line.split(":")[0]: line.split(":")[1].split() for line in lines_of_crates()}
+    uses = {line.split(":")[0].split()[0]: line.split(":")[1].split() for line in lines_of_crates()}
     found, left = [], list(uses[crate])
     while left:
         name = left.pop()
