@@ -41,7 +41,7 @@ enum {
 
 /* How a call ended. */
 enum {
-    MATCHCHECK_CLEAN = 0,     /* nothing is missing, and no rule is broken; of MATCHCHECK_EVAL: an arm takes the value */
+    MATCHCHECK_CLEAN = 0,     /* nothing is missing, no rule is broken; of MATCHCHECK_EVAL: an arm takes the value */
     MATCHCHECK_FOUND = 1,     /* a match is not exhaustive, or a rule is broken; of MATCHCHECK_EVAL: no arm takes it */
     MATCHCHECK_NO_FORM = 2,   /* the question stands for nothing; of matchcheck_explain: there is no such report */
     MATCHCHECK_REFUSED = 3,   /* the source is refused as a whole; of MATCHCHECK_EVAL: also the function or the value */
@@ -79,7 +79,8 @@ struct matchcheck_told matchcheck_report(const struct matchcheck_question *quest
                                          uint8_t *room, size_t room_length);
 
 /* Puts the text for people that a report of MATCHCHECK_CHECK has beside its source into the room. The text shows the
-   source under this name, which is in UTF-8. MATCHCHECK_NO_FORM says that the report is none, or is of another source. */
+   source under this name, which is in UTF-8. MATCHCHECK_NO_FORM says that the report is none, or is of another
+   source. */
 struct matchcheck_told matchcheck_explain(const uint8_t *name, size_t name_length,
                                           const uint8_t *source, size_t source_length,
                                           const uint8_t *report, size_t report_length,
@@ -89,7 +90,8 @@ struct matchcheck_told matchcheck_explain(const uint8_t *name, size_t name_lengt
    KIT/c/liblibc_c.a has them over malloc, realloc and free; examples/embed/c/heap.c has them as a text to start from.
 
    - rattle_alloc gives a block of so many bytes, aligned to `align`, which is a power of two up to 16.
-   - rattle_realloc gives a block of `size` bytes for one of `old` bytes, with its first bytes. A refusal leaves the old one.
+   - rattle_realloc gives a block of `size` bytes for one of `old` bytes, with its first bytes. A refusal leaves the
+     old block as it is.
    - rattle_dealloc takes back a block that one of the two gave.
    - Each may be called by several threads at once.
    - `ok` is 1 and `at` the block, or `ok` is 0 where memory is refused. Where `size` is 0 the block may be any address

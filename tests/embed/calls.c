@@ -5,8 +5,12 @@
        calls threads N COUNT    N threads with so many calls each
        calls speed SECONDS      calls in so many seconds of one processor
 
-   Standard input has a case a line, in words: `report COMMAND WIDTH EDITION FUNCTION VALUE ANSWERS SOURCE STATUS TEXT` or
-   `explain NAME SOURCE REPORT STATUS TEXT`. Numbers are decimal. A text is the name of a file that holds it.
+   Standard input has a case a line, in words:
+
+       report COMMAND WIDTH EDITION FUNCTION VALUE ANSWERS SOURCE STATUS TEXT
+       explain NAME SOURCE REPORT STATUS TEXT
+
+   Numbers are decimal. A text is the name of a file that holds it.
    The last line says what was tried; the exit status is 1 where an answer is another one. */
 #define _POSIX_C_SOURCE 200809L
 #include "matchcheck.h"

@@ -112,10 +112,12 @@ def add_worked(cases, longest):
 def add_formless(cases):
     """Questions and reports that stand for nothing."""
     plain = (0, 0, 2024, b"", b"", b"")
-    for place, numbers in ((0, (4, 5, 255)), (1, (1, 8, 15, 17, 128, 255)), (2, (0, 1, 2015, 2018, 2022, 2023, 2025, 65535))):
+    numbers_of = ((4, 5, 255), (1, 8, 15, 17, 128, 255), (0, 1, 2015, 2018, 2022, 2023, 2025, 65535))
+    for place, numbers in enumerate(numbers_of):
         for number in numbers:
             cases.report((*plain[:place], number, *plain[place + 1 :]), PLAIN, NO_FORM, b"")
-    for texts in ((b"\xff", b"true", b""), (b"f", b"\xc3", b""), (b"f", b"true", b"x"), (b"f", b"true", b"tfT"), (b"f", b"true", b"\xff")):
+    formless = [(b"\xff", b"true", b""), (b"f", b"\xc3", b"")]
+    for texts in formless + [(b"f", b"true", answers) for answers in (b"x", b"tfT", b"\xff")]:
         cases.report((3, 0, 2024, *texts), PLAIN, NO_FORM, b"")
     run = worked()
     cases.explain(b"\xff.rs", run.FILE.encode(), b'{"functions":[]}', NO_FORM, b"")

@@ -39,7 +39,8 @@ pub record IsExplained (name source report text : List ℕ) (number : ℕ) : Typ
   pub told : HasOutcome name source report (Told text breaks)
   pub numbered : status_number (explained_status breaks) ≡ number
 
--- there is nothing to tell: the name or the report is no UTF-8, the report is none, or a place of it is not in the source
+-- there is nothing to tell: the name or the report is no UTF-8, the report is none, or a place of it is not in the
+-- source
 pub data IsUntold (name source report : List ℕ) : Type 0 where
   no_name : is_utf8 name ≡ false → IsUntold name source report
   no_text : is_utf8 report ≡ false → IsUntold name source report

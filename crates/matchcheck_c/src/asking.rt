@@ -3,7 +3,8 @@ ghost use Rattle.std.specs.Prelude.{◌≡◌, map, option_map};
 ghost use Rattle.std.specs.List.{list_all};
 ghost use Rattle.match_top.specs.Asked.{question_view, request_view};
 ghost use Rattle.match_top.specs.Words.{accepts, is_answer};
-ghost use Rattle.matchcheck_c.specs.Asking.{answers_of, edition_of, evaluation_of, form_of, request_of, text_of, width_of};
+ghost use Rattle.matchcheck_c.specs.Asking.{answers_of, edition_of, evaluation_of, form_of};
+ghost use Rattle.matchcheck_c.specs.Asking.{request_of, text_of, width_of};
 
 use match_model::Width;
 use match_top::{Command, Evaluation, Options, Request};

@@ -1,12 +1,12 @@
 //! The checker for programs in C, and in any language that calls C.
 //!
-//! There are two exports. [`matchcheck_report`] has the text and the status that the program `matchcheck` has for the bytes
-//! of a source. [`matchcheck_explain`] has the text that `matchexplain` prints of such a report beside its source. Each
-//! puts its text into room of the caller's, or leaves the room as it was. Nothing is kept between calls: there is no state
-//! and no lock, nothing is to be freed, and any number of threads may call at once.
+//! There are two exports. [`matchcheck_report`] has the text and the status that the program `matchcheck` has for the
+//! bytes of a source. [`matchcheck_explain`] has the text that `matchexplain` prints of such a report beside its
+//! source. Each puts its text into room of the caller's, or leaves the room as it was. Nothing is kept between calls:
+//! there is no state and no lock, nothing is to be freed, and any number of threads may call at once.
 //!
-//! `include/matchcheck.h` has both for C, with what a caller owes. In `asking` a question becomes a request of `match_top`,
-//! and `room` gives a text to the room.
+//! `include/matchcheck.h` has both for C, with what a caller owes. In `asking` a question becomes a request of
+//! `match_top`, and `room` gives a text to the room.
 #![tactic(auto)]
 
 ghost use Rattle.std.specs.Prelude.{◌≡◌, ◌↔◌, ◌⊎◌, List, ℕ, None, false};
@@ -28,9 +28,9 @@ use std::alloc::Global;
 
 /// The text and the status that a question has for a source.
 ///
-/// The statuses 0, 1 and 3 are those of the program, and with these the text stands at the front of the room. With 7 the
-/// room is too small, and `length` says how much the text takes. With 2 the question stands for no request, and with 6
-/// memory was refused. With these three the room is as it was.
+/// The statuses 0, 1 and 3 are those of the program, and with these the text stands at the front of the room. With 7
+/// the room is too small, and `length` says how much the text takes. With 2 the question stands for no request, and
+/// with 6 memory was refused. With these three the room is as it was.
 #[unsafe(no_mangle)]
 pub extern "C" fn matchcheck_report(
     alloc: Global,
@@ -60,9 +60,9 @@ pub extern "C" fn matchcheck_report(
 /// The text for people that a report has beside its source, in which the source has this name.
 ///
 /// With 0 and 1 the text stands at the front of the room: with 1 a match is not exhaustive or a rule is broken, with 0
-/// neither. With 7 the room is too small, and `length` says how much the text takes. With 2 there is nothing to tell: the
-/// name or the report is no UTF-8, the report is none, or a place of it is not in the source. With 6 memory was refused.
-/// With these three the room is as it was.
+/// neither. With 7 the room is too small, and `length` says how much the text takes. With 2 there is nothing to tell:
+/// the name or the report is no UTF-8, the report is none, or a place of it is not in the source. With 6 memory was
+/// refused. With these three the room is as it was.
 #[unsafe(no_mangle)]
 pub extern "C" fn matchcheck_explain(
     alloc: Global,

@@ -1,11 +1,11 @@
 //! The proved checker of Rust `match` expressions, for programs in Rust.
 //!
 //! [`report`] has the text and the verdict that the program `matchcheck` has for the bytes of a source. [`explain`] has
-//! the text that `matchexplain` prints of a report beside its source. Both are total: any bytes may be given. Nothing is
-//! kept between calls, and any number of threads may call at once. A thread needs 1 MiB of stack.
+//! the text that `matchexplain` prints of a report beside its source. Both are total: any bytes may be given. Nothing
+//! is kept between calls, and any number of threads may call at once. A thread needs 1 MiB of stack.
 //!
 //! `report` and `explain` are calls of a static library, of which the contract is proved. What stands in this crate is
-//! not: it hands slices over, tells statuses apart, and gives the library its memory from the program's global allocator.
+//! not: it hands slices over, tells statuses apart, and gives the library memory from the program's global allocator.
 //!
 //! ```
 //! use matchcheck::{Command, Options, Verdict, explain, report};
