@@ -2,7 +2,7 @@
 
        calls rooms              each case with no room, one byte too few, just enough, and more
        calls refusing           each case with each allocation refused in turn, alone and from there on
-       calls threads N COUNT    N threads with so many calls each
+       calls threads N COUNT    N threads with so many calls each, and with 1 MiB of stack each
        calls speed SECONDS      calls in so many seconds of one processor
 
    Standard input has a case a line, in words:
@@ -21,7 +21,7 @@
 #include <string.h>
 #include <time.h>
 
-enum { MOST_CASES = 20000, MARGIN = 64, FILLING = 0xa5 };
+enum { MOST_CASES = 20000, MARGIN = 64, FILLING = 0xa5, STACK = 1 << 20 };
 
 struct text {
     uint8_t *at;
@@ -282,9 +282,12 @@ static void *many(void *start) {
 
 static int all_threads(int count) {
     pthread_t threads[64];
+    pthread_attr_t small;
     long failed = 0;
+    if (count > 64 || pthread_attr_init(&small) != 0 || pthread_attr_setstacksize(&small, STACK) != 0)
+        fail("no such threads can be made", 0);
     for (int i = 0; i < count; i++)
-        if (pthread_create(&threads[i], NULL, many, (void *)(intptr_t)i) != 0)
+        if (pthread_create(&threads[i], &small, many, (void *)(intptr_t)i) != 0)
             fail("no thread can be made", 0);
     for (int i = 0; i < count; i++) {
         void *answer;
