@@ -1,0 +1,150 @@
+"use strict";
+/* Answers of the checker as elements of the page: findings, arms to add, trees, and what one value does. */
+
+const MOST_FINDINGS = 200, MOST_ARMS = 100;
+
+/* An element with these properties and this inside. */
+function made(tag, properties, ...inner) {
+  const element = Object.assign(document.createElement(tag), properties);
+  element.append(...inner);
+  return element;
+}
+
+const code = (text) => made("code", {}, text);
+
+/* A text of which the parts between backquotes are code. */
+function worded(text) {
+  return text.split("`").map((part, at) => (at % 2 ? code(part) : part));
+}
+
+function several(count, word) {
+  return `${count} ${word}${count === 1 ? "" : "s"}`;
+}
+
+/* A button that says where something is, and goes there. */
+function placeButton(source, span, go) {
+  const { line, column } = source.places.placeOf(span.from);
+  const properties = { type: "button", className: "place", onclick: () => go(span) };
+  return made("button", properties, `line ${line}, column ${column}`);
+}
+
+/* The line of a place, with what is meant marked. */
+function codeLine(source, span) {
+  const places = source.places, { line } = places.placeOf(span.from), begin = places.lineUnits[line - 1];
+  const text = places.text.slice(begin, begin + 2000).split("\n")[0], from = span.from - begin;
+  const to = Math.max(Math.min(span.to - begin, text.length), from);
+  const mark = made("mark", {}, text.slice(from, to) || " ");
+  const head = made("span", { className: "number" }, `${line} | `);
+  const shown = made("pre", { className: "line", tabIndex: 0 }, head, text.slice(0, from), mark, text.slice(to));
+  shown.setAttribute("aria-label", `Line ${line}`);
+  return shown;
+}
+
+/* A broken rule in words: its title and label, and its number with its name. */
+function ruleText({ rule, name }) {
+  const [title, label] = RULES[rule] ?? [name, name];
+  return `${title}: ${label} (rule ${rule}, ${name})`;
+}
+
+/* The arms to add to a match, and a button that puts them in. */
+function armsToAdd(arms, number, insert) {
+  if (!arms) return [];
+  if (arms.refused) return [made("p", {}, "The arms cannot be written: ", ...worded(ruleText(arms.refused)))];
+  const items = arms.arms.slice(0, MOST_ARMS).map((pattern) => made("li", {}, code(`${pattern} => todo!(),`)));
+  if (arms.arms.length > MOST_ARMS) items.push(made("li", {}, `and ${arms.arms.length - MOST_ARMS} more`));
+  const isOne = arms.arms.length === 1, what = isOne ? "this arm" : `these ${arms.arms.length} arms`;
+  const properties = { type: "button", className: "insert", onclick: () => insert(number, arms.arms) };
+  const head = made("p", {}, isOne ? "The arm to add:" : "The arms to add, in this order:");
+  const list = made("ul", { className: "arms" }, ...items);
+  return [head, list, made("button", properties, `Insert ${what} into ${arms.name}`)];
+}
+
+/* A place with its line. */
+function placed(source, span, go, before = "") {
+  return span ? [made("p", {}, before, placeButton(source, span, go)), codeLine(source, span)] : [];
+}
+
+/* A finding, with its line and its notes. */
+function findingItem(source, finding, arms, on) {
+  const level = finding.isError ? "error" : "warning";
+  const head = made("h3", {}, made("span", { className: "level" }, level), ": ", ...worded(finding.title));
+  const item = made("li", { className: `finding ${level}` }, head, ...placed(source, finding.span, on.go));
+  item.append(made("p", { className: "label" }, ...worded(finding.label)));
+  item.append(...placed(source, finding.other, on.go, "... with this range, "));
+  const toAdd = finding.missing === undefined ? null : arms?.functions?.[finding.missing];
+  // Where the arms are shown, they stand for the helps.
+  const notes = finding.notes.filter((note) => !toAdd || !note.startsWith("help: "));
+  item.append(made("ul", { className: "notes" }, ...notes.map((note) => made("li", {}, ...worded(note)))));
+  item.append(...armsToAdd(toAdd, finding.missing, on.insert));
+  return item;
+}
+
+/* All findings; `arms` is the answer of `arms`, or null. */
+function findingItems(source, findings, arms, on) {
+  const items = findings.slice(0, MOST_FINDINGS).map((finding) => findingItem(source, finding, arms, on));
+  const rest = findings.length - MOST_FINDINGS;
+  if (rest > 0) items.push(made("li", { className: "finding" }, `and ${rest} more`));
+  return items;
+}
+
+/* What `arms` says of each function. */
+function armsOfAll(source, answer, on) {
+  return answer.functions.map((entry, number) => {
+    const part = made("section", { className: "arms-of" }, made("h3", {}, "Arms of ", code(entry.name)));
+    if (entry.arms?.length === 0) part.append(made("p", {}, "The match is exhaustive: there is no arm to add."));
+    else part.append(...armsToAdd(entry, number, on.insert));
+    return part;
+  });
+}
+
+/* A picture in a frame that scrolls, or a sentence where there is none. */
+function framed(picture, { name, tree }) {
+  if (!picture) return made("p", {}, `The tree has ${tree.length} nodes, which are too many for a picture.`);
+  const frame = made("div", { className: "frame", tabIndex: 0, role: "group" }, picture);
+  frame.setAttribute("aria-label", `The picture of the tree of ${name}, which scrolls`);
+  return frame;
+}
+
+/* A tree in words, which are made when they are asked for. */
+function inWords(tree, lines) {
+  const summary = made("summary", {}, `The same in words: ${several(tree.length, "node")}`);
+  const words = made("details", {}, summary);
+  words.addEventListener("toggle", () => words.append(wordsOf(tree, lines)), { once: true });
+  return words;
+}
+
+/* The trees of a report, each as a picture and in words. */
+function treesOf(source, report) {
+  return (report.functions ?? []).flatMap((entry, number) => {
+    if (!entry.tree) return [];
+    const lines = source.armLines(number), picture = pictureOf(entry.name, entry.tree, lines);
+    const part = made("section", { className: "tree-of" }, made("h3", {}, "The tree of ", code(entry.name)));
+    part.dataset.name = entry.name;
+    part.append(framed(picture, entry), inWords(entry.tree, lines));
+    return [part];
+  });
+}
+
+/* What names are bound to, in words. */
+function bindings(list) {
+  if (list.length === 0) return ["binds nothing"];
+  const parts = list.map(({ mode, name, value }) => [code(name), ` (${mode}) to `, code(value)]);
+  return parts.flatMap((part, at) => [at === 0 ? "binds " : ", ", ...part]);
+}
+
+/* What one value does, by the answer of `eval`. */
+function outcomeOf(source, answer, name) {
+  if (answer.refused) return [made("p", { className: "outcome" }, ...worded(ruleText(answer.refused)))];
+  const lines = source.armLinesOf(name);
+  const said = {
+    took: () => `The value takes ${armText(answer.arm, lines)}.`,
+    missed: () => "No arm takes the value.",
+    short: () => "A guard is asked, and no answer is left for it.",
+  }[answer.outcome]();
+  const guard = ({ arm, bindings: bound }) => [`the guard of ${armText(arm, lines)} is asked; it `, ...bindings(bound)];
+  const asked = answer.asked.map((it) => made("li", {}, ...guard(it)));
+  const parts = [made("p", { className: "outcome" }, made("strong", {}, said))];
+  if (asked.length) parts.push(made("ol", {}, ...asked));
+  if (answer.arm !== null) parts.push(made("p", {}, "The arm ", ...bindings(answer.bindings), "."));
+  return parts;
+}
