@@ -10,7 +10,7 @@ import time
 
 NAMES = ("chromium-headless-shell", "chromium", "chromium-browser", "google-chrome")
 FLAGS = ("--headless", "--remote-debugging-pipe", "--no-sandbox", "--disable-gpu", "--hide-scrollbars")
-SECONDS = 120
+SECONDS = 180
 
 
 class Broken(Exception):
@@ -102,7 +102,7 @@ class Browser:
         """What a function of the page gives for these values."""
         return self.value(f"({text})({', '.join(map(json.dumps, given))})")
 
-    def wait(self, text, seconds=60):
+    def wait(self, text, seconds=SECONDS):
         """Waits until an expression of the page holds."""
         until = time.monotonic() + seconds
         while not self.value(text):

@@ -123,10 +123,9 @@ function straighten(layers) {
     for (const layer of layers) settle(layer, (part) => mean(part.above, part.x));
     for (const layer of [...layers].reverse()) settle(layer, (part) => mean(part.below, part.x));
   }
-  for (const layer of layers) settle(layer, (part) => mean([...part.above, ...part.below], part.x));
 }
 
-/* Gives each part its middle (x, y), and the picture its width and height. */
+/* Gives each part its middle (x, y) and where its layer begins and ends, and the picture its width and height. */
 function layOut(graph, sizeOf) {
   const { layers, edges } = partsOf(graph, sizeOf);
   order(layers);
@@ -138,6 +137,7 @@ function layOut(graph, sizeOf) {
     for (const part of layer) {
       part.x += GAP / 2 - left;
       part.y = y + height / 2;
+      [part.begin, part.end] = [y, y + height];
     }
     y += height + LAYER_GAP;
   }

@@ -75,16 +75,21 @@ function drawnLabel({ edge, x, y, width, height }) {
   return group;
 }
 
-/* The line of an edge through its parts, and its head. */
-function drawnEdge({ edge, way }) {
-  const end = way.at(-1), tip = end.y - end.height / 2;
-  let x = way[0].x, y = way[0].y + way[0].height / 2, line = `M${pointsOf([[x, y]])}`;
-  for (const part of way.slice(1)) {
-    const top = part === end ? tip - 6 : part.y - part.height / 2, middle = (y + top) / 2;
-    line += `C${pointsOf([[x, middle], [part.x, middle], [part.x, top]])}`;
-    [x, y] = [part.x, part.y + part.height / 2];
-    if (part !== end && part.height > 0) line += `L${pointsOf([[x, y]])}`;
+/* The line of an edge: straight through each layer, and bent between two of them. */
+function lineOf(way) {
+  let line = `M${pointsOf([[way[0].x, way[0].y]])}`;
+  for (let at = 1; at < way.length; at++) {
+    const above = way[at - 1], part = way[at], middle = (above.end + part.begin) / 2;
+    line += `L${pointsOf([[above.x, above.end]])}`;
+    line += `C${pointsOf([[above.x, middle], [part.x, middle], [part.x, part.begin]])}`;
   }
+  const end = way.at(-1);
+  return `${line}L${pointsOf([[end.x, end.y - end.height / 2 - 6]])}`;
+}
+
+/* An edge with its line and its head. */
+function drawnEdge({ edge, way }) {
+  const end = way.at(-1), tip = end.y - end.height / 2, line = lineOf(way);
   const head = pointsOf([[end.x, tip], [end.x - 4, tip - 8], [end.x + 4, tip - 8]]);
   const data = { "data-from": edge.from, "data-to": edge.to, "data-texts": JSON.stringify(edge.texts) };
   const group = drawn("g", { class: "edge", ...data });
