@@ -35,9 +35,7 @@ function codeLine(source, span) {
   const to = Math.max(Math.min(span.to - begin, text.length), from);
   const mark = made("mark", {}, text.slice(from, to) || " ");
   const head = made("span", { className: "number" }, `${line} | `);
-  const shown = made("pre", { className: "line", tabIndex: 0 }, head, text.slice(0, from), mark, text.slice(to));
-  shown.setAttribute("aria-label", `Line ${line}`);
-  return shown;
+  return made("pre", { className: "line" }, head, text.slice(0, from), mark, text.slice(to));
 }
 
 /* A broken rule in words: its title and label, and its number with its name. */

@@ -245,11 +245,10 @@ async function takeLink() {
 function tellAbout() {
   const size = ABOUT.bytes.toLocaleString("en");
   const same = `Its module for LLVM also makes the proved program, whose SHA-256 is ${ABOUT.program}.`;
-  const what = ABOUT.proved
-    ? `The program of this page is the proved one, by ${ABOUT.kit}. ${same}`
-    : "This page was built for trials: nobody has proved the program that it has.";
+  const proved = `The program of this page is the proved one, by ${ABOUT.kit}. ${same}`;
+  const what = ABOUT.proved ? proved : "The program of this page is an unproved one.";
   at("about").textContent = `${what} The WebAssembly has ${size} bytes and the SHA-256 ${ABOUT.module}.`;
-  at("about").className = ABOUT.proved ? "" : "notice";
+  at("trial").hidden = ABOUT.proved;
 }
 
 function listen() {

@@ -75,7 +75,8 @@ int memcmp(const void *one, const void *other, size length) {
 
 int bcmp(const void *one, const void *other, size length) { return memcmp(one, other, length); }
 
-/* The allocator that Rattle's programs call. No block has an alignment above 16. */
+/* The allocator that Rattle's programs call. No block has an alignment above that of the headers: one that is asked for
+   ends the run. */
 
 struct got {
     size is_there;
@@ -83,6 +84,7 @@ struct got {
 };
 
 struct got rattle_alloc(size length, size alignment) {
+    if (alignment > HEADER) __builtin_trap();
     void *at = take(length);
     return (struct got){at != 0, at ? at : (void *)alignment};
 }
