@@ -2,6 +2,8 @@
 /* Answers of the checker as elements of the page: findings, arms to add, trees, and what one value does. */
 
 const MOST_FINDINGS = 200, MOST_ARMS = 100;
+// How many trees are shown, and how many nodes are drawn in one picture and in all of them.
+const MOST_TREES = 200, MOST_NODES = 250, MOST_DRAWN = 1000;
 
 /* An element with these properties and this inside. */
 function made(tag, properties, ...inner) {
@@ -97,7 +99,7 @@ function armsOfAll(source, answer, on) {
 
 /* A picture in a frame that scrolls, or a sentence where there is none. */
 function framed(picture, { name, tree }) {
-  if (!picture) return made("p", {}, `The tree has ${tree.length} nodes, which are too many for a picture.`);
+  if (!picture) return made("p", {}, `The tree has ${several(tree.length, "node")}, too many to be drawn here.`);
   const frame = made("div", { className: "frame", tabIndex: 0, role: "group" }, picture);
   frame.setAttribute("aria-label", `The picture of the tree of ${name}, which scrolls`);
   return frame;
@@ -111,16 +113,27 @@ function inWords(tree, lines) {
   return words;
 }
 
-/* The trees of a report, each as a picture and in words. */
+/* The tree of a function as a picture, if it is to be drawn, and in words. */
+function treeOf(source, entry, number, isDrawn) {
+  const lines = source.armLines(number), picture = isDrawn ? pictureOf(entry.name, entry.tree, lines) : null;
+  const part = made("section", { className: "tree-of" }, made("h3", {}, "The tree of ", code(entry.name)));
+  part.dataset.name = entry.name;
+  part.append(framed(picture, entry), inWords(entry.tree, lines));
+  return part;
+}
+
+/* The trees of a report. */
 function treesOf(source, report) {
-  return (report.functions ?? []).flatMap((entry, number) => {
-    if (!entry.tree) return [];
-    const lines = source.armLines(number), picture = pictureOf(entry.name, entry.tree, lines);
-    const part = made("section", { className: "tree-of" }, made("h3", {}, "The tree of ", code(entry.name)));
-    part.dataset.name = entry.name;
-    part.append(framed(picture, entry), inWords(entry.tree, lines));
-    return [part];
+  const parts = [];
+  let drawn = 0, count = 0;
+  (report.functions ?? []).forEach((entry, number) => {
+    if (!entry.tree || ++count > MOST_TREES) return;
+    const isDrawn = entry.tree.length <= Math.min(MOST_NODES, MOST_DRAWN - drawn);
+    if (isDrawn) drawn += entry.tree.length;
+    parts.push(treeOf(source, entry, number, isDrawn));
   });
+  if (count > MOST_TREES) parts.push(made("p", {}, `and ${several(count - MOST_TREES, "tree")} more`));
+  return parts;
 }
 
 /* What names are bound to, in words. */

@@ -45,14 +45,17 @@ function partsOf(graph, sizeOf) {
 
 const numberParts = (layer) => layer.forEach((part, at) => (part.at = at));
 
-/* How many pairs of joins between two layers cross. */
-function crossingsBelow(layer) {
+/* How many pairs of joins cross between a layer and the next one, which has so many parts: pairs whose ends are not in
+   order, counted by sums over powers of two (a Fenwick tree). */
+function crossingsBelow(layer, size) {
   const ends = layer.flatMap((part) => part.below.map((other) => other.at).sort((one, other) => one - other));
-  let crossings = 0;
-  for (let one = 0; one < ends.length; one++) {
-    for (let other = one + 1; other < ends.length; other++) if (ends[one] > ends[other]) crossings++;
-  }
-  return crossings;
+  const sums = new Int32Array(size + 1);
+  return ends.reduce((crossings, end, count) => {
+    let before = 0;
+    for (let at = end + 1; at > 0; at -= at & -at) before += sums[at];
+    for (let at = end + 1; at <= size; at += at & -at) sums[at]++;
+    return crossings + count - before;
+  }, 0);
 }
 
 /* Orders a layer by the mean of the places of what its parts are joined with on one side. */
@@ -68,7 +71,8 @@ function orderBy(layer, side) {
 /* Orders all layers so that few joins cross: the best of some sweeps down and up. */
 function order(layers) {
   layers.forEach(numberParts);
-  const crossings = () => layers.reduce((sum, layer) => sum + crossingsBelow(layer), 0);
+  const sizeBelow = (at) => layers[at + 1]?.length ?? 0;
+  const crossings = () => layers.reduce((sum, layer, at) => sum + crossingsBelow(layer, sizeBelow(at)), 0);
   let best = layers.map((layer) => [...layer]), least = crossings();
   for (let sweep = 0; sweep < SWEEPS && least > 0; sweep++) {
     const isDown = sweep % 2 === 0, turn = isDown ? layers : [...layers].reverse();

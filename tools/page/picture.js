@@ -2,7 +2,7 @@
 /* The picture of a decision tree: an SVG element made from the layout of its graph, and the same tree as a list. */
 
 const SVG = "http://www.w3.org/2000/svg";
-const LETTER = 7.3, LINE = 17, PAD = 9, MOST_TEXTS = 8, MOST_LETTERS = 44, MOST_NODES = 250;
+const LETTER = 7.3, LINE = 17, PAD = 9, MOST_TEXTS = 8, MOST_LETTERS = 44;
 const WIDE = /[\u1100-\u115f\u2e80-\ua4cf\uac00-\ud7a3\uf900-\ufaff\ufe30-\ufe6f\uff00-\uff60\u{1f300}-\u{1faff}]/u;
 
 /* A text cut to a length that can be drawn. */
@@ -97,9 +97,8 @@ function drawnEdge({ edge, way }) {
   return group;
 }
 
-/* The picture of a tree, or null where it has more nodes than one can look at. */
+/* The picture of a tree. */
 function pictureOf(name, tree, lines) {
-  if (tree.length > MOST_NODES) return null;
   const { parts, edges, width, height } = layOut(graphOf(tree, lines), sizeOf);
   const box = pointsOf([[0, 0], [width, height]]);
   const svg = drawn("svg", { class: "tree", role: "img", viewBox: box, width, height });
