@@ -37,10 +37,9 @@ class Browser:
         for end in (to_read, to_write, *ends):
             os.close(end)
         self.rest, self.count, self.answers = b"", 0, {}
-        self.requests, self.complaints = [], []
-        target = self.send("Target.createTarget", url="about:blank", session=None)["targetId"]
-        self.session = None
-        self.session = self.send("Target.attachToTarget", targetId=target, flatten=True)["sessionId"]
+        self.requests, self.complaints, self.tab = [], [], {}
+        target = self.send("Target.createTarget", url="about:blank")["targetId"]
+        self.tab = {"sessionId": self.send("Target.attachToTarget", targetId=target, flatten=True)["sessionId"]}
         for domain in ("Page", "Runtime", "Network", "Log"):
             self.send(f"{domain}.enable")
 
@@ -72,12 +71,10 @@ class Browser:
         elif message.get("method") == "Log.entryAdded" and given["entry"]["level"] == "error":
             self.complaints.append(given["entry"]["text"])
 
-    def send(self, method, session=True, **given):
+    def send(self, method, **given):
         """Sends a command, and waits for its answer."""
         self.count += 1
-        number, message = self.count, {"id": self.count, "method": method, "params": given}
-        if session and getattr(self, "session", None):
-            message["sessionId"] = self.session
+        number, message = self.count, {"id": self.count, "method": method, "params": given, **self.tab}
         os.write(self.to, json.dumps(message).encode() + b"\0")
         until = time.monotonic() + SECONDS
         while number not in self.answers:
