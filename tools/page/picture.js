@@ -27,8 +27,7 @@ function sizeOf(part) {
   const texts = part.texts ? drawnTexts(part.texts) : [cut(part.text)];
   const width = Math.max(...texts.map(columnsOf)) * LETTER + 2 * PAD;
   const height = texts.length * LINE + (part.texts ? 2 : PAD);
-  if (part.shape === "diamond") return { width: width + 4 * PAD, height: height + 2 * PAD };
-  return { width, height };
+  return { width: part.shape === "diamond" ? width + 2 * PAD : width, height };
 }
 
 /* Places as SVG writes them. */
@@ -44,10 +43,12 @@ function drawn(name, attributes, ...inner) {
   return element;
 }
 
+/* The outline of a node. A guard, which Graphviz draws as a diamond, is a hexagon here, which has room for its text. */
 function shapeOf({ node, x, y, width, height }) {
-  const left = x - width / 2, top = y - height / 2;
+  const [left, top, right, bottom] = [x - width / 2, y - height / 2, x + width / 2, y + height / 2];
   if (node.shape === "diamond") {
-    const corners = [[x, top], [left + width, y], [x, top + height], [left, y]];
+    const [near, far] = [left + 2 * PAD, right - 2 * PAD];
+    const corners = [[near, top], [far, top], [right, y], [far, bottom], [near, bottom], [left, y]];
     return drawn("polygon", { class: "shape", points: pointsOf(corners) });
   }
   const round = node.shape === "ellipse" ? height / 2 : 2;
