@@ -59,7 +59,7 @@ def keeping(kit, room, then, so):
 def said_last(text):
     """The line of a tool's output that says best why it ended."""
     lines = [line for line in text.splitlines() if line.strip()] or ["it said nothing"]
-    return next((line for line in lines if line.startswith(("error", "rattle"))), lines[-1])
+    return next((line.strip() for line in lines if line.startswith("rattle") or "error" in line), lines[-1])
 
 
 def run(words, what, **how):
