@@ -122,6 +122,14 @@ ssize rattle_env_at(size number, byte *into, size room) { return -1; }
 int rattle_errno(void) { return fault; }
 void rattle_set_errno(int value) { fault = value; }
 size __sysv_signal(int number, size handler) { return 0; }
+ssize __write(int file, const void *from, size length) { return (ssize)length; }
+
+/* At its start the program asks for the instructions that it was compiled for, and says on standard error where one is
+   missing. Here other instructions stand for all of them. */
+const void *__x86_get_cpuid_feature_leaf(unsigned leaf) {
+    static const unsigned all[8] = {~0u, ~0u, ~0u, ~0u, ~0u, ~0u, ~0u, ~0u};
+    return all;
+}
 
 int open(const char *path, int flags, ...) {
     source_at = 0;

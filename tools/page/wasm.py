@@ -13,20 +13,34 @@ HERE = pathlib.Path(__file__).resolve().parent
 # Where programs for WebAssembly are kept, and how many.
 KEPT, MOST = ROOT / "out" / "module", 4
 TARGET = "--target=wasm64-unknown-unknown"
-COMPILE = [TARGET, "-O2", "-mbulk-memory", "-ffreestanding", "-fno-builtin", "-Wno-override-module", "-c"]
+FEATURES = ["-mbulk-memory", "-msimd128"]
+COMPILE = [TARGET, "-O2", *FEATURES, "-ffreestanding", "-fno-builtin", "-Wno-override-module", "-c"]
 # The stack lies below all data, so that a program which needs more stops at its end and overwrites nothing.
 STACK, MEMORY = 8 << 20, 4 << 30
 LINK = ["-mwasm64", "--no-entry", "--stack-first", "-z", f"stack-size={STACK}", f"--max-memory={MEMORY}", "--strip-all"]
+# The one instruction of x86-64 that the module names, by that of WebAssembly: a place with its highest bit gives 0, and
+# of any other the low four bits count.
+SHUFFLE, LOW = "@llvm.x86.ssse3.pshuf.b.128", "<" + ", ".join(["i8 143"] * 16) + ">"
+SHUFFLED = f"""
+declare <16 x i8> @llvm.wasm.swizzle(<16 x i8>, <16 x i8>)
+
+define internal <16 x i8> @shuffled(<16 x i8> %from, <16 x i8> %places) alwaysinline nounwind {{
+  %low = and <16 x i8> %places, {LOW}
+  %found = call <16 x i8> @llvm.wasm.swizzle(<16 x i8> %from, <16 x i8> %low)
+  ret <16 x i8> %found
+}}
+"""
 
 
 def for_wasm(lines):
     """The lines of the module without what they say of their processor, and with another name for `main`."""
     for line in lines:
-        if line.startswith(("target datalayout", "target triple")):
+        if line.startswith(("target datalayout", "target triple", "declare <16 x i8> " + SHUFFLE)):
             continue
         if line.startswith("attributes #"):
             line = re.sub(r' "(target-cpu|target-features|tune-cpu)"="[^"]*"', "", line)
-        yield line.replace("@main(", "@program(")
+        yield line.replace("@main(", "@program(").replace(SHUFFLE, "@shuffled")
+    yield SHUFFLED
 
 
 def compiled(kit, is_proved, target):
