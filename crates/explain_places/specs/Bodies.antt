@@ -1,10 +1,14 @@
 -- Where the bodies of functions stand, what they match on, and their arms.
-use Rattle.std.specs.Prelude.{ℕ, ◌==◌, ◌&&◌, List, [], ◌∷◌, Bool, true, false, not, if◌then◌else◌}
+use Rattle.std.specs.Prelude.{ℕ, ◌==◌, ◌&&◌, List, [], ◌∷◌, Bool, true, false, not, nat_le, if◌then◌else◌}
 use Rattle.explain_places.specs.declared.pieces.Class.{Class}
 use Rattle.explain_places.specs.declared.pieces.Class.TheVariants as classes
 use Rattle.explain_places.specs.declared.pieces.Piece.{Piece}
+use Rattle.explain_places.specs.Pieces.{closes}
 use Rattle.explain_places.specs.declared.spans.Span.{Span}
+use Rattle.explain_places.specs.declared.spans.Place.{Place}
+use Rattle.explain_places.specs.declared.spans.Place.TheVariants as places
 use Rattle.explain_places.specs.declared.bodies.Body.{Body}
+use Rattle.explain_places.specs.declared.bodies.End.{End}
 
 -- a token of these classes
 abbrev pub is_function : Class → Bool
@@ -54,9 +58,32 @@ scrutinee_at opening (word ∷ []) = span_of opening opening
 scrutinee_at opening (word ∷ first ∷ []) = span_of opening opening
 scrutinee_at opening (word ∷ first ∷ second ∷ ps) = scrutinee_of opening word first second
 
+-- the token closes what is open around it within at most one bracket
+abbrev pub ends_match : Piece → Bool
+ends_match p = closes p.class && nat_le p.depth 1
+
+-- the place before a bracket that closes a match; none before one that closes a body
+abbrev pub end_place : Piece → Place
+end_place p = if p.depth == 1 then places.There (record { from = p.from; to = p.from }) else places.Nowhere
+
+-- a comma is to stand behind a token of this class before another arm
+abbrev pub wants_comma : Class → Bool
+wants_comma classes.Comma = false
+wants_comma classes.OpenBlock = false
+wants_comma _ = true
+
+-- the end of a match before this bracket, behind a token of this class
+abbrev pub end_of : Class → Piece → End
+end_of before p = record { place = end_place p; comma = wants_comma before }
+
+-- where the match of a body ends, by the tokens behind one of this class
+abbrev pub match_end : Class → List Piece → End
+match_end before [] = record { place = places.Nowhere; comma = false }
+match_end before (p ∷ ps) = if ends_match p then end_of before p else match_end p.class ps
+
 -- the body that begins with this token
 abbrev pub body_at : Piece → List Piece → Body
-body_at opening ps = record { at = opening.from; scrutinee = scrutinee_at opening ps }
+body_at opening ps = record { at = opening.from; scrutinee = scrutinee_at opening ps; end = match_end opening.class ps }
 
 -- the body of a function begins there, where one is still to come or not
 abbrev pub begins_body : Bool → List Piece → Bool

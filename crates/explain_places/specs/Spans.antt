@@ -49,6 +49,11 @@ abbrev pub name_or : Piece → List Piece → Piece
 name_or first [] = first
 name_or first (p ∷ ps) = if is_name p.class && p.depth == 0 then p else name_or first ps
 
+-- the first of these tokens that is a name, or else the given one
+abbrev pub name_in : Piece → List Piece → Piece
+name_in first [] = first
+name_in first (p ∷ ps) = if is_name p.class then p else name_in first ps
+
 -- the pattern or alternative that these tokens begin with
 abbrev pub pattern_from : Bool → List Piece → Place
 pattern_from whole [] = places.Lost
@@ -70,6 +75,11 @@ abbrev pub name_from : List Piece → Place
 name_from [] = places.Lost
 name_from (p ∷ ps) = places.There (span_of (name_or p (p ∷ ps)) (name_or p (p ∷ ps)))
 
+-- the name of the binding that these tokens begin with, behind `ref` and `mut`
+abbrev pub binding_from : List Piece → Place
+binding_from [] = places.Lost
+binding_from (p ∷ ps) = places.There (span_of (name_in p (p ∷ ps)) (name_in p (p ∷ ps)))
+
 -- the pattern or alternative that begins at this byte
 abbrev pub pattern_at : Bool → ℕ → List Piece → Place
 pattern_at whole at ps = pattern_from whole (pieces_at at ps)
@@ -85,3 +95,7 @@ pair_at at ps = pair_from (pieces_at at ps)
 -- the name of the item that begins at this byte
 abbrev pub name_at : ℕ → List Piece → Place
 name_at at ps = name_from (pieces_at at ps)
+
+-- the name of the binding that begins at this byte
+abbrev pub binding_at : ℕ → List Piece → Place
+binding_at at ps = binding_from (pieces_at at ps)

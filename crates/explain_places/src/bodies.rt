@@ -1,19 +1,30 @@
 // The bodies of functions, and their arms.
 ghost use Rattle.std.specs.Prelude.{◌≡◌, ◌∷◌, IfOk};
-ghost use Rattle.explain_places.specs.Bodies.{arrows_of, begins_block, begins_body, begins_header, bodies_of, body_at, ends_arm, is_arrow, is_block, is_function, is_match, is_name, scrutinee_at, scrutinee_of, span_of, waits_behind};
+ghost use Rattle.explain_places.specs.Bodies.{arrows_of, begins_block, begins_body, begins_header, bodies_of, body_at, end_of, end_place, ends_arm, ends_match, is_arrow, is_block, is_function, is_match, is_name, match_end, scrutinee_at, scrutinee_of, span_of, waits_behind, wants_comma};
 
-use crate::pieces::{Class, Piece};
-use crate::spans::Span;
+use crate::pieces::{Class, Piece, closes};
+use crate::spans::{Place, Span};
 use no_memory::NoMemory;
 use std::alloc::{AllocError, Global};
 
-/// The body of a function: the byte of its `{`, and what its match is on.
+/// Where a match ends.
+#[derive(Clone, Copy, Debug)]
+pub struct End {
+    /// The empty span before the bracket that closes it; `Nowhere` where no bracket does.
+    pub place: Place,
+    /// Whether a comma is to stand before another arm: the token before that bracket is neither `,` nor `{`.
+    pub comma: bool,
+}
+
+/// The body of a function: the byte of its `{`, what its match is on, and where the match ends.
 #[derive(Clone, Copy, Debug)]
 pub struct Body {
     /// The byte with which it begins.
     pub at: usize,
     /// What stands between `match` and the next `{`.
     pub scrutinee: Span,
+    /// Where the match ends.
+    pub end: End,
 }
 
 // Whether a token is `fn`.
@@ -122,6 +133,64 @@ fn scrutinee_at(opening: &Piece, behind: &[Piece]) -> Span
     }
 }
 
+// Whether a token closes what is open around it within at most one bracket.
+fn ends_match(piece: &Piece) -> bool
+    ensures { result ≡ ends_match piece.now }
+{
+    closes(piece.class) && piece.depth <= 1
+}
+
+// The place before a bracket that closes a match; none before one that closes a body.
+fn end_place(piece: &Piece) -> Place
+    ensures { result ≡ end_place piece.now }
+{
+    if piece.depth == 1 {
+        Place::There(Span {
+            from: piece.from,
+            to: piece.from,
+        })
+    } else {
+        Place::Nowhere
+    }
+}
+
+// Whether a comma is to stand behind a token before another arm.
+fn wants_comma(class: Class) -> bool
+    ensures { result ≡ wants_comma class }
+{
+    match class {
+        Class::Comma | Class::OpenBlock => false,
+        _ => true,
+    }
+}
+
+// The end of a match before that bracket, behind a token of that class.
+fn end_of(before: Class, piece: &Piece) -> End
+    ensures { result ≡ end_of before piece.now }
+{
+    End {
+        place: end_place(piece),
+        comma: wants_comma(before),
+    }
+}
+
+// Where the match of a body ends, by the tokens behind one of that class.
+fn match_end(class: Class, behind: &[Piece]) -> End
+    ensures { result ≡ match_end class behind.now }
+{
+    let mut before = class;
+    for piece in behind {
+        if ends_match(piece) {
+            return end_of(before, piece);
+        }
+        before = piece.class;
+    }
+    End {
+        place: Place::Nowhere,
+        comma: false,
+    }
+}
+
 // The body that begins with this token.
 fn body_at(opening: &Piece, behind: &[Piece]) -> Body
     ensures { result ≡ body_at opening.now behind.now }
@@ -129,6 +198,7 @@ fn body_at(opening: &Piece, behind: &[Piece]) -> Body
     Body {
         at: opening.from,
         scrutinee: scrutinee_at(opening, behind),
+        end: match_end(opening.class, behind),
     }
 }
 

@@ -113,7 +113,7 @@ fn opens(class: Class) -> bool
 }
 
 // Whether a token closes a bracket.
-fn closes(class: Class) -> bool
+pub(crate) fn closes(class: Class) -> bool
     ensures { result ≡ closes class }
 {
     match class {

@@ -1,6 +1,6 @@
 // From where to where things stand.
 ghost use Rattle.std.specs.Prelude.{◌≡◌, ◌∷◌, ◌≤◌, drop, length, nat_lt};
-ghost use Rattle.explain_places.specs.Spans.{Rise, end_from, ends_class, is_behind, name_at, name_or, only_at, pair_at, pattern_at, pieces_at, pieces_past, token_at};
+ghost use Rattle.explain_places.specs.Spans.{Rise, binding_at, end_from, ends_class, is_behind, name_at, name_in, name_or, only_at, pair_at, pattern_at, pieces_at, pieces_past, token_at};
 
 use crate::bodies::{is_name, span_of};
 use crate::pieces::{Class, Piece};
@@ -154,6 +154,34 @@ pub fn name_at(pieces: &[Piece], at: usize) -> Place
     match tokens {
         [first, ..] => {
             let name = name_or(first, tokens);
+            Place::There(span_of(name, name))
+        }
+        [] => Place::Lost,
+    }
+}
+
+// The first of these tokens that is a name, or else the given one.
+fn name_in<'a>(first: &'a Piece, pieces: &'a [Piece]) -> &'a Piece
+    ensures { result.now ≡ name_in first.now pieces.now }
+{
+    for piece in pieces {
+        if is_name(piece.class) {
+            return piece;
+        }
+    }
+    first
+}
+
+/// The name of the binding that begins at this byte, without `ref` and `mut` before it; its first token where no name
+/// follows.
+pub fn binding_at(pieces: &[Piece], at: usize) -> Place
+    requires { Rise pieces.now }
+    ensures { result ≡ binding_at at pieces.now }
+{
+    let tokens = pieces_at(pieces, at);
+    match tokens {
+        [first, ..] => {
+            let name = name_in(first, tokens);
             Place::There(span_of(name, name))
         }
         [] => Place::Lost,

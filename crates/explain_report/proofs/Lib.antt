@@ -1,3 +1,4 @@
 pub mod Parts
 pub mod ReadLists
 pub mod Skims
+pub mod ReadArms

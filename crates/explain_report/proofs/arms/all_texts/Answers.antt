@@ -1,0 +1,15 @@
+use Rattle.std.proofs.Common.{string_bytes, arith}
+use Rattle.serde_json.specs.Find.{as_str}
+use Rattle.explain_report.proofs.ReadLists.{read_begun, read_more, read_ended}
+use Rattle.explain_report.proofs.arms.all_texts.Goals as goal
+
+pub loop-item-init : goal.loop-item-init
+loop-item-init c = read_begun string_bytes as_str c.args.items.now c.in_ok-all.all.items c.in_ok-all.ensures.items
+
+pub loop-item-preserved : goal.loop-item-preserved
+loop-item-preserved c =
+    read_more string_bytes as_str c.args.items.now c.loop-item.item-index c.loop-item.all.items _ c.in_ok-text.text c.item-item.result (omega arith) c.item-item.is
+    c.in_ok-text.ensures c.in_ok-push.ensures.items c.loop-item.invariant
+
+pub returns : goal.returns
+returns c = read_ended string_bytes as_str c.args.items.now c.loop-item.item-index c.loop-item.all.items (omega arith) c.loop-item.invariant
