@@ -13,16 +13,34 @@ from lexing import Token, lex
 
 MOST = 80
 WITNESSES = 8
+ARMS = 16
+ADDING = "ensure that all possible cases are being handled by adding "
+ONE_ARM = ADDING + "a match arm with an explicit pattern as shown"
+MANY_ARMS = ADDING + "multiple match arms as shown"
 RULES = os.path.join(os.path.dirname(os.path.dirname(HERE)), "crates/rule_texts/src/lib.rt")
 MARK = b"\xef\xbb\xbf"
 
 
 def rule_texts():
-    """The title and the label of each rule by its number, as the program has them."""
+    """The title, the label and the help of each rule by its number, as the program has them: the words before a name and those behind it, or one text."""
     with open(RULES, encoding="utf-8") as file:
         source = file.read()
-    titles, labels = (dict(re.findall(r'^ *(\d+) => (?:\{\s*)?Some\(\s*"(.*)"', part, re.M)) for part in source.split("pub fn rule_label"))
-    return {int(number): (titles[number], labels[number]) for number in titles}
+    form = re.compile(r'^ *(\d+) => (?:\{\s*)?(?:plain|named)\(\s*"(.*?)"(?:,\s*"(.*?)")?,?\s*\)', re.M)
+    parts = re.split("pub fn rule_label|pub fn rule_help", source)
+    titles, labels, helps = ({int(number): (front, back) for number, front, back in filled(form, part)} for part in parts)
+    return {number: (titles[number], labels[number], helps.get(number)) for number in titles}
+
+
+def filled(form, part):
+    """The rules of a table: number, words, and the words behind a name or None."""
+    for match in form.finditer(part):
+        yield match[1], match[2], match[3] if "named(" in match[0] else None
+
+
+def phrase(words, name):
+    """Words on what has this name."""
+    front, back = words
+    return front if back is None else f"{front}`{name}`{back}"
 
 
 def functions_with_arms(data):
@@ -101,49 +119,63 @@ def refused_at(data, refused):
 
 def broken_at(data, refused):
     """From where to where a function breaks a rule, or None."""
-    at = refused["at"]
+    at, rule = refused["at"], refused["rule"]
     if at is None:
         return None
-    if refused["rule"] == 34:
+    if rule == 34:
         return at, tokens_at(data, at)[1].end
+    if rule in (21, 30):
+        return next((token.start, token.end) for token in tokens_at(data, at) if token.kind == "name")
     return pattern_at(data, at, False)
 
 
-def findings_of(data, report):
-    """((from, to) or None, whether it breaks a build, message, label, place of another range or None, notes)."""
-    rules = rule_texts()
+def name_of(data, span):
+    """What is shown of a place on its first line."""
+    return shown(data[span[0]:span[1]].decode("utf-8", "replace").split("\n")[0][:MOST]) if span else ""
+
+
+def refusal(data, span, refused, who):
+    """The finding that a rule is broken: (span, whether it breaks a build, title, label, notes)."""
+    title, label, advice = rule_texts()[refused["rule"]]
+    name = name_of(data, span)
+    notes = [("note", f"{who} breaks rule {refused['rule']} ({refused['name']})", None, [])]
+    if advice:
+        notes.append(("help", phrase(advice, name), None, []))
+    return span, True, phrase(title, name), phrase(label, name), notes
+
+
+def findings_of(data, report, arms=None):
+    """((from, to) or None, whether it breaks a build, title, label, notes); a note is its level, words, place or None, and lines of code."""
     if "functions" not in report:
-        refused = report["refused"]
-        return [(refused_at(data, refused), True, *rules[refused["rule"]], None,
-                 [f"note: the file breaks rule {refused['rule']} ({refused['name']})"])]
+        return [refusal(data, refused_at(data, report["refused"]), report["refused"], "the file")]
     found = []
-    for entry, (head, _) in zip(report["functions"], functions_with_arms(data), strict=True):
-        found.extend(function_findings(data, entry, head, rules))
+    for number, (entry, (head, _)) in enumerate(zip(report["functions"], functions_with_arms(data), strict=True)):
+        added = arms["functions"][number].get("arms", []) if arms and "functions" in arms else []
+        found.extend(function_findings(data, entry, head, added))
     found.sort(key=lambda finding: finding[0][0] if finding[0] else 0)
     return found
 
 
-def function_findings(data, entry, head, rules):
+def function_findings(data, entry, head, arms):
     """The findings of a function, in the order of its entry."""
     function = entry["name"]
     if "refused" in entry:
-        refused = entry["refused"]
-        return [(broken_at(data, refused), True, *rules[refused["rule"]], None,
-                 [f"note: `{function}` breaks rule {refused['rule']} ({refused['name']})"])]
+        return [refusal(data, broken_at(data, entry["refused"]), entry["refused"], f"`{function}`")]
     found = []
     if not entry["exhaustive"]:
         texts = [witness["text"] for witness in entry["witnesses"]]
         word = "" if not texts else "pattern " if len(texts) == 1 else "patterns "
-        found.append((head, True, f"non-exhaustive patterns: {cases(texts)} not covered", f"{word}{cases(texts)} not covered", None,
-                      missing(function, texts)))
+        found.append((head, True, f"non-exhaustive patterns: {cases(texts)} not covered", f"{word}{cases(texts)} not covered",
+                      missing(function, texts, arms)))
     for dead in entry["unreachable"]:
         kind = "arm" if dead["whole"] else "alternative"
-        found.append((pattern_at(data, dead["at"], dead["whole"]), False, "unreachable pattern", "no value can reach this", None,
-                      [f"note: no value of the match of `{function}` reaches this {kind}"]))
+        note = ("note", f"no value of the match of `{function}` reaches this {kind}", None, [])
+        found.append((pattern_at(data, dead["at"], dead["whole"]), False, "unreachable pattern", "no value can reach this", [note]))
     for overlap in entry["overlaps"]:
+        notes = [("note", "... with this range", pattern_at(data, overlap["with"], False), []),
+                 ("note", "you likely meant to write mutually exclusive ranges", None, [])]
         found.append((pattern_at(data, overlap["at"], False), False, "multiple patterns overlap on their endpoints",
-                      f"this range overlaps on `{overlap['value']}`...", pattern_at(data, overlap["with"], False),
-                      ["note: you likely meant to write mutually exclusive ranges"]))
+                      f"this range overlaps on `{overlap['value']}`...", notes))
     return found
 
 
@@ -157,10 +189,15 @@ def cases(texts):
     return names[0] if len(names) == 1 else f"{', '.join(names[:-1])} and {names[-1]}"
 
 
-def missing(function, texts):
-    notes = [f"help: add an arm for `{text}`" for text in texts[:WITNESSES]]
-    more = [f"help: and for {len(texts) - WITNESSES} more"] if len(texts) > WITNESSES else []
-    return notes + more + [f"note: the match of `{function}` leaves cases out: {len(texts)}"]
+def missing(function, texts, arms):
+    """The notes on missing cases: the arms to add where they are told, or else the first cases."""
+    count = ("note", f"the match of `{function}` leaves cases out: {len(texts)}", None, [])
+    if arms:
+        rest = [f"_ => todo!(), // the other cases: {len(arms) - ARMS}"] if len(arms) > ARMS else []
+        return [count, ("help", ONE_ARM if len(arms) == 1 else MANY_ARMS, None, [f"{arm} => todo!()," for arm in arms[:ARMS]] + rest)]
+    notes = [("help", f"add an arm for `{text}`", None, []) for text in texts[:WITNESSES]]
+    more = [("help", f"and for {len(texts) - WITNESSES} more", None, [])] if len(texts) > WITNESSES else []
+    return notes + more + [count]
 
 
 def place_of(data, at):
@@ -196,16 +233,34 @@ def frame(data, name, at, to):
     return f"{pad}--> {name}:{line}:{column}\n{pad} |\n{line} | {left}{right}\n{pad} | {' ' * columns(left)}{carets}"
 
 
-def explained(data, name, report):
-    """The whole text, and whether a finding breaks a build."""
-    found = findings_of(data, report)
-    if not found:
-        return "", False
+def note_text(data, name, note):
+    """The lines of a note."""
+    level, words, span, lines = note
+    if lines:
+        return f"{level}: {words}\n" + "".join(f"        {line}\n" for line in lines)
+    if span:
+        return f"{level}: {words}\n{frame(data, name, *span)}\n"
+    return f"  = {level}: {words}\n"
+
+
+def in_lines(data, name, found):
+    """The findings in one line each."""
     text = ""
-    for span, breaks, message, label, other, notes in found:
-        text += f"{'error' if breaks else 'warning'}: {message}\n"
-        text += f"--> {name}\n  = note: {label}\n" if span is None else f"{frame(data, name, *span)} {label}\n"
-        text += f"note: ... with this range\n{frame(data, name, *other)}\n" if other else ""
-        text += "".join(f"  = {note}\n" for note in notes) + "\n"
+    for span, breaks, title, label, _ in found:
+        place = ":".join(map(str, (name, *place_of(data, span[0])))) if span else name
+        text += f"{place}: {'error' if breaks else 'warning'}: {title}: {label}\n"
+    return text
+
+
+def explained(data, name, report, arms=None, short=False):
+    """The whole text, and whether a finding breaks a build."""
+    found = findings_of(data, report, arms)
     errors = sum(finding[1] for finding in found)
+    if short or not found:
+        return in_lines(data, name, found), errors > 0
+    text = ""
+    for span, breaks, title, label, notes in found:
+        text += f"{'error' if breaks else 'warning'}: {title}\n"
+        text += f"--> {name}\n  = note: {label}\n" if span is None else f"{frame(data, name, *span)} {label}\n"
+        text += "".join(note_text(data, name, note) for note in notes) + "\n"
     return f"{text}errors: {errors}, warnings: {len(found) - errors}\n", errors > 0

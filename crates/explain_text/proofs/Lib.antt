@@ -4,3 +4,6 @@ pub mod ShownLemmas
 pub mod FrameLemmas
 pub mod Inside
 pub mod Whole
+pub mod Eight
+pub mod Noting
+pub mod InWords

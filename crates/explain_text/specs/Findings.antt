@@ -1,23 +1,26 @@
 -- The findings of a report, and their places.
-use Rattle.std.specs.Prelude.{ℕ, ◌+◌, ◌==◌, List, [], ◌∷◌, ◌++◌, Bool, false, map, nat_le, if◌then◌else◌, Option, Some, None, slice_get}
+use Rattle.std.specs.Prelude.{ℕ, ◌+◌, ◌==◌, ◌||◌, List, [], ◌∷◌, ◌++◌, Bool, false, map, nat_le, if◌then◌else◌, Option, Some, None, slice_get}
 use Rattle.explain_report.specs.Records.{RefusedTree, OverlapTree, JudgedTree, VerdictTree, IsJudged, IsRefused, FunctionTree, ReportTree, OfFunctions}
 use Rattle.explain_report.specs.Records as records
 use Rattle.explain_report.specs.declared.records.Unreached.{Unreached}
 use Rattle.explain_places.specs.declared.pieces.Piece.{Piece}
 use Rattle.explain_places.specs.declared.bodies.Body.{Body}
+use Rattle.explain_places.specs.declared.bodies.End.{End}
 use Rattle.explain_places.specs.declared.spans.Place.{Place}
 use Rattle.explain_places.specs.declared.spans.Place.TheVariants.{Nowhere, There, Lost}
 use Rattle.explain_places.specs.Bodies.{bodies_of}
-use Rattle.explain_places.specs.Spans.{name_at, pair_at, pattern_at, token_at}
+use Rattle.explain_places.specs.Spans.{binding_at, name_at, pair_at, pattern_at, token_at}
 use Rattle.explain_text.specs.Sources.{is_place}
+use Rattle.explain_text.specs.declared.findings.Head.{Head}
 use Rattle.explain_text.specs.declared.findings.Kind.{Kind}
 use Rattle.explain_text.specs.declared.findings.Kind.TheVariants as kinds
 use Rattle.explain_text.specs.declared.findings.Finding.{Finding}
 
--- what a finding says: a match of a function is not exhaustive, and what is missing; no value reaches an arm or an
--- alternative; two ranges overlap, with the place of the other one and the number; a function breaks a rule; the file does
+-- what a finding says: a match of a function is not exhaustive, with the function's number, where arms are added to it,
+-- and what is missing; no value reaches an arm or an alternative; two ranges overlap, with the place of the other one and
+-- the number; a function breaks a rule; the file does
 pub data KindTree : Type 0 where
-  OfMissing : (function : List ℕ) → (witnesses : List (List ℕ)) → KindTree
+  OfMissing : (function : List ℕ) → (number : ℕ) → (end : End) → (witnesses : List (List ℕ)) → KindTree
   OfUnreached : (function : List ℕ) → (whole : Bool) → KindTree
   OfOverlap : (function : List ℕ) → (other : Place) → (value : List ℕ) → KindTree
   OfRefused : (function : List ℕ) → (rule : ℕ) → (name : List ℕ) → KindTree
@@ -29,7 +32,7 @@ pub record FindingTree : Type 0 where
   pub kind : KindTree
 
 abbrev pub kind_view : Kind → KindTree
-kind_view (kinds.Missing function witnesses) = OfMissing function.now (map (λ w. w.now) witnesses.now)
+kind_view (kinds.Missing function number end witnesses) = OfMissing function.now number end (map (λ w. w.now) witnesses.now)
 kind_view (kinds.Unreached function whole) = OfUnreached function.now whole
 kind_view (kinds.Overlap function other value) = OfOverlap function.now other value.now
 kind_view (kinds.Refused function rule name) = OfRefused function.now rule name.now
@@ -38,18 +41,18 @@ kind_view (kinds.FileRefused rule name) = OfFileRefused rule name.now
 abbrev pub finding_view : Finding → FindingTree
 finding_view f = record { place = f.place; kind = kind_view f.kind }
 
--- what the match of a body is on
-abbrev pub body_place : Option Body → Place
-body_place (Some body) = There body.scrutinee
-body_place None = Lost
+-- the function of this number: what its match is on, and where arms are added to it
+abbrev pub head_from : ℕ → Option Body → Head
+head_from i (Some body) = record { number = i; scrutinee = There body.scrutinee; end = body.end }
+head_from i None = record { number = i; scrutinee = Lost; end = record { place = Nowhere; comma = false } }
 
--- what the match of the function of this number is on
-abbrev pub scrutinee_place : List Piece → ℕ → Place
-scrutinee_place ps i = body_place (slice_get (bodies_of ps) i)
+abbrev pub head_of : List Piece → ℕ → Head
+head_of ps i = head_from i (slice_get (bodies_of ps) i)
 
 -- a match that is not exhaustive is found at its scrutinee
-abbrev pub missing_findings : List ℕ → Place → JudgedTree → List FindingTree
-missing_findings function place j = if j.exhaustive then [] else record { place = place; kind = OfMissing function j.witnesses } ∷ []
+abbrev pub missing_findings : List ℕ → Head → JudgedTree → List FindingTree
+missing_findings function head j =
+    if j.exhaustive then [] else record { place = head.scrutinee; kind = OfMissing function head.number head.end j.witnesses } ∷ []
 
 -- an arm or alternative that no value reaches
 abbrev pub unreached_finding : List Piece → List ℕ → Unreached → FindingTree
@@ -60,9 +63,11 @@ abbrev pub overlap_finding : List Piece → List ℕ → OverlapTree → Finding
 overlap_finding ps function o =
     record { place = pattern_at false o.at ps; kind = OfOverlap function (pattern_at false o.«with» ps) o.value }
 
--- where a function breaks a rule: at the scrutinee, which is a `*` and a name, or at a part of a pattern
+-- where a function breaks a rule: at the scrutinee, which is a `*` and a name, at the name of a binding, or at a part of
+-- a pattern
 abbrev pub broken_at : List Piece → ℕ → ℕ → Place
-broken_at ps rule at = if rule == 34 then pair_at at ps else pattern_at false at ps
+broken_at ps rule at =
+    if rule == 34 then pair_at at ps else (if rule == 21 || rule == 30 then binding_at at ps else pattern_at false at ps)
 
 abbrev pub broken_place : List Piece → ℕ → Option ℕ → Place
 broken_place ps rule (Some at) = broken_at ps rule at
@@ -81,19 +86,19 @@ abbrev pub file_broken_place : List ℕ → List Piece → ℕ → Option ℕ �
 file_broken_place file ps rule (Some at) = file_broken_at file ps rule at
 file_broken_place file ps rule None = Nowhere
 
--- what is found of a function whose match is on what stands there
-abbrev pub verdict_findings : List Piece → List ℕ → Place → VerdictTree → List FindingTree
-verdict_findings ps function place (IsJudged j) =
-    missing_findings function place j ++ (map (unreached_finding ps function) j.unreachable ++ map (overlap_finding ps function) j.overlaps)
-verdict_findings ps function place (IsRefused r) = record { place = broken_place ps r.rule r.at; kind = OfRefused function r.rule r.name } ∷ []
+-- what is found of a function
+abbrev pub verdict_findings : List Piece → List ℕ → Head → VerdictTree → List FindingTree
+verdict_findings ps function head (IsJudged j) =
+    missing_findings function head j ++ (map (unreached_finding ps function) j.unreachable ++ map (overlap_finding ps function) j.overlaps)
+verdict_findings ps function head (IsRefused r) = record { place = broken_place ps r.rule r.at; kind = OfRefused function r.rule r.name } ∷ []
 
-abbrev pub function_findings : List Piece → Place → FunctionTree → List FindingTree
-function_findings ps place f = verdict_findings ps f.name place f.verdict
+abbrev pub function_findings : List Piece → Head → FunctionTree → List FindingTree
+function_findings ps head f = verdict_findings ps f.name head f.verdict
 
 -- what is found of functions, of which the first has this number
 abbrev pub functions_findings : List Piece → ℕ → List FunctionTree → List FindingTree
 functions_findings ps i [] = []
-functions_findings ps i (f ∷ fs) = function_findings ps (scrutinee_place ps i) f ++ functions_findings ps (i + 1) fs
+functions_findings ps i (f ∷ fs) = function_findings ps (head_of ps i) f ++ functions_findings ps (i + 1) fs
 
 -- what is found of a file that is refused
 abbrev pub refused_finding : List ℕ → List Piece → RefusedTree → FindingTree

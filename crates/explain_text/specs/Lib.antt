@@ -2,7 +2,10 @@ pub mod Sources
 pub mod Findings
 pub mod Order
 pub mod Shown
+pub mod Styles
 pub mod Frames
 pub mod Messages
+pub mod Diagnostics
 pub mod Notes
+pub mod Diagnosing
 pub mod Texts

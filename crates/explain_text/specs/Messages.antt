@@ -1,19 +1,26 @@
--- What a finding says: its level, its message, and its label at its place.
-use Rattle.std.specs.Prelude.{ℕ, List, [], ◌∷◌, ◌++◌, length, Bool, true, false, if◌then◌else◌, Option, Some, None, codes, decimal}
-use Rattle.rule_texts.specs.Rules.{label_of, title_of}
+-- What a finding says: its code, its title, and its label at its place.
+use Rattle.std.specs.Prelude.{ℕ, ◌-◌, List, [], ◌∷◌, ◌++◌, length, Bool, true, false, if◌then◌else◌, Option, Some, None, codes, decimal, nat_le}
+use Rattle.explain_places.specs.declared.spans.Place.{Place}
+use Rattle.explain_places.specs.declared.spans.Place.TheVariants.{Nowhere, There, Lost}
+use Rattle.rule_texts.specs.Rules.{PhraseTree, IsPlain, IsNamed, label_of, title_of}
 use Rattle.explain_text.specs.Findings.{KindTree, OfMissing, OfUnreached, OfOverlap, OfRefused, OfFileRefused}
+use Rattle.explain_text.specs.Shown.{marked_part}
 
 -- the finding breaks a build
 abbrev pub is_error : KindTree → Bool
-is_error (OfMissing function witnesses) = true
+is_error (OfMissing function number end witnesses) = true
 is_error (OfUnreached function whole) = false
 is_error (OfOverlap function other value) = false
 is_error (OfRefused function rule name) = true
 is_error (OfFileRefused rule name) = true
 
--- how bad it is
-abbrev pub level_text : KindTree → List ℕ
-level_text kind = if is_error kind then codes "error" else codes "warning"
+-- a short name of what is found
+abbrev pub code_text : KindTree → List ℕ
+code_text (OfMissing function number end witnesses) = codes "non-exhaustive-patterns"
+code_text (OfUnreached function whole) = codes "unreachable-pattern"
+code_text (OfOverlap function other value) = codes "overlapping-range-endpoints"
+code_text (OfRefused function rule name) = name
+code_text (OfFileRefused rule name) = name
 
 -- a phrase around a text
 unfoldable pub quoted_text : List ℕ → List ℕ → List ℕ → List ℕ
@@ -57,23 +64,41 @@ pattern_word (a ∷ b ∷ others) = codes "patterns "
 unfoldable pub uncovered_text : List ℕ → List (List ℕ) → List ℕ
 uncovered_text front witnesses = front ++ (cases_text witnesses ++ codes " not covered")
 
--- the words, where there are some
-abbrev pub words_or : Option (List ℕ) → List ℕ
-words_or (Some words) = words
-words_or None = codes "no rule has this number"
+-- what is shown of a part of a text on its first line
+abbrev pub part_name : List ℕ → ℕ → ℕ → List ℕ
+part_name text at to = if nat_le at (length text) then marked_part text at to else []
 
--- what is found
-abbrev pub message_text : KindTree → List ℕ
-message_text (OfMissing function witnesses) = uncovered_text (codes "non-exhaustive patterns: ") witnesses
-message_text (OfUnreached function whole) = codes "unreachable pattern"
-message_text (OfOverlap function other value) = codes "multiple patterns overlap on their endpoints"
-message_text (OfRefused function rule name) = words_or (title_of rule)
-message_text (OfFileRefused rule name) = words_or (title_of rule)
+-- the same of a place of the file, whose byte order mark has so many bytes
+abbrev pub place_name : List ℕ → ℕ → Place → List ℕ
+place_name text mark (There s) = part_name text (s.from - mark) (s.to - mark)
+place_name text mark Nowhere = []
+place_name text mark Lost = []
+
+-- a phrase on what has this name
+unfoldable pub named_text : List ℕ → List ℕ → List ℕ → List ℕ
+named_text front name back = front ++ (ticked name ++ back)
+
+abbrev pub phrase_text : List ℕ → PhraseTree → List ℕ
+phrase_text name (IsPlain words) = words
+phrase_text name (IsNamed front back) = named_text front name back
+
+-- the words on what has this name, where there are some
+abbrev pub words_or : List ℕ → Option PhraseTree → List ℕ
+words_or name (Some phrase) = phrase_text name phrase
+words_or name None = codes "no rule has this number"
+
+-- what is found at what has this name
+abbrev pub title_text : List ℕ → KindTree → List ℕ
+title_text name (OfMissing function number end witnesses) = uncovered_text (codes "non-exhaustive patterns: ") witnesses
+title_text name (OfUnreached function whole) = codes "unreachable pattern"
+title_text name (OfOverlap function other value) = codes "multiple patterns overlap on their endpoints"
+title_text name (OfRefused function rule rule_name) = words_or name (title_of rule)
+title_text name (OfFileRefused rule rule_name) = words_or name (title_of rule)
 
 -- what is said at its place
-abbrev pub label_text : KindTree → List ℕ
-label_text (OfMissing function witnesses) = uncovered_text (pattern_word witnesses) witnesses
-label_text (OfUnreached function whole) = codes "no value can reach this"
-label_text (OfOverlap function other value) = quoted_text (codes "this range overlaps on `") value (codes "`...")
-label_text (OfRefused function rule name) = words_or (label_of rule)
-label_text (OfFileRefused rule name) = words_or (label_of rule)
+abbrev pub label_text : List ℕ → KindTree → List ℕ
+label_text name (OfMissing function number end witnesses) = uncovered_text (pattern_word witnesses) witnesses
+label_text name (OfUnreached function whole) = codes "no value can reach this"
+label_text name (OfOverlap function other value) = quoted_text (codes "this range overlaps on `") value (codes "`...")
+label_text name (OfRefused function rule rule_name) = words_or name (label_of rule)
+label_text name (OfFileRefused rule rule_name) = words_or name (label_of rule)

@@ -3,19 +3,23 @@ ghost use Rattle.std.specs.Prelude.{◌≡◌, ◌++◌, ◌∷◌, [], OnOk, If
 ghost use Rattle.explain_report.specs.Records.{judged_view, refused_view, function_view, report_view, overlap_view};
 ghost use Rattle.explain_places.specs.Bodies.{bodies_of};
 ghost use Rattle.explain_places.specs.Spans.{Rise};
-ghost use Rattle.explain_text.specs.Findings.{finding_view, scrutinee_place, broken_place, byte_place, file_broken_place, unreached_finding, overlap_finding, missing_findings, function_findings, functions_findings, report_findings, refused_finding};
+ghost use Rattle.explain_text.specs.Findings.{finding_view, head_of, broken_at, broken_place, byte_place, file_broken_place, unreached_finding, overlap_finding, missing_findings, function_findings, functions_findings, report_findings, refused_finding};
 
 use crate::source::is_place;
-use explain_places::{Body, Piece, Place, Span, name_at, pair_at, pattern_at, token_at};
+use explain_places::{
+    Body, End, Piece, Place, Span, binding_at, name_at, pair_at, pattern_at, token_at,
+};
 use explain_report::{Function, Judged, Overlap, Refused, Report, Unreached, Verdict};
 use std::alloc::{AllocError, Global};
 
 /// What a finding says.
 #[derive(Clone, Copy, Debug)]
 pub(crate) enum Kind<'r, 'a> {
-    /// The match of a function is not exhaustive; what is missing.
+    /// The match of a function is not exhaustive: the function's number, where arms are added, and what is missing.
     Missing {
         function: &'a str,
+        number: usize,
+        end: End,
         witnesses: &'r [&'a str],
     },
     /// No value reaches an arm, or an alternative.
@@ -47,6 +51,14 @@ pub(crate) enum Kind<'r, 'a> {
 pub(crate) struct Finding<'r, 'a> {
     pub place: Place,
     pub kind: Kind<'r, 'a>,
+}
+
+/// A function of the file: its number from 0, what its match is on, and where arms are added to it.
+#[derive(Clone, Copy, Debug)]
+pub(crate) struct Head {
+    pub number: usize,
+    pub scrutinee: Place,
+    pub end: End,
 }
 
 /// A file: its bytes, its tokens, and the bodies of its functions.
@@ -104,26 +116,40 @@ fn add_overlaps<'r, 'a>(
     Ok(())
 }
 
-// Adds that a match on what stands there is not exhaustive.
+// Adds that the match of a function is not exhaustive.
 fn add_missing<'r, 'a>(
     found: &mut Vec<Finding<'r, 'a>>,
     function: &'a str,
-    place: Place,
+    head: Head,
     judged: &'r Judged<'a>,
 ) -> Result<(), AllocError>
     ensures { OnOk result (map finding_view found.new.items
-        ≡ map finding_view found.old.items ++ missing_findings function.now place (judged_view judged.now)) }
+        ≡ map finding_view found.old.items ++ missing_findings function.now head (judged_view judged.now)) }
 {
     if !judged.exhaustive {
         found.push(Finding {
-            place,
+            place: head.scrutinee,
             kind: Kind::Missing {
                 function,
+                number: head.number,
+                end: head.end,
                 witnesses: judged.witnesses.as_slice(),
             },
         })?;
     }
     Ok(())
+}
+
+// Where a function breaks a rule whose place begins there.
+fn broken_at(pieces: &[Piece], rule: u64, at: usize) -> Place
+    requires { Rise pieces.now }
+    ensures { result ≡ broken_at pieces.now rule at }
+{
+    match rule {
+        34 => pair_at(pieces, at),
+        21 | 30 => binding_at(pieces, at),
+        _ => pattern_at(pieces, at, false),
+    }
 }
 
 // Where a function breaks a rule.
@@ -132,26 +158,25 @@ fn broken_place(pieces: &[Piece], rule: u64, at: Option<u64>) -> Place
     ensures { result ≡ broken_place pieces.now rule at }
 {
     match at {
-        Some(at) if rule == 34 => pair_at(pieces, at as usize),
-        Some(at) => pattern_at(pieces, at as usize, false),
+        Some(at) => broken_at(pieces, rule, at as usize),
         None => Place::Nowhere,
     }
 }
 
-// Adds what is found of a function whose match is on what stands there.
+// Adds what is found of a function.
 fn add_function<'r, 'a>(
     found: &mut Vec<Finding<'r, 'a>>,
     pieces: &[Piece],
-    place: Place,
+    head: Head,
     function: &'r Function<'a>,
 ) -> Result<(), AllocError>
     requires { Rise pieces.now }
     ensures { OnOk result (map finding_view found.new.items
-        ≡ map finding_view found.old.items ++ function_findings pieces.now place (function_view function.now)) }
+        ≡ map finding_view found.old.items ++ function_findings pieces.now head (function_view function.now)) }
 {
     match &function.verdict {
         Verdict::Judged(judged) => {
-            add_missing(found, function.name, place, judged)?;
+            add_missing(found, function.name, head, judged)?;
             add_unreached(found, pieces, function.name, judged.unreachable.as_slice())?;
             add_overlaps(found, pieces, function.name, judged.overlaps.as_slice())?;
             Ok(())
@@ -170,14 +195,25 @@ fn add_function<'r, 'a>(
     }
 }
 
-// What the match of the function of this number is on.
-fn scrutinee_place(site: &Site<'_>, i: usize) -> Place
+// The function of this number: what its match is on, and where arms are added to it.
+fn head_of(site: &Site<'_>, i: usize) -> Head
     requires { site.now.bodies.now ≡ bodies_of site.now.pieces.now }
-    ensures { result ≡ scrutinee_place site.now.pieces.now i }
+    ensures { result ≡ head_of site.now.pieces.now i }
 {
     match site.bodies.get(i) {
-        Some(body) => Place::There(body.scrutinee),
-        None => Place::Lost,
+        Some(body) => Head {
+            number: i,
+            scrutinee: Place::There(body.scrutinee),
+            end: body.end,
+        },
+        None => Head {
+            number: i,
+            scrutinee: Place::Lost,
+            end: End {
+                place: Place::Nowhere,
+                comma: false,
+            },
+        },
     }
 }
 
@@ -194,12 +230,7 @@ fn functions_findings<'r, 'a>(
 {
     let mut found = Vec::new(alloc);
     for i in 0..functions.len() {
-        add_function(
-            &mut found,
-            site.pieces,
-            scrutinee_place(site, i),
-            &functions[i],
-        )?;
+        add_function(&mut found, site.pieces, head_of(site, i), &functions[i])?;
     }
     Ok(found)
 }

@@ -1,12 +1,14 @@
-// What a finding says: its level, its message, and its label at its place.
-ghost use Rattle.std.specs.Prelude.{◌≡◌, ◌++◌, OnOk, option_map, string_bytes, map};
+// What a finding says: its code, its title, and its label at its place.
+ghost use Rattle.std.specs.Prelude.{◌≡◌, ◌++◌, IfOk, OnOk, option_map, string_bytes, map};
 ghost use Rattle.explain_text.specs.Findings.{kind_view};
-ghost use Rattle.explain_text.specs.Messages.{cases_text, is_error, label_text, level_text, many_cases, message_text, others_text, pattern_word, quoted_text, three_cases, ticked, two_cases, uncovered_text, words_or};
-ghost use Rattle.rule_texts.specs.Rules.{label_of, title_of};
+ghost use Rattle.explain_text.specs.Messages.{cases_text, code_text, is_error, label_text, many_cases, named_text, others_text, part_name, pattern_word, phrase_text, place_name, quoted_text, three_cases, ticked, title_text, two_cases, uncovered_text, words_or};
+ghost use Rattle.rule_texts.specs.Rules.{phrase_view};
 
 use crate::findings::Kind;
-use rule_texts::{rule_label, rule_title};
-use std::alloc::AllocError;
+use crate::shown::marked_part;
+use explain_places::Place;
+use rule_texts::{Phrase, rule_label, rule_title};
+use std::alloc::{AllocError, Global};
 
 // Whether a finding breaks a build.
 pub(crate) fn is_error(kind: &Kind<'_, '_>) -> bool
@@ -18,11 +20,17 @@ pub(crate) fn is_error(kind: &Kind<'_, '_>) -> bool
     }
 }
 
-// How bad it is.
-pub(crate) fn level_text(kind: &Kind<'_, '_>) -> &'static str
-    ensures { result.now ≡ level_text (kind_view kind.now) }
+// Adds a short name of what is found.
+pub(crate) fn push_code(text: &mut String, kind: &Kind<'_, '_>) -> Result<(), AllocError>
+    ensures { OnOk result (string_bytes text.new ≡ string_bytes text.old ++ code_text (kind_view kind.now)) }
 {
-    if is_error(kind) { "error" } else { "warning" }
+    match kind {
+        Kind::Missing { .. } => text.push_str("non-exhaustive-patterns"),
+        Kind::Unreached { .. } => text.push_str("unreachable-pattern"),
+        Kind::Overlap { .. } => text.push_str("overlapping-range-endpoints"),
+        Kind::Refused { name, .. } => text.push_str(name),
+        Kind::FileRefused { name, .. } => text.push_str(name),
+    }
 }
 
 // Adds a phrase around a text.
@@ -124,19 +132,76 @@ fn push_uncovered(text: &mut String, front: &str, witnesses: &[&str]) -> Result<
     Ok(())
 }
 
-// The words, where there are some.
-fn words_or(words: Option<&'static str>) -> &'static str
-    ensures { result.now ≡ words_or (option_map (λ w. w.now) words.entry) }
+// What is shown of a part of a text on its first line.
+fn part_name(alloc: Global, text: &[u8], at: usize, to: usize) -> Result<String, AllocError>
+    ensures { IfOk result (λ name. string_bytes name ≡ part_name text.now at to) }
 {
-    match words {
-        Some(words) => words,
-        None => "no rule has this number",
+    if at <= text.len() {
+        marked_part(alloc, text, at, to)
+    } else {
+        Ok(String::new(alloc))
     }
 }
 
-// Adds what is found.
-pub(crate) fn push_message(text: &mut String, kind: &Kind<'_, '_>) -> Result<(), AllocError>
-    ensures { OnOk result (string_bytes text.new ≡ string_bytes text.old ++ message_text (kind_view kind.now)) }
+// What is shown of a place of the file.
+pub(crate) fn place_name(
+    alloc: Global,
+    text: &[u8],
+    mark: usize,
+    place: Place,
+) -> Result<String, AllocError>
+    ensures { IfOk result (λ name. string_bytes name ≡ place_name text.now mark place) }
+{
+    match place {
+        Place::There(span) => part_name(
+            alloc,
+            text,
+            span.from.saturating_sub(mark),
+            span.to.saturating_sub(mark),
+        ),
+        Place::Nowhere | Place::Lost => Ok(String::new(alloc)),
+    }
+}
+
+// Adds a phrase on what has this name.
+fn push_named(text: &mut String, front: &str, name: &str, back: &str) -> Result<(), AllocError>
+    ensures { OnOk result (string_bytes text.new ≡ string_bytes text.old ++ named_text front.now name.now back.now) }
+{
+    text.push_str(front)?;
+    push_ticked(text, name)?;
+    text.push_str(back)?;
+    Ok(())
+}
+
+// Adds a phrase, on what has this name.
+pub(crate) fn push_phrase(text: &mut String, name: &str, phrase: Phrase) -> Result<(), AllocError>
+    ensures { OnOk result (string_bytes text.new
+        ≡ string_bytes text.old ++ phrase_text name.now (phrase_view phrase)) }
+{
+    match phrase {
+        Phrase::Plain(words) => text.push_str(words),
+        Phrase::Named { front, back } => push_named(text, front, name, back),
+    }
+}
+
+// Adds the words on what has this name, where there are some.
+fn push_words(text: &mut String, name: &str, words: Option<Phrase>) -> Result<(), AllocError>
+    ensures { OnOk result (string_bytes text.new
+        ≡ string_bytes text.old ++ words_or name.now (option_map phrase_view words)) }
+{
+    match words {
+        Some(phrase) => push_phrase(text, name, phrase),
+        None => text.push_str("no rule has this number"),
+    }
+}
+
+// Adds what is found at what has this name.
+pub(crate) fn push_title(
+    text: &mut String,
+    name: &str,
+    kind: &Kind<'_, '_>,
+) -> Result<(), AllocError>
+    ensures { OnOk result (string_bytes text.new ≡ string_bytes text.old ++ title_text name.now (kind_view kind.now)) }
 {
     match kind {
         Kind::Missing { witnesses, .. } => {
@@ -144,14 +209,18 @@ pub(crate) fn push_message(text: &mut String, kind: &Kind<'_, '_>) -> Result<(),
         }
         Kind::Unreached { .. } => text.push_str("unreachable pattern"),
         Kind::Overlap { .. } => text.push_str("multiple patterns overlap on their endpoints"),
-        Kind::Refused { rule, .. } => text.push_str(words_or(rule_title(*rule))),
-        Kind::FileRefused { rule, .. } => text.push_str(words_or(rule_title(*rule))),
+        Kind::Refused { rule, .. } => push_words(text, name, rule_title(*rule)),
+        Kind::FileRefused { rule, .. } => push_words(text, name, rule_title(*rule)),
     }
 }
 
 // Adds what is said at its place.
-pub(crate) fn push_label(text: &mut String, kind: &Kind<'_, '_>) -> Result<(), AllocError>
-    ensures { OnOk result (string_bytes text.new ≡ string_bytes text.old ++ label_text (kind_view kind.now)) }
+pub(crate) fn push_label(
+    text: &mut String,
+    name: &str,
+    kind: &Kind<'_, '_>,
+) -> Result<(), AllocError>
+    ensures { OnOk result (string_bytes text.new ≡ string_bytes text.old ++ label_text name.now (kind_view kind.now)) }
 {
     match kind {
         Kind::Missing { witnesses, .. } => {
@@ -161,7 +230,7 @@ pub(crate) fn push_label(text: &mut String, kind: &Kind<'_, '_>) -> Result<(), A
         Kind::Overlap { value, .. } => {
             push_quoted(text, "this range overlaps on `", value, "`...")
         }
-        Kind::Refused { rule, .. } => text.push_str(words_or(rule_label(*rule))),
-        Kind::FileRefused { rule, .. } => text.push_str(words_or(rule_label(*rule))),
+        Kind::Refused { rule, .. } => push_words(text, name, rule_label(*rule)),
+        Kind::FileRefused { rule, .. } => push_words(text, name, rule_label(*rule)),
     }
 }

@@ -4,18 +4,23 @@ ghost use Rattle.explain_text.specs.Sources.{mark_length, is_place};
 
 use explain_lines::{Spot, begins_character};
 
-/// A source file: its name as it is shown, its bytes behind a byte order mark, how many bytes that mark has, and spots along
-/// the bytes.
+/// A source file as it is shown.
 #[derive(Clone, Copy)]
-pub(crate) struct Source<'s> {
+pub struct Source<'s> {
+    /// Its name.
     pub name: &'s str,
+    /// Its bytes behind a byte order mark.
     pub text: &'s [u8],
+    /// How many bytes that mark has.
     pub mark: usize,
+    /// Spots along the bytes (`explain_lines::checkpoints`).
     pub spots: &'s [Spot],
+    /// Whether colours of a terminal are written.
+    pub paint: bool,
 }
 
-// How many bytes the byte order mark has with which a file begins: 3, or 0 where it begins with none.
-pub(crate) fn mark_length(file: &[u8]) -> usize
+/// How many bytes the byte order mark has with which a file begins: 3, or 0 where it begins with none.
+pub fn mark_length(file: &[u8]) -> usize
     ensures exact { result ≡ mark_length file.now }
     ensures within { result ≤ length file.now }
 {

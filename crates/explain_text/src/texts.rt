@@ -1,49 +1,64 @@
-// The whole text.
-ghost use Rattle.std.specs.Prelude.{◌≡◌, ◌++◌, ◌≤◌, ◌-◌, ◌+◌, OnOk, IfOk, length, string_bytes, map, flat_map, codes, decimal};
-ghost use Rattle.std.specs.List.{All, list_all};
+// The text of findings.
+ghost use Rattle.std.specs.Prelude.{◌≡◌, ◌++◌, ◌≤◌, ◌-◌, OnOk, IfOk, codes, length, string_bytes, map, flat_map};
+ghost use Rattle.std.specs.List.{All};
 ghost use Rattle.explain_lines.specs.Steps.{IsSpotOf};
-ghost use Rattle.explain_text.specs.Findings.{finding_view, kind_view};
-ghost use Rattle.explain_text.specs.Messages.{is_error, label_text};
-ghost use Rattle.explain_text.specs.Notes.{other_of};
+ghost use Rattle.explain_text.specs.Diagnostics.{IsInside, diagnostic_view};
 ghost use Rattle.explain_text.specs.Order.{start_of};
-ghost use Rattle.explain_text.specs.Texts.{IsInside, is_found, is_inside, position_text, heading_text, finding_text, error_count, counts_text, whole_text};
+ghost use Rattle.explain_text.specs.Texts.{counts_text, diagnostic_text, error_count, form_text, heading_text, level_style, level_text, nowhere_text, position_text, short_place, short_text, short_texts, whole_text};
 
-use crate::findings::{Finding, Kind};
-use crate::frames::push_frame;
-use crate::messages::{is_error, level_text, push_label, push_message, push_quoted};
-use crate::notes::{other_of, push_notes, push_other};
+use crate::diagnostics::Diagnostic;
+use crate::explaining::Form;
+use crate::frames::{push_frame, push_place};
+use crate::note_texts::{push_notes, push_words};
 use crate::source::Source;
+use crate::styles::{Style, push_styled};
 use explain_places::Place;
 use std::alloc::{AllocError, Global};
 
-// Whether a place is in the file, or none is told.
-fn is_found(file: &[u8], place: Place) -> bool
-    ensures { result ≡ is_found file.now place }
+// How bad a finding is.
+fn level_text(breaks: bool) -> &'static str
+    ensures { result.now ≡ level_text breaks }
 {
-    match place {
-        Place::There(span) => span.from <= file.len(),
-        Place::Nowhere => true,
-        Place::Lost => false,
-    }
+    if breaks { "error" } else { "warning" }
 }
 
-// Whether the places of a finding are in the file.
-fn is_inside(file: &[u8], finding: &Finding<'_, '_>) -> bool
-    ensures { result ≡ is_inside file.now (finding_view finding.now) }
+// The style of that word, and of the marks of a finding.
+fn level_style(breaks: bool) -> Style
+    ensures { result ≡ level_style breaks }
 {
-    is_found(file, finding.place) && is_found(file, other_of(&finding.kind))
+    if breaks { Style::Error } else { Style::Warning }
 }
 
-// Whether the places of all findings are in the file.
-pub(crate) fn are_inside(file: &[u8], findings: &[Finding<'_, '_>]) -> bool
-    ensures { result ≡ list_all (is_inside file.now) (map finding_view findings.now) }
+// Adds the first line of a finding.
+fn push_heading(text: &mut String, paint: bool, breaks: bool, title: &str) -> Result<(), AllocError>
+    ensures { OnOk result (string_bytes text.new ≡ string_bytes text.old ++ heading_text paint breaks title.now) }
 {
-    for finding in findings {
-        if !is_inside(file, finding) {
-            return false;
-        }
-    }
-    true
+    push_styled(text, paint, level_style(breaks), level_text(breaks))?;
+    text.push_str(": ")?;
+    push_styled(text, paint, Style::Bold, title)?;
+    text.push_str("\n")?;
+    Ok(())
+}
+
+// Adds where a finding stands of which no place is told.
+fn push_nowhere(text: &mut String, source: &Source<'_>, label: &str) -> Result<(), AllocError>
+    ensures { OnOk result (string_bytes text.new
+        ≡ string_bytes text.old ++ nowhere_text source.now.paint source.now.name.now label.now) }
+{
+    push_styled(text, source.paint, Style::Frame, "--> ")?;
+    text.push_str(source.name)?;
+    text.push_str("\n")?;
+    push_words(text, source.paint, "note", label)?;
+    Ok(())
+}
+
+// A label behind carets.
+fn label_part(alloc: Global, label: &str) -> Result<String, AllocError>
+    ensures { IfOk result (λ part. string_bytes part ≡ codes " " ++ label.now) }
+{
+    let mut part = String::from_str(alloc, " ")?;
+    part.push_str(label)?;
+    Ok(part)
 }
 
 // Adds where a finding stands, with what is said there.
@@ -51,96 +66,91 @@ fn push_position(
     alloc: Global,
     text: &mut String,
     source: &Source<'_>,
-    label: &str,
-    place: Place,
+    one: &Diagnostic,
 ) -> Result<(), AllocError>
     requires right { All (IsSpotOf source.now.text.now) source.now.spots.now }
-    requires within { start_of place - source.now.mark ≤ length source.now.text.now }
+    requires within { start_of one.now.place - source.now.mark ≤ length source.now.text.now }
     ensures { OnOk result (string_bytes text.new ≡ string_bytes text.old
-        ++ position_text source.now.name.now source.now.text.now source.now.mark label.now place) }
+        ++ position_text source.now.paint source.now.name.now source.now.text.now source.now.mark
+        one.now.breaks (string_bytes one.now.label) one.now.place) }
 {
-    match place {
+    let label = one.label.as_str();
+    match one.place {
         Place::There(span) => {
-            push_frame(alloc, text, source, &span)?;
-            push_quoted(text, " ", label, "\n")?;
+            let part = label_part(alloc, label)?;
+            push_frame(
+                alloc,
+                text,
+                source,
+                &span,
+                level_style(one.breaks),
+                part.as_str(),
+            )?;
             Ok(())
         }
-        Place::Nowhere | Place::Lost => {
-            text.push_str("--> ")?;
-            text.push_str(source.name)?;
-            push_quoted(text, "\n  = note: ", label, "\n")?;
-            Ok(())
-        }
+        Place::Nowhere | Place::Lost => push_nowhere(text, source, label),
     }
 }
 
-// Adds the first line of a finding.
-fn push_heading(text: &mut String, kind: &Kind<'_, '_>) -> Result<(), AllocError>
-    ensures { OnOk result (string_bytes text.new ≡ string_bytes text.old ++ heading_text (kind_view kind.now)) }
+/// Adds the text of a finding beside its source: its title, its place with the line, its notes, and an empty line.
+pub fn push_diagnostic(
+    alloc: Global,
+    text: &mut String,
+    source: &Source<'_>,
+    diagnostic: &Diagnostic,
+) -> Result<(), AllocError>
+    requires right { All (IsSpotOf source.now.text.now) source.now.spots.now }
+    requires within { IsInside (length source.now.text.now) source.now.mark (diagnostic_view diagnostic.now) }
+    ensures { OnOk result (string_bytes text.new ≡ string_bytes text.old
+        ++ diagnostic_text source.now.paint source.now.name.now source.now.text.now source.now.mark
+        (diagnostic_view diagnostic.now)) }
 {
-    text.push_str(level_text(kind))?;
-    text.push_str(": ")?;
-    push_message(text, kind)?;
+    push_heading(
+        text,
+        source.paint,
+        diagnostic.breaks,
+        diagnostic.title.as_str(),
+    )?;
+    push_position(alloc, text, source, diagnostic)?;
+    push_notes(alloc, text, source, diagnostic.notes.as_slice())?;
     text.push_str("\n")?;
     Ok(())
 }
 
-// What is said at the place of a finding.
-fn label_text(alloc: Global, kind: &Kind<'_, '_>) -> Result<String, AllocError>
-    ensures { IfOk result (λ label. string_bytes label ≡ label_text (kind_view kind.now)) }
-{
-    let mut label = String::new(alloc);
-    push_label(&mut label, kind)?;
-    Ok(label)
-}
-
-// Adds a finding.
-fn push_finding(
+// Adds findings, one after the other.
+fn push_diagnostics(
     alloc: Global,
     text: &mut String,
     source: &Source<'_>,
-    finding: &Finding<'_, '_>,
+    all: &[Diagnostic],
 ) -> Result<(), AllocError>
     requires right { All (IsSpotOf source.now.text.now) source.now.spots.now }
-    requires within { IsInside (length source.now.text.now) source.now.mark (finding_view finding.now) }
+    requires within { All (IsInside (length source.now.text.now) source.now.mark) (map diagnostic_view all.now) }
     ensures { OnOk result (string_bytes text.new ≡ string_bytes text.old
-        ++ finding_text source.now.name.now source.now.text.now source.now.mark (finding_view finding.now)) }
+        ++ flat_map (diagnostic_text source.now.paint source.now.name.now source.now.text.now source.now.mark)
+        (map diagnostic_view all.now)) }
 {
-    let label = label_text(alloc, &finding.kind)?;
-    push_heading(text, &finding.kind)?;
-    push_position(alloc, text, source, label.as_str(), finding.place)?;
-    push_other(alloc, text, source, other_of(&finding.kind))?;
-    push_notes(text, &finding.kind)?;
-    text.push_str("\n")?;
-    Ok(())
-}
-
-// Adds the findings, one after the other.
-fn push_findings(
-    alloc: Global,
-    text: &mut String,
-    source: &Source<'_>,
-    findings: &[Finding<'_, '_>],
-) -> Result<(), AllocError>
-    requires right { All (IsSpotOf source.now.text.now) source.now.spots.now }
-    requires within { All (IsInside (length source.now.text.now) source.now.mark) (map finding_view findings.now) }
-    ensures { OnOk result (string_bytes text.new ≡ string_bytes text.old
-        ++ flat_map (finding_text source.now.name.now source.now.text.now source.now.mark) (map finding_view findings.now)) }
-{
-    for finding in findings {
-        push_finding(alloc, text, source, finding)?;
+    for one in all {
+        push_diagnostic(alloc, text, source, one)?;
     }
     Ok(())
+}
+
+// Whether a finding breaks a build.
+fn is_error(one: &Diagnostic) -> bool
+    ensures { result ≡ (diagnostic_view one.now).breaks }
+{
+    one.breaks
 }
 
 // How many findings break a build.
-pub(crate) fn error_count(findings: &[Finding<'_, '_>]) -> usize
-    ensures exact { result ≡ error_count (map finding_view findings.now) }
-    ensures few { result ≤ length findings.now }
+pub(crate) fn error_count(all: &[Diagnostic]) -> usize
+    ensures exact { result ≡ error_count (map diagnostic_view all.now) }
+    ensures few { result ≤ length all.now }
 {
     let mut errors = 0;
-    for finding in findings {
-        if is_error(&finding.kind) {
+    for one in all {
+        if is_error(one) {
             errors += 1;
         }
     }
@@ -156,23 +166,88 @@ fn push_counts(text: &mut String, errors: usize, warnings: usize) -> Result<(), 
 }
 
 // The text of all findings, and a last line with counts; nothing where there are none.
-pub(crate) fn whole_text(
-    alloc: Global,
-    source: &Source<'_>,
-    findings: &[Finding<'_, '_>],
-) -> Result<String, AllocError>
+fn whole_text(alloc: Global, source: &Source<'_>, all: &[Diagnostic]) -> Result<String, AllocError>
     requires right { All (IsSpotOf source.now.text.now) source.now.spots.now }
-    requires within { All (IsInside (length source.now.text.now) source.now.mark) (map finding_view findings.now) }
-    ensures { IfOk result (λ text. string_bytes text
-        ≡ whole_text source.now.name.now source.now.text.now source.now.mark (map finding_view findings.now)) }
+    requires within { All (IsInside (length source.now.text.now) source.now.mark) (map diagnostic_view all.now) }
+    ensures { IfOk result (λ text. string_bytes text ≡ whole_text source.now.paint source.now.name.now
+        source.now.text.now source.now.mark (map diagnostic_view all.now)) }
 {
     let mut text = String::new(alloc);
-    let count = findings.len();
+    let count = all.len();
     if count == 0 {
         return Ok(text);
     }
-    push_findings(alloc, &mut text, source, findings)?;
-    let errors = error_count(findings);
+    push_diagnostics(alloc, &mut text, source, all)?;
+    let errors = error_count(all);
     push_counts(&mut text, errors, count - errors)?;
     Ok(text)
+}
+
+// Adds the name of the file, and the line and column where a place is told.
+fn push_short_place(text: &mut String, source: &Source<'_>, place: Place) -> Result<(), AllocError>
+    requires right { All (IsSpotOf source.now.text.now) source.now.spots.now }
+    requires within { start_of place - source.now.mark ≤ length source.now.text.now }
+    ensures { OnOk result (string_bytes text.new ≡ string_bytes text.old
+        ++ short_place source.now.name.now source.now.text.now source.now.mark place) }
+{
+    match place {
+        Place::There(span) => push_place(text, source, span.from),
+        Place::Nowhere | Place::Lost => text.push_str(source.name),
+    }
+}
+
+// Adds a finding in one line.
+fn push_short(text: &mut String, source: &Source<'_>, one: &Diagnostic) -> Result<(), AllocError>
+    requires right { All (IsSpotOf source.now.text.now) source.now.spots.now }
+    requires within { IsInside (length source.now.text.now) source.now.mark (diagnostic_view one.now) }
+    ensures { OnOk result (string_bytes text.new ≡ string_bytes text.old
+        ++ short_text source.now.paint source.now.name.now source.now.text.now source.now.mark
+        (diagnostic_view one.now)) }
+{
+    push_short_place(text, source, one.place)?;
+    text.push_str(": ")?;
+    push_styled(
+        text,
+        source.paint,
+        level_style(one.breaks),
+        level_text(one.breaks),
+    )?;
+    text.push_str(": ")?;
+    text.push_str(one.title.as_str())?;
+    text.push_str(": ")?;
+    text.push_str(one.label.as_str())?;
+    text.push_str("\n")?;
+    Ok(())
+}
+
+// All findings in one line each.
+fn short_texts(alloc: Global, source: &Source<'_>, all: &[Diagnostic]) -> Result<String, AllocError>
+    requires right { All (IsSpotOf source.now.text.now) source.now.spots.now }
+    requires within { All (IsInside (length source.now.text.now) source.now.mark) (map diagnostic_view all.now) }
+    ensures { IfOk result (λ text. string_bytes text ≡ short_texts source.now.paint source.now.name.now
+        source.now.text.now source.now.mark (map diagnostic_view all.now)) }
+{
+    let mut text = String::new(alloc);
+    for one in all {
+        push_short(&mut text, source, one)?;
+    }
+    Ok(text)
+}
+
+// The findings in a form.
+pub(crate) fn form_text(
+    alloc: Global,
+    form: Form,
+    source: &Source<'_>,
+    all: &[Diagnostic],
+) -> Result<String, AllocError>
+    requires right { All (IsSpotOf source.now.text.now) source.now.spots.now }
+    requires within { All (IsInside (length source.now.text.now) source.now.mark) (map diagnostic_view all.now) }
+    ensures { IfOk result (λ text. string_bytes text ≡ form_text form source.now.paint source.now.name.now
+        source.now.text.now source.now.mark (map diagnostic_view all.now)) }
+{
+    match form {
+        Form::Full => whole_text(alloc, source, all),
+        Form::Short => short_texts(alloc, source, all),
+    }
 }

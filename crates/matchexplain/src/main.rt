@@ -1,13 +1,14 @@
 //! The program: `matchexplain FILE` reads the report that `matchcheck` writes of a source from standard input, and prints
-//! its findings beside the lines of FILE. `matchexplain FILE --dot FUNCTION` reads a report with trees, and prints the
-//! decision tree of that function as a graph in Graphviz's language.
+//! its findings beside the lines of FILE, or with `--short` each in one line. A second line of standard input is the
+//! report of `arms`, whose arms are then shown. `--color always` adds colours. `matchexplain FILE --dot FUNCTION` reads a
+//! report with trees, and prints the decision tree of that function as a graph in Graphviz's language.
 //!
 //! What is printed is told by `explain_text::explain`, and so is whether a finding breaks a build, and by
 //! `explain_tree::picture`. Where there is nothing to print, the reason goes to standard error, and nothing to standard
 //! output.
 #![tactic(auto)]
 
-use explain_text::{Explained, Fault, explain};
+use explain_text::{Explained, Fault, Form, Manner, explain};
 use explain_tree::picture;
 use std::alloc::Global;
 use std::io::{ErrorKind, Read, Write};
@@ -80,10 +81,27 @@ fn write_out<R: Print>(rt: &R, text: &[u8]) -> io::Result<()> {
     out.flush()
 }
 
+// The report in its first line, and the report of `arms` in what follows.
+fn both_reports(json: &str) -> (&str, &str) {
+    match json.split_once('\n') {
+        Some((report, arms)) => (report, arms),
+        None => (json, ""),
+    }
+}
+
 // The text of a report beside its file.
-fn explained(alloc: Global, name: &str, file: &[u8], input: Vec<u8>) -> Result<Explained, Fault> {
+fn explained(
+    alloc: Global,
+    manner: Manner,
+    name: &str,
+    file: &[u8],
+    input: Vec<u8>,
+) -> Result<Explained, Fault> {
     match String::from_utf8(input) {
-        Ok(json) => explain(alloc, name, file, json.as_str()),
+        Ok(json) => {
+            let (report, arms) = both_reports(json.as_str());
+            explain(alloc, manner, name, file, report, arms)
+        }
         Err(_) => Err(Fault::NoReport),
     }
 }
@@ -121,12 +139,16 @@ fn read_both<R: Files + Input + Eprint + AllocGlobal>(
 }
 
 // Prints the findings of the report on a file.
-fn explain_file<R: Files + Input + Print + Eprint + AllocGlobal>(rt: &R, name: &str) -> Status {
+fn explain_file<R: Files + Input + Print + Eprint + AllocGlobal>(
+    rt: &R,
+    manner: Manner,
+    name: &str,
+) -> Status {
     let (file, input) = match read_both(rt, name) {
         Ok(both) => both,
         Err(status) => return status,
     };
-    match explained(rt.alloc(), name, file.as_slice(), input) {
+    match explained(rt.alloc(), manner, name, file.as_slice(), input) {
         Ok(explained) => match write_out(rt, explained.text.as_bytes()) {
             Ok(()) if explained.breaks => Status::Found,
             Ok(()) => Status::Clean,
@@ -185,20 +207,55 @@ fn draw<R: Files + Input + Print + Eprint + AllocGlobal>(
     }
 }
 
+// Says which words there are.
+fn tell_usage<R: Eprint>(rt: &R) -> Status {
+    let _ = eprintln!(rt;
+        "usage: matchcheck check FILE | matchexplain FILE [--short] [--color always|never]"
+    );
+    let _ = eprintln!(rt; "       matchcheck trees FILE | matchexplain FILE --dot FUNCTION");
+    Status::Words
+}
+
+// Whether colours are wanted, by the word behind `--color`.
+fn paint_of(word: &str) -> Option<bool> {
+    match word {
+        "always" => Some(true),
+        "never" => Some(false),
+        _ => None,
+    }
+}
+
+// Prints findings in a form, with colours or without.
+fn explain_in<R: Files + Input + Print + Eprint + AllocGlobal>(
+    rt: &R,
+    form: Form,
+    color: &str,
+    name: &str,
+) -> Status {
+    match paint_of(color) {
+        Some(paint) => explain_file(rt, Manner { form, paint }, name),
+        None => tell_usage(rt),
+    }
+}
+
 // Does what the words ask for.
 fn run<R: Env + Files + Input + Print + Eprint + AllocGlobal>(rt: &R, words: &[String]) -> Status {
     match words {
-        [file] => explain_file(rt, file.as_str()),
+        [file] => explain_in(rt, Form::Full, "never", file.as_str()),
+        [file, short] if short.as_str() == "--short" => {
+            explain_in(rt, Form::Short, "never", file.as_str())
+        }
+        [file, option, color] if option.as_str() == "--color" => {
+            explain_in(rt, Form::Full, color.as_str(), file.as_str())
+        }
         [file, option, function] if option.as_str() == "--dot" => {
             draw(rt, file.as_str(), function.as_str())
         }
-        _ => {
-            let _ = eprintln!(rt; "usage: matchcheck check FILE | matchexplain FILE");
-            let _ = eprintln!(rt;
-                "       matchcheck trees FILE | matchexplain FILE --dot FUNCTION"
-            );
-            Status::Words
+        [file, short, option, color]
+            if short.as_str() == "--short" && option.as_str() == "--color" => {
+            explain_in(rt, Form::Short, color.as_str(), file.as_str())
         }
+        _ => tell_usage(rt),
     }
 }
 

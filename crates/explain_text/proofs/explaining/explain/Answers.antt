@@ -1,13 +1,28 @@
-use Rattle.std.proofs.Common.{subst, List}
-use Rattle.explain_places.specs.declared.pieces.Piece.{Piece}
+use Rattle.std.proofs.Common.{◌∙◌, ap, sym, subst, ◌-◌, List, length, map}
+use Rattle.std.specs.List.{All}
+use Rattle.explain_report.specs.Arms.{read_arms}
 use Rattle.explain_report.specs.Skimming.{read_skimmed}
-use Rattle.explain_text.specs.Texts.{Answers, outcome_of}
-use Rattle.explain_text.proofs.Whole.{answered}
+use Rattle.explain_text.specs.Diagnosing.{Diagnosed, diagnosis_of}
+use Rattle.explain_text.specs.Diagnostics.{IsInside, diagnostic_view}
+use Rattle.explain_text.specs.Sources.{mark_length}
+use Rattle.explain_text.specs.Texts.{told_of}
+use Rattle.explain_text.specs.declared.diagnostics.Diagnostic.{Diagnostic}
+use Rattle.explain_text.proofs.Whole.{answered, failed}
 use Rattle.explain_text.proofs.explaining.explain.Goals as goal
 
-pub returns : goal.returns
-returns c =
-    answered c.args.file.now c.in_ok-pieces.pieces.items (outcome_of c.args.name.now c.args.file.now (read_skimmed c.args.json.now)) c.json_explained.result
-    c.in_ok-pieces.ensures.exact
-    (subst (λ (ps : List Piece). Answers (outcome_of c.args.name.now c.args.file.now (read_skimmed c.args.json.now) ps) c.json_explained.result)
-    c.as_slice.ensures.value c.json_explained.ensures)
+pub findings_explained-in-Ok-requires : goal.findings_explained-in-Ok-requires
+findings_explained-in-Ok-requires c =
+    subst (λ (l : List Diagnostic). All (IsInside (length c.args.file.now - mark_length c.args.file.now) (mark_length c.args.file.now)) (map diagnostic_view l))
+    (sym c.as_slice-in-Ok.ensures.value) c.in-Ok.ensures.inside
+
+pub returns-in_ok-findings_explained-in-Ok : goal.returns-in_ok-findings_explained-in-Ok
+returns-in_ok-findings_explained-in-Ok c =
+    answered c.args.manner c.args.name.now c.args.file.now (diagnosis_of c.args.file.now (read_skimmed c.args.json.now) (read_arms c.args.arms.now))
+    c.in-Ok.found c.in_ok-findings_explained-in-Ok.field-0 c.in-Ok.ensures.exact
+    (ap (λ (l : List Diagnostic). told_of c.args.manner c.args.name.now c.args.file.now (Diagnosed (map diagnostic_view l))) (sym c.as_slice-in-Ok.ensures.value)
+    ∙ c.in_ok-findings_explained-in-Ok.ensures)
+
+pub returns-in-Err : goal.returns-in-Err
+returns-in-Err c =
+    failed c.args.manner c.args.name.now c.args.file.now (diagnosis_of c.args.file.now (read_skimmed c.args.json.now) (read_arms c.args.arms.now))
+    c.in-Err.fault c.in-Err.ensures.exact
