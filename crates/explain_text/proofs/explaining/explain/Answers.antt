@@ -10,16 +10,16 @@ use Rattle.explain_text.specs.declared.diagnostics.Diagnostic.{Diagnostic}
 use Rattle.explain_text.proofs.Whole.{answered, failed}
 use Rattle.explain_text.proofs.explaining.explain.Goals as goal
 
-pub findings_explained-in-Ok-requires : goal.findings_explained-in-Ok-requires
-findings_explained-in-Ok-requires c =
+pub findings_explained-requires : goal.findings_explained-requires
+findings_explained-requires c =
     subst (λ (l : List Diagnostic). All (IsInside (length c.args.file.now - mark_length c.args.file.now) (mark_length c.args.file.now)) (map diagnostic_view l))
-    (sym c.as_slice-in-Ok.ensures.value) c.in-Ok.ensures.inside
+    (sym c.as_slice.ensures.value) c.in-Ok.ensures.inside
 
 pub returns-in_ok-findings_explained-in-Ok : goal.returns-in_ok-findings_explained-in-Ok
 returns-in_ok-findings_explained-in-Ok c =
     answered c.args.manner c.args.name.now c.args.file.now (diagnosis_of c.args.file.now (read_skimmed c.args.json.now) (read_arms c.args.arms.now))
     c.in-Ok.found c.in_ok-findings_explained-in-Ok.field-0 c.in-Ok.ensures.exact
-    (ap (λ (l : List Diagnostic). told_of c.args.manner c.args.name.now c.args.file.now (Diagnosed (map diagnostic_view l))) (sym c.as_slice-in-Ok.ensures.value)
+    (ap (λ (l : List Diagnostic). told_of c.args.manner c.args.name.now c.args.file.now (Diagnosed (map diagnostic_view l))) (sym c.as_slice.ensures.value)
     ∙ c.in_ok-findings_explained-in-Ok.ensures)
 
 pub returns-in-Err : goal.returns-in-Err
