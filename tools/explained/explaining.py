@@ -81,9 +81,10 @@ def tokens_at(data, at):
 
 
 def pattern_at(data, at, whole):
-    """From where to where the pattern or alternative stands that begins at a byte."""
-    depth, end = 0, at
-    for token in tokens_at(data, at):
+    """From where to where the pattern or alternative stands that begins at a byte. It has the token that begins there."""
+    first, *others = tokens_at(data, at)
+    depth, end = int(first.kind == "mark" and first.value in "([{"), first.end
+    for token in others:
         if token.kind == "mark" and token.value in "([{":
             depth += 1
         elif token.kind == "mark" and token.value in ")]}":

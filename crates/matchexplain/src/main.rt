@@ -1,10 +1,10 @@
 //! The program: `matchexplain FILE` reads the report that `matchcheck` writes of a source from standard input, and prints
-//! its findings beside the lines of FILE, or with `--short` each in one line. A second line of standard input is the
+//! its findings beside the lines of FILE, with `--short` each in one line, or with `--json` as rustc's JSON. A second line of standard input is the
 //! report of `arms`, whose arms are then shown. `--color always` adds colours. `matchexplain FILE --dot FUNCTION` reads a
 //! report with trees, and prints the decision tree of that function as a graph in Graphviz's language.
 //!
-//! What is printed is told by `explain_text::explain`, and so is whether a finding breaks a build, and by
-//! `explain_tree::picture`. Where there is nothing to print, the reason goes to standard error, and nothing to standard
+//! What is printed is told by `explain_text::explain` or `explain_json::explain`, and so is whether a finding breaks a
+//! build, and by `explain_tree::picture`. Where there is nothing to print, the reason goes to standard error, and nothing to standard
 //! output.
 #![tactic(auto)]
 
@@ -81,6 +81,15 @@ fn write_out<R: Print>(rt: &R, text: &[u8]) -> io::Result<()> {
     out.flush()
 }
 
+// How findings are printed.
+#[derive(Clone, Copy, Debug)]
+enum Wanted {
+    // As text.
+    Text(Manner),
+    // As JSON.
+    Json,
+}
+
 // The report in its first line, and the report of `arms` in what follows.
 fn both_reports(json: &str) -> (&str, &str) {
     match json.split_once('\n') {
@@ -92,7 +101,7 @@ fn both_reports(json: &str) -> (&str, &str) {
 // The text of a report beside its file.
 fn explained(
     alloc: Global,
-    manner: Manner,
+    wanted: Wanted,
     name: &str,
     file: &[u8],
     input: Vec<u8>,
@@ -100,7 +109,10 @@ fn explained(
     match String::from_utf8(input) {
         Ok(json) => {
             let (report, arms) = both_reports(json.as_str());
-            explain(alloc, manner, name, file, report, arms)
+            match wanted {
+                Wanted::Text(manner) => explain(alloc, manner, name, file, report, arms),
+                Wanted::Json => explain_json::explain(alloc, name, file, report, arms),
+            }
         }
         Err(_) => Err(Fault::NoReport),
     }
@@ -141,14 +153,14 @@ fn read_both<R: Files + Input + Eprint + AllocGlobal>(
 // Prints the findings of the report on a file.
 fn explain_file<R: Files + Input + Print + Eprint + AllocGlobal>(
     rt: &R,
-    manner: Manner,
+    wanted: Wanted,
     name: &str,
 ) -> Status {
     let (file, input) = match read_both(rt, name) {
         Ok(both) => both,
         Err(status) => return status,
     };
-    match explained(rt.alloc(), manner, name, file.as_slice(), input) {
+    match explained(rt.alloc(), wanted, name, file.as_slice(), input) {
         Ok(explained) => match write_out(rt, explained.text.as_bytes()) {
             Ok(()) if explained.breaks => Status::Found,
             Ok(()) => Status::Clean,
@@ -212,6 +224,7 @@ fn tell_usage<R: Eprint>(rt: &R) -> Status {
     let _ = eprintln!(rt;
         "usage: matchcheck check FILE | matchexplain FILE [--short] [--color always|never]"
     );
+    let _ = eprintln!(rt; "       matchcheck check FILE | matchexplain FILE --json");
     let _ = eprintln!(rt; "       matchcheck trees FILE | matchexplain FILE --dot FUNCTION");
     Status::Words
 }
@@ -233,7 +246,7 @@ fn explain_in<R: Files + Input + Print + Eprint + AllocGlobal>(
     name: &str,
 ) -> Status {
     match paint_of(color) {
-        Some(paint) => explain_file(rt, Manner { form, paint }, name),
+        Some(paint) => explain_file(rt, Wanted::Text(Manner { form, paint }), name),
         None => tell_usage(rt),
     }
 }
@@ -244,6 +257,9 @@ fn run<R: Env + Files + Input + Print + Eprint + AllocGlobal>(rt: &R, words: &[S
         [file] => explain_in(rt, Form::Full, "never", file.as_str()),
         [file, short] if short.as_str() == "--short" => {
             explain_in(rt, Form::Short, "never", file.as_str())
+        }
+        [file, json] if json.as_str() == "--json" => {
+            explain_file(rt, Wanted::Json, file.as_str())
         }
         [file, option, color] if option.as_str() == "--color" => {
             explain_in(rt, Form::Full, color.as_str(), file.as_str())
