@@ -79,11 +79,12 @@ struct matchcheck_told matchcheck_report(const struct matchcheck_question *quest
                                          uint8_t *room, size_t room_length);
 
 /* Puts the text for people that a report of MATCHCHECK_CHECK has beside its source into the room. The text shows the
-   source under this name, which is in UTF-8. MATCHCHECK_NO_FORM says that the report is none, or is of another
-   source. */
+   source under this name, which is in UTF-8. `arms` is the report of MATCHCHECK_ARMS, whose arms are shown in place of
+   missing cases, or it is empty. MATCHCHECK_NO_FORM says that a report is none, or is of another source. */
 struct matchcheck_told matchcheck_explain(const uint8_t *name, size_t name_length,
                                           const uint8_t *source, size_t source_length,
                                           const uint8_t *report, size_t report_length,
+                                          const uint8_t *arms, size_t arms_length,
                                           uint8_t *room, size_t room_length);
 
 /* The allocator is the program's choice. The library calls these three and no other function of the outside.

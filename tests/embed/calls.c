@@ -8,7 +8,7 @@
    Standard input has a case a line, in words:
 
        report COMMAND WIDTH EDITION FUNCTION VALUE ANSWERS SOURCE STATUS TEXT
-       explain NAME SOURCE REPORT STATUS TEXT
+       explain NAME SOURCE REPORT ARMS STATUS TEXT
 
    Numbers are decimal. A text is the name of a file that holds it.
    The last line says what was tried; the exit status is 1 where an answer is another one. */
@@ -32,7 +32,7 @@ struct one_case {
     int number; /* of its line, from 1 */
     int is_report;
     struct matchcheck_question question;
-    struct text name, source, report, wanted;
+    struct text name, source, report, arms, wanted;
     int status;
 };
 
@@ -130,8 +130,10 @@ static void read_cases(void) {
         else
             it->name = file_text(word(it->number), it->number);
         it->source = file_text(word(it->number), it->number);
-        if (!it->is_report)
+        if (!it->is_report) {
             it->report = file_text(word(it->number), it->number);
+            it->arms = file_text(word(it->number), it->number);
+        }
         it->status = atoi(word(it->number));
         it->wanted = file_text(word(it->number), it->number);
         if (case_count == MOST_CASES)
@@ -157,7 +159,7 @@ static struct matchcheck_told call(const struct one_case *it, uint8_t *room, siz
     if (it->is_report)
         return matchcheck_report(&it->question, it->source.at, it->source.length, room, length);
     return matchcheck_explain(it->name.at, it->name.length, it->source.at, it->source.length, it->report.at,
-                              it->report.length, room, length);
+                              it->report.length, it->arms.at, it->arms.length, room, length);
 }
 
 static int is_filling(const uint8_t *from, const uint8_t *to) {

@@ -78,8 +78,8 @@ class Cases:
         numbers, texts = question[:3], [self.texts.path(text) for text in (*question[3:], source)]
         self.lines.append(" ".join(map(str, ["report", *numbers, *texts, status, self.texts.path(wanted)])))
 
-    def explain(self, name, source, report, status, wanted):
-        texts = [self.texts.path(text) for text in (name, source, report)]
+    def explain(self, name, source, report, status, wanted, arms=b""):
+        texts = [self.texts.path(text) for text in (name, source, report, arms)]
         self.lines.append(" ".join(map(str, ["explain", *texts, status, self.texts.path(wanted)])))
 
 
@@ -95,10 +95,14 @@ def add_source(cases, run, source):
     trees = run.beside(source, ".trees.json")
     if trees is not None:
         cases.report((1, 0, 2024, b"", b"", b""), data, run.status_of(trees), trees)
-    text = run.beside(source, ".txt")
-    if text is not None:
-        breaks = b"\nerrors: " in text and b"\nerrors: 0," not in text
-        cases.explain(pathlib.Path(source).name.encode(), data, wanted, int(breaks), text)
+    arms = run.beside(source, ".arms.json")
+    if arms is not None:
+        cases.report((2, 0, 2024, b"", b"", b""), data, run.status_of(arms), arms)
+    for ending, given in ((".txt", b""), (".arms.txt", arms)):
+        text = run.beside(source, ending)
+        if text is not None:
+            breaks = b"\nerrors: " in text and b"\nerrors: 0," not in text
+            cases.explain(pathlib.Path(source).name.encode(), data, wanted, int(breaks), text, given)
 
 
 def add_worked(cases, longest):
@@ -122,6 +126,8 @@ def add_formless(cases):
     run = worked()
     cases.explain(b"\xff.rs", run.FILE.encode(), b'{"functions":[]}', NO_FORM, b"")
     cases.explain(b"f.rs", run.FILE.encode(), b'{"functions":[]}\xff', NO_FORM, b"")
+    for arms in (b"\xff", b"[", b"[]"):
+        cases.explain(b"f.rs", run.FILE.encode(), b'{"functions":[]}', NO_FORM, b"", arms)
     for text in run.NO_REPORTS.values():
         cases.explain(b"f.rs", run.FILE.encode(), text.encode(), NO_FORM, b"")
 

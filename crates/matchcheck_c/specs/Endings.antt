@@ -3,8 +3,11 @@ use Rattle.std.specs.Prelude.{ℕ, ◌≡◌, List, Bool, true, false, Some}
 use Rattle.std.specs.Str.{is_utf8}
 use Rattle.explain_places.specs.Pieces.{ArePieces}
 use Rattle.explain_places.specs.declared.pieces.Piece.{Piece}
+use Rattle.explain_report.specs.Arms.{read_arms}
 use Rattle.explain_report.specs.Skimming.{read_skimmed}
-use Rattle.explain_text.specs.Texts.{Outcome, Told, NotReport, NotInFile, outcome_of}
+use Rattle.explain_text.specs.Texts.{Outcome, Told, NoReport, NoPlace, outcome_of}
+use Rattle.explain_text.specs.declared.explaining.Form.TheVariants.{Full}
+use Rattle.explain_text.specs.declared.explaining.Manner.{Manner}
 use Rattle.match_top.specs.Answers.{Answers}
 use Rattle.match_top.specs.Statuses.{IsVerdict, status_number}
 use Rattle.match_top.specs.Words.{RequestForm}
@@ -27,22 +30,26 @@ abbrev pub explained_status : Bool → Status
 explained_status true = Found
 explained_status false = Clean
 
--- the outcome of a report beside the source of this name, by the tokens of the source
-pub record HasOutcome (name source report : List ℕ) (outcome : Outcome) : Type 0 where
+-- in full, without colours
+abbrev pub plain : Manner
+plain = record { form = Full; paint = false }
+
+-- the outcome of a report, and of one of `arms`, beside the source of this name, by the tokens of the source
+pub record HasOutcome (name source report arms : List ℕ) (outcome : Outcome) : Type 0 where
   pub pieces : List Piece
   pub are_pieces : ArePieces source pieces
-  pub itself : outcome_of name source (read_skimmed report) pieces ≡ outcome
+  pub itself : outcome_of plain name source (read_skimmed report) (read_arms arms) pieces ≡ outcome
 
 -- the report is told as this text, with a status of this number
-pub record IsExplained (name source report text : List ℕ) (number : ℕ) : Type 0 where
+pub record IsExplained (name source report arms text : List ℕ) (number : ℕ) : Type 0 where
   pub breaks : Bool
-  pub told : HasOutcome name source report (Told text breaks)
+  pub told : HasOutcome name source report arms (Told text breaks)
   pub numbered : status_number (explained_status breaks) ≡ number
 
--- there is nothing to tell: the name or the report is no UTF-8, the report is none, or a place of it is not in the
--- source
-pub data IsUntold (name source report : List ℕ) : Type 0 where
-  no_name : is_utf8 name ≡ false → IsUntold name source report
-  no_text : is_utf8 report ≡ false → IsUntold name source report
-  no_report : HasOutcome name source report NotReport → IsUntold name source report
-  no_place : HasOutcome name source report NotInFile → IsUntold name source report
+-- there is nothing to tell: the name or a report is no UTF-8, a report is none, or a place of it is not in the source
+pub data IsUntold (name source report arms : List ℕ) : Type 0 where
+  no_name : is_utf8 name ≡ false → IsUntold name source report arms
+  no_text : is_utf8 report ≡ false → IsUntold name source report arms
+  no_arms : is_utf8 arms ≡ false → IsUntold name source report arms
+  no_report : HasOutcome name source report arms NoReport → IsUntold name source report arms
+  no_place : HasOutcome name source report arms NoPlace → IsUntold name source report arms

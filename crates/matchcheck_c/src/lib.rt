@@ -21,7 +21,7 @@ mod room;
 use crate::asking::{request_of, text_of};
 use crate::room::{give, nothing};
 pub use asking::Question;
-use explain_text::{Fault, explain};
+use explain_text::{Fault, Form, Manner, explain};
 use match_top::{Status, report};
 pub use room::Told;
 use std::alloc::Global;
@@ -57,11 +57,12 @@ pub extern "C" fn matchcheck_report(
     }
 }
 
-/// The text for people that a report has beside its source, in which the source has this name.
+/// The text for people that a report has beside its source, in which the source has this name. Where the report of
+/// `arms` is given too, its arms are shown in place of missing cases; it may be empty.
 ///
 /// With 0 and 1 the text stands at the front of the room: with 1 a match is not exhaustive or a rule is broken, with 0
 /// neither. With 7 the room is too small, and `length` says how much the text takes. With 2 there is nothing to tell:
-/// the name or the report is no UTF-8, the report is none, or a place of it is not in the source. With 6 memory was
+/// the name or a report is no UTF-8, a report is none, or a place of it is not in the source. With 6 memory was
 /// refused. With these three the room is as it was.
 #[unsafe(no_mangle)]
 pub extern "C" fn matchcheck_explain(
@@ -69,24 +70,30 @@ pub extern "C" fn matchcheck_explain(
     name: &[u8],
     source: &[u8],
     report: &[u8],
+    arms: &[u8],
     room: &mut [u8],
 ) -> Told
     ensures statuses { (result.status ≡ 0) ⊎ ((result.status ≡ 1) ⊎ ((result.status ≡ 2) ⊎ ((result.status ≡ 6)
         ⊎ (result.status ≡ 7)))) }
     ensures whole { (result.status ≡ 0) ⊎ (result.status ≡ 1) → (text : List ℕ)
-        × IsExplained name.now source.now report.now text result.status
+        × IsExplained name.now source.now report.now arms.now text result.status
         × IsWhole text result.length room.old room.new }
     ensures small { result.status ≡ 7 → (text : List ℕ) × (status : ℕ)
-        × IsExplained name.now source.now report.now text status × IsSmall text result.length room.old room.new }
-    ensures none { result.status ≡ 2 → IsUntold name.now source.now report.now }
-    ensures texts { (is_utf8 name.now ≡ false) ⊎ (is_utf8 report.now ≡ false) → result.status ≡ 2 }
+        × IsExplained name.now source.now report.now arms.now text status × IsSmall text result.length room.old room.new }
+    ensures none { result.status ≡ 2 → IsUntold name.now source.now report.now arms.now }
+    ensures texts { (is_utf8 name.now ≡ false) ⊎ ((is_utf8 report.now ≡ false) ⊎ (is_utf8 arms.now ≡ false)) → result.status ≡ 2 }
     ensures untold { result.status ≡ 2 → IsUntouched result.length room.old room.new }
     ensures memory { result.status ≡ 6 → IsUntouched result.length room.old room.new }
 {
-    let (Some(name), Some(report)) = (text_of(name), text_of(report)) else {
+    let (Some(name), Some(report), Some(arms)) = (text_of(name), text_of(report), text_of(arms))
+    else {
         return nothing(Status::Words);
     };
-    match explain(alloc, name, source, report) {
+    let plain = Manner {
+        form: Form::Full,
+        paint: false,
+    };
+    match explain(alloc, plain, name, source, report, arms) {
         Ok(explained) => give(
             explained.text.as_bytes(),
             explained_status(explained.breaks),

@@ -63,13 +63,13 @@ static uint8_t explain(const char *name, struct bytes source, struct bytes repor
     const uint8_t *title = (const uint8_t *)name;
     struct matchcheck_told told;
     *text = room_of(1024);
-    told = matchcheck_explain(title, strlen(name), source.at, source.length, report.at, report.length, text->at,
-                              text->length);
+    told = matchcheck_explain(title, strlen(name), source.at, source.length, report.at, report.length,
+                              MATCHCHECK_NO_TEXT, 0, text->at, text->length);
     if (told.status == MATCHCHECK_NO_ROOM) {
         free(text->at);
         *text = room_of(told.length);
-        told = matchcheck_explain(title, strlen(name), source.at, source.length, report.at, report.length, text->at,
-                                  text->length);
+        told = matchcheck_explain(title, strlen(name), source.at, source.length, report.at, report.length,
+                                  MATCHCHECK_NO_TEXT, 0, text->at, text->length);
     }
     text->length = told.length;
     return told.status;

@@ -22,7 +22,7 @@ fn main() -> Result<ExitCode, Box<dyn Error>> {
     let source = fs::read(file)?;
     let report = report(command, Options::default(), &source)?;
     let text = match command {
-        Command::Check => explain(file, &source, &report.text)?.text,
+        Command::Check => explain(file, &source, &report.text, None)?.text,
         _ => report.text,
     };
     io::stdout().write_all(&text)?;

@@ -64,6 +64,8 @@ unsafe extern "C" {
         source_length: usize,
         report: *const u8,
         report_length: usize,
+        arms: *const u8,
+        arms_length: usize,
         room: *mut u8,
         room_length: usize,
     ) -> Told;
@@ -75,7 +77,7 @@ pub fn report(question: &Question<'_>, source: &[u8], room: &mut [u8]) -> Told {
     unsafe { matchcheck_report(question, source.as_ptr(), source.len(), room.as_mut_ptr(), room.len()) }
 }
 
-pub fn explain(name: &[u8], source: &[u8], report: &[u8], room: &mut [u8]) -> Told {
+pub fn explain(name: &[u8], source: &[u8], report: &[u8], arms: &[u8], room: &mut [u8]) -> Told {
     // SAFETY: slices are whole, initialised, not null also where they are empty, and a `&mut` one overlaps no other.
     unsafe {
         matchcheck_explain(
@@ -85,6 +87,8 @@ pub fn explain(name: &[u8], source: &[u8], report: &[u8], room: &mut [u8]) -> To
             source.len(),
             report.as_ptr(),
             report.len(),
+            arms.as_ptr(),
+            arms.len(),
             room.as_mut_ptr(),
             room.len(),
         )

@@ -13,7 +13,7 @@
 //! let source = b"fn f(x: bool) -> u8 { match x { true => 1 } }";
 //! let report = report(Command::Check, Options::default(), source)?;
 //! assert_eq!(report.verdict, Verdict::Found);
-//! let text = explain("f.rs", source, &report.text)?;
+//! let text = explain("f.rs", source, &report.text, None)?;
 //! assert!(text.text.starts_with(b"error: non-exhaustive patterns: `false` not covered\n"));
 //! # Ok::<(), matchcheck::Fault>(())
 //! ```
@@ -141,13 +141,15 @@ pub fn report(command: Command<'_>, options: Options, source: &[u8]) -> Result<R
     Ok(Report { text, verdict })
 }
 
-/// The text of a report of [`Command::Check`] beside its source, in which the source has this name.
+/// The text of a report of [`Command::Check`] beside its source, in which the source has this name. The arms of a report of
+/// [`Command::Arms`] are shown in place of missing cases.
 ///
 /// # Errors
 ///
-/// [`Fault::NoForm`] where the report is none or is of another source, [`Fault::NoMemory`] where memory is refused.
-pub fn explain(name: &str, source: &[u8], report: &[u8]) -> Result<Explained, Fault> {
-    let (text, status) = text_of(|room| calls::explain(name.as_bytes(), source, report, room))?;
+/// [`Fault::NoForm`] where a report is none or is of another source, [`Fault::NoMemory`] where memory is refused.
+pub fn explain(name: &str, source: &[u8], report: &[u8], arms: Option<&[u8]>) -> Result<Explained, Fault> {
+    let arms = arms.unwrap_or_default();
+    let (text, status) = text_of(|room| calls::explain(name.as_bytes(), source, report, arms, room))?;
     Ok(Explained { text, breaks: status == 1 })
 }
 
