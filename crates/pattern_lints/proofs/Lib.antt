@@ -22,6 +22,7 @@ pub mod Entering
 pub mod Arms
 pub mod BesideLaws
 pub mod TextNumbers
+pub mod HullLaws
 pub mod Mixed
 pub mod EndList
 pub mod EndOrder

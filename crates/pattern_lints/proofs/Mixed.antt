@@ -28,7 +28,7 @@ size-signed true (suc n) = refl
 size-signed false n = refl
 
 -- what is mixed of the last digits alone is the same
-pub mix-ends : (a b : ℕ) → (a % 18446744073709551616 * 1099511628211 + b % 18446744073709551616) % 18446744073709551616 ≡ (a * 1099511628211 + b) % 18446744073709551616
+pub mix-ends : (a b : ℕ) → (a % 18446744073709551557 * 1099511628211 + b % 18446744073709551557) % 18446744073709551557 ≡ (a * 1099511628211 + b) % 18446744073709551557
 mix-ends a b = omega arith
 
 -- one column more

@@ -51,7 +51,7 @@ none_more {A} xs P n x l e none not_one i y m there = elim (cases_lt i n) [
       λ p. not_one (subst P (sym (some_same x y z)) p))
 ]
 
-mapped_back : {A B : Type 0} (f : A → B) (xs : List A) (i : ℕ) (y : B) → slice_get (map f xs) i ≡ Some y → (x : A) × (slice_get xs i ≡ Some x) × (y ≡ f x)
+pub mapped_back : {A B : Type 0} (f : A → B) (xs : List A) (i : ℕ) (y : B) → slice_get (map f xs) i ≡ Some y → (x : A) × (slice_get xs i ≡ Some x) × (y ≡ f x)
 mapped_back f [] i y e = cc
 mapped_back f (x ∷ xs) zero y e = (x, refl, sym (some_same (f x) y e))
 mapped_back f (x ∷ xs) (suc i) y e = mapped_back f xs i y e

@@ -1,5 +1,5 @@
 -- What stands beside a range: the number of another part of the value (our own choice).
-use Rattle.std.specs.Prelude.{⊤, ◌≡◌, ℕ, zero, suc, ◌+◌, ◌*◌, ◌%◌, ℤ, pos, Bool, true, false, List, [], ◌∷◌, length, take, slice_get, None, Some, IsTrue, nat_lt, int_le, if◌then◌else◌}
+use Rattle.std.specs.Prelude.{⊤, ◌≡◌, ℕ, zero, suc, ◌+◌, ◌*◌, ◌%◌, ℤ, pos, Bool, true, false, List, [], ◌∷◌, length, slice_get, None, Some, IsTrue, nat_lt, int_le, if◌then◌else◌}
 use Rattle.match_model.specs.Values.{MValue, Flag, Num, Text, Node, Row, values_list, parts_of}
 use Rattle.match_model.specs.Numbers.{MEnd, Free, At, MRange, in_range, closed}
 use Rattle.match_model.specs.Constructors.{MCtor, SingleCtor, PointCtor, VariantCtor, FlagCtor, NumbersCtor, TextCtor, RowCtor, FixedShape, LongerShape, least_held, greatest_held}
@@ -12,9 +12,9 @@ abbrev pub with_digits : (number : ℕ) → List ℕ → ℕ
 with_digits n [] = n
 with_digits n (c ∷ cs) = with_digits (n * 1099511628211 + c) cs
 
--- a number of the text's first 64 scalar values, of 64 bits: others seldom have the same
+-- a number of the text's scalar values, of 64 bits: other texts seldom have the same
 abbrev pub text_number : List ℕ → ℕ
-text_number t = with_digits 0 (take 64 t) % 18446744073709551616
+text_number t = with_digits 0 t % 18446744073709551616
 
 -- the number of a value: of a flag 0 or 1, of a variant its number, of a row its length, of a text that of its scalar
 -- values, of any other 0

@@ -54,6 +54,10 @@ IsBetween columns p f from to =
     (v : MValue) (position : List ℕ) (at : ℕ) (s : MRange) → MeetsAlong p f.path v position at s →
     IsTrue (int_le from (held_of (number_in columns f.place position v))) × IsTrue (int_le (held_of (number_in columns f.place position v)) to)
 
+-- where a place has columns, this is known
+abbrev pub KnowsColumns : List Columns → Type 0 → Type 0
+KnowsColumns columns P = (place : ℕ) (c : Columns) → slice_get columns place ≡ Some c → P
+
 -- the end's two numbers bound the number in the columns
 abbrev pub IsBounded : {T : Type 0} → List (MDeArm T) → List Columns → List RangeView → RangeEnd → Type 0
 IsBounded {T} arms columns fs e =
@@ -63,6 +67,10 @@ IsBounded {T} arms columns fs e =
 -- so do those of each end of the list
 abbrev pub AreBounded : {T : Type 0} → List (MDeArm T) → List Columns → List RangeView → List RangeEnd → Type 0
 AreBounded arms columns fs ends = (e : RangeEnd) → Contains ends e → IsBounded arms columns fs e
+
+-- some columns have their number between the two of each end, of both lists
+abbrev pub AreApart : {T : Type 0} → List (MDeArm T) → List RangeView → (highs lows : List RangeEnd) → Type 0
+AreApart arms fs highs lows = (columns : List Columns) × AreBounded arms columns fs highs × AreBounded arms columns fs lows
 
 -- by places, and where they are one by what follows
 abbrev pub by_place : (p q : ℕ) → (rest : Bool) → Bool

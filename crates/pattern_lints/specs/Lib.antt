@@ -6,6 +6,7 @@ pub mod Spots
 pub mod Pairs
 pub mod Finding
 pub mod Beside
+pub mod Hulls
 pub mod Mixing
 pub mod Ends
 pub mod Pairing

@@ -1,5 +1,5 @@
 -- The number in several columns beside a range (our own choice).
-use Rattle.std.specs.Prelude.{ℕ, ◌+◌, ◌*◌, ◌%◌, ℤ, pos, ◌+ℤ◌, ◌*ℤ◌, nat_abs, List, [], ◌∷◌, IsTrue}
+use Rattle.std.specs.Prelude.{ℕ, ◌+◌, ◌*◌, ◌%◌, ℤ, pos, ◌+ℤ◌, ◌*ℤ◌, nat_abs, List, [], ◌∷◌, Option, None, Some, IsTrue}
 use Rattle.match_model.specs.Values.{MValue}
 use Rattle.match_model.specs.Numbers.{MRange, in_range}
 use Rattle.match_model.specs.ArenaPatterns.{MDePat}
@@ -9,9 +9,9 @@ use Rattle.pattern_lints.specs.declared.mixing.Group.{Group}
 use Rattle.pattern_lints.specs.Along.{MeetsAlong}
 use Rattle.pattern_lints.specs.Beside.{number_beside}
 
--- a number of both, of 64 bits: other pairs seldom have the same
+-- a number of both, below the greatest prime of 64 bits: other pairs seldom have the same
 abbrev pub mix : ℤ → ℤ → ℕ
-mix x y = (nat_abs x * 1099511628211 + nat_abs y) % 18446744073709551616
+mix x y = (nat_abs x * 1099511628211 + nat_abs y) % 18446744073709551557
 
 -- the number mixed with those in the columns, one after the other
 abbrev pub mixed_with : ℤ → List Column → (position : List ℕ) → MValue → ℤ
@@ -35,9 +35,14 @@ abbrev pub with_digits_of : ℤ → List Group → (position : List ℕ) → MVa
 with_digits_of x [] position v = x
 with_digits_of x (g ∷ gs) position v = with_digits_of (with_digit x (last_digit (mixed g.columns.items position v))) gs position v
 
+-- the number in the first column; 0 where there is none
+abbrev pub first_number : Option Column → (position : List ℕ) → MValue → ℤ
+first_number None position v = pos 0
+first_number (Some c) position v = number_beside c.depth c.steps.items position v
+
 -- the number in the columns
 abbrev pub number_of : Columns → (position : List ℕ) → MValue → ℤ
-number_of c position v = with_digits_of (number_beside c.first.depth c.first.steps.items position v) c.groups.items position v
+number_of c position v = with_digits_of (first_number c.first position v) c.groups.items position v
 
 -- in each value that the pattern matches along the path, the number is in the range
 abbrev pub LiesAt : {T : Type 0} → MDePat T → (path : List ℕ) → (List ℕ → MValue → ℤ) → MRange → Type 0

@@ -2,17 +2,20 @@
 //
 // Two ranges that end and begin at one number cannot meet where their rows differ in another part, as `(0, 0..=5)` and
 // `(1, 5..=9)` do. A column is such a part, and the number of a value there is its own, or that of its variant.
-ghost use Rattle.std.specs.Prelude.{◌≡◌, ◌∷◌, ℤ, pos, IsTrue, int_le, chars};
-ghost use Rattle.match_model.specs.Numbers.{Free, closed, in_range};
+ghost use Rattle.std.specs.Prelude.{◌≡◌, ◌∷◌, ℤ, slice_get, Some, IsTrue, IfSome, int_le};
+ghost use Rattle.match_model.specs.Numbers.{in_range};
+ghost use Rattle.match_model.specs.ArenaPatterns.{subs_of};
 ghost use Rattle.pat_context.specs.Views.{plain_ctor};
 ghost use Rattle.pattern_arena.specs.Trees.{tree};
 ghost use Rattle.range_split.specs.Ranges.{plain_range};
 ghost use Rattle.range_split.specs.Numbers.{num_value};
 ghost use Rattle.range_split.specs.Ends.{plain_end};
 ghost use Rattle.pattern_lints.specs.Meeting.{plain_head};
-ghost use Rattle.pattern_lints.specs.Beside.{stands_first, text_number, own_range, held_of, low_held, high_held};
+ghost use Rattle.pattern_lints.specs.Beside.{stands_first, held_of, low_held, high_held};
 ghost use Rattle.pattern_lints.specs.Beside.{MatchesPart, LiesBelow, LiesBeside};
+ghost use Rattle.pattern_lints.specs.Hulls.{AreKnown};
 
+use crate::hulls::{Hulls, all_numbers, numbers_of};
 use crate::places::{is_or, nth};
 use pat_context::Ctor;
 use pattern_arena::DePat;
@@ -26,53 +29,6 @@ pub(crate) struct Column {
     pub(crate) depth: usize,
     // The numbers of the parts that lead to the column.
     pub(crate) steps: Vec<usize>,
-}
-
-/// The range of all numbers.
-pub(crate) fn all_numbers() -> Range
-    ensures { plain_range result ≡ record { low = Free; high = Free } }
-{
-    Range::between(&End::Free, &End::Free)
-}
-
-/// The range of one number.
-pub(crate) fn one_number(number: u128) -> Range
-    ensures { plain_range result ≡ closed (pos number) (pos number) }
-{
-    let at = End::At(Num::new(false, number));
-    Range::between(&at, &at)
-}
-
-// The scalar value of the character.
-fn scalar_value(c: char) -> u128
-    ensures { result ≡ c }
-{
-    u128::from(u32::from(c))
-}
-
-// A number of the text, of 64 bits: its first 64 scalar values are digits, in a base that spreads them.
-fn text_number(text: &str) -> u128
-    ensures { result ≡ text_number (chars text.now) }
-{
-    let mut number: u128 = 0;
-    for c in text.chars().take(64) {
-        number = (number * 1_099_511_628_211 + scalar_value(c)) % 18_446_744_073_709_551_616;
-    }
-    number
-}
-
-// The numbers of the values that the constructor builds.
-fn own_numbers(ctor: &Ctor) -> Range
-    ensures { plain_range result ≡ own_range (plain_ctor ctor.now) }
-{
-    match *ctor {
-        Ctor::Numbers(range) => range,
-        Ctor::Variant(variant) => one_number(variant as u128),
-        Ctor::Flag(flag) => { if flag { one_number(1) } else { one_number(0) } }
-        Ctor::Row(Shape::Fixed(len)) => one_number(len as u128),
-        Ctor::Text(text) => one_number(text_number(text)),
-        _ => all_numbers(),
-    }
 }
 
 /// Tells whether the pattern with the number below the constructor stands at the part with that number, in every value.
@@ -89,7 +45,8 @@ pub(crate) fn stands_first(ctor: &Ctor, i: usize) -> bool
 
 // The pattern for the part with the number, where each value that is matched has that part.
 fn part_pattern<'a, T: Copy>(p: &'a DePat<'a, T>, i: usize) -> Option<&'a DePat<'a, T>>
-    ensures { MatchesPart (tree p.entry.now) i (plain_head result) }
+    ensures matches { MatchesPart (tree p.entry.now) i (plain_head result) }
+    ensures sub { IfSome result (λ q. slice_get (subs_of (tree p.entry.now)) i ≡ Some (tree q.now)) }
 {
     if stands_first(&p.form.ctor, i) {
         nth(p, i)
@@ -99,26 +56,28 @@ fn part_pattern<'a, T: Copy>(p: &'a DePat<'a, T>, i: usize) -> Option<&'a DePat<
 }
 
 // The numbers of the part to which the steps lead, in the values that the pattern matches.
-fn numbers_below<'a, T: Copy>(p: &'a DePat<'a, T>, steps: &[usize]) -> Range
-    ensures { LiesBelow (tree p.entry.now) steps.now (plain_range result) }
+fn numbers_below<'a, T: Copy>(hulls: &Hulls, p: &'a DePat<'a, T>, steps: &[usize]) -> Range
+    ensures { AreKnown hulls.now (tree p.entry.now) → LiesBelow (tree p.entry.now) steps.now (plain_range result) }
 {
     match steps.split_first() {
-        None => own_numbers(&p.form.ctor),
+        None => numbers_of(hulls, p),
         Some((i, rest)) => match part_pattern(p, *i) {
             None => all_numbers(),
-            Some(sub) => numbers_below(sub, rest),
+            Some(sub) => numbers_below(hulls, sub, rest),
         },
     }
 }
 
 // The same, where the values are matched along a path that goes on at the pattern with the number `i` below.
 fn numbers_at_step<'a, T: Copy>(
+    hulls: &Hulls,
     p: &'a DePat<'a, T>,
     i: usize,
     rest: &[usize],
     steps: &[usize],
 ) -> Range
-    ensures { LiesBeside (tree p.entry.now) (i ∷ rest.now) 0 steps.now (plain_range result) }
+    ensures { AreKnown hulls.now (tree p.entry.now)
+        → LiesBeside (tree p.entry.now) (i ∷ rest.now) 0 steps.now (plain_range result) }
 {
     match steps.split_first() {
         Some((j, behind)) => {
@@ -127,7 +86,7 @@ fn numbers_at_step<'a, T: Copy>(
             }
             match nth(p, *j) {
                 None => all_numbers(),
-                Some(sub) => numbers_below(sub, behind),
+                Some(sub) => numbers_below(hulls, sub, behind),
             }
         }
         None => all_numbers(),
@@ -137,12 +96,14 @@ fn numbers_at_step<'a, T: Copy>(
 /// The numbers of a part beside a range, in the values that the pattern matches along the path to the range. The steps
 /// lead to the part, from so many steps along the range's position. It takes no memory.
 pub(crate) fn numbers_beside<'a, T: Copy>(
+    hulls: &Hulls,
     p: &'a DePat<'a, T>,
     path: &[usize],
     depth: usize,
     steps: &[usize],
 ) -> Range
-    ensures { LiesBeside (tree p.entry.now) path.now depth steps.now (plain_range result) }
+    ensures { AreKnown hulls.now (tree p.entry.now)
+        → LiesBeside (tree p.entry.now) path.now depth steps.now (plain_range result) }
 {
     let Some((i, rest)) = path.split_first() else {
         return all_numbers();
@@ -151,11 +112,11 @@ pub(crate) fn numbers_beside<'a, T: Copy>(
         return all_numbers();
     };
     if is_or(&p.form.ctor) {
-        numbers_beside(sub, rest, depth, steps)
+        numbers_beside(hulls, sub, rest, depth, steps)
     } else if depth > 0 {
-        numbers_beside(sub, rest, depth - 1, steps)
+        numbers_beside(hulls, sub, rest, depth - 1, steps)
     } else {
-        numbers_at_step(p, *i, rest, steps)
+        numbers_at_step(hulls, p, *i, rest, steps)
     }
 }
 

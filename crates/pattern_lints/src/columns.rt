@@ -6,9 +6,13 @@
 use crate::beside::{Column, stands_first};
 use crate::ends::RangeEnd;
 use crate::found::FoundRange;
+use crate::hulls::{Hulls, numbers_of};
 use crate::mixing::Columns;
 use crate::places::{is_or, nth};
-use crate::trials::{Trial, choose, count_range, keep_best, untried};
+use crate::trials::{
+    Trial, best_columns, is_better, is_open, keep_best, no_columns, scatter, sort_steady_first,
+    steady_columns, tell_each, told_by, untried,
+};
 use no_memory::NoMemory;
 use pat_context::Ctor;
 use pattern_arena::{CheckedArm, DePat};
@@ -19,31 +23,22 @@ use std::alloc::Global;
 const CROWD: usize = 16;
 
 // So many ranges of a place are compared, or up to twice as many.
-const COMPARED: usize = 12;
+const COMPARED: usize = 24;
 
 // So many columns of a place are tried.
 const TRIED: usize = 64;
 
 // So many patterns are looked at for columns of a place.
-const LOOKED_AT: usize = 128;
-
-// Over all places, so many columns are counted, but at least a few of each.
-const COUNTED: usize = 256;
-
-const COUNTED_AT_LEAST: usize = 4;
+const LOOKED_AT: usize = 512;
 
 // The ranges of a place.
 #[derive(Drop)]
-struct Crowd {
+pub(crate) struct Crowd {
     count: usize,
     // How many pairs of them touch.
     pairs: usize,
-    // How many of them were looked at.
-    seen: usize,
-    // The indices of those that are compared.
-    compared: Vec<usize>,
-    // The columns that are tried.
-    trials: Vec<Trial>,
+    // Their indices, where a column is worth while.
+    members: Vec<usize>,
 }
 
 // The columns that are tried, and the steps to the pattern that is looked at.
@@ -74,9 +69,7 @@ fn empty_crowds(alloc: Global, count: usize) -> Result<Vec<Crowd>, NoMemory> {
         crowds.push(Crowd {
             count: 0,
             pairs: 0,
-            seen: 0,
-            compared: Vec::new(alloc),
-            trials: Vec::new(alloc),
+            members: Vec::new(alloc),
         })?;
     }
     Ok(crowds)
@@ -155,36 +148,56 @@ fn some_is_crowded(crowds: &[Crowd]) -> bool {
     false
 }
 
-// Tells whether it is the turn of the next range to be compared. One range in so many is, each a bit further on, since
-// rows often come by turns.
-fn is_due(seen: usize, step: usize) -> bool {
-    step > 0 && seen % step == (seen / step).saturating_mul(7) % step
-}
-
-// Takes the range with the index to be compared, if it is its turn.
-fn look_at(crowd: &mut Crowd, index: usize) -> Result<(), NoMemory> {
-    if is_crowded(crowd) && is_due(crowd.seen, crowd.count / COMPARED) {
-        crowd.compared.push(index)?;
-    }
-    crowd.seen = crowd.seen.saturating_add(1);
-    Ok(())
-}
-
-// Takes the ranges that are compared.
-fn take_compared(crowds: &mut [Crowd], found: &[FoundRange]) -> Result<(), NoMemory> {
+// Adds each range to its place, where a column is worth while.
+fn add_members(crowds: &mut [Crowd], found: &[FoundRange]) -> Result<(), NoMemory> {
     for index in 0..found.len() {
-        if let Some(crowd) = crowds.get_mut(found[index].place) {
-            look_at(crowd, index)?;
+        if let Some(crowd) = crowds.get_mut(found[index].place)
+            && is_crowded(crowd)
+        {
+            crowd.members.push(index)?;
         }
     }
     Ok(())
 }
 
-// Tells whether the constructor's values have a number of their own.
-fn has_own_number(ctor: &Ctor) -> bool {
-    match ctor {
+// The first one of so many, or another one of those up to the next step.
+fn jump(turn: usize, step: usize, shift: usize) -> usize {
+    if step == 0 {
+        return turn;
+    }
+    let more = scatter(turn.saturating_add(shift)) % step;
+    turn.saturating_mul(step).saturating_add(more)
+}
+
+// Some of the members: one of so many that follow each other, and each time another one of them, since rows often come
+// by turns. Another shift gives others.
+fn spread(alloc: Global, members: &[usize], shift: usize) -> Result<Vec<usize>, NoMemory> {
+    let step = members.len() / COMPARED;
+    let mut compared = Vec::new(alloc);
+    for turn in 0..COMPARED.saturating_mul(2) {
+        if let Some(index) = members.get(jump(turn, step, shift)) {
+            compared.push(*index)?;
+        }
+    }
+    Ok(compared)
+}
+
+// The members whose columns are tried: those that are compared, and as many others.
+fn all_asked(alloc: Global, members: &[usize]) -> Result<Vec<usize>, NoMemory> {
+    let mut asked = spread(alloc, members, 0)?;
+    let others = spread(alloc, members, members.len())?;
+    for index in &others {
+        asked.push(*index)?;
+    }
+    Ok(asked)
+}
+
+// Tells whether the pattern has not all numbers.
+fn has_own_numbers<'a, T: Copy>(hulls: &Hulls, p: &'a DePat<'a, T>) -> bool {
+    match p.form.ctor {
         Ctor::Variant(_) | Ctor::Flag(_) | Ctor::Numbers(_) => true,
         Ctor::Text(_) | Ctor::Row(Shape::Fixed(_)) => true,
+        Ctor::Or => !is_open(&numbers_of(hulls, p)),
         _ => false,
     }
 }
@@ -192,7 +205,7 @@ fn has_own_number(ctor: &Ctor) -> bool {
 // Tells whether an earlier range has the column at the steps too.
 fn is_tried(trying: &Trying, depth: usize) -> bool {
     for i in 0..trying.earlier.min(trying.trials.len()) {
-        let column = &trying.trials[i].own.first;
+        let column = &trying.trials[i].column;
         if column.depth == depth && column.steps == trying.steps {
             return true;
         }
@@ -207,13 +220,15 @@ fn add_column(trying: &mut Trying, depth: usize) -> Result<(), NoMemory> {
         return Ok(());
     }
     let steps = Vec::from_slice(trying.alloc, &trying.steps)?;
-    let trial = untried(trying.alloc, Column { depth, steps });
-    trying.trials.push(trial)?;
+    trying
+        .trials
+        .push(untried(trying.alloc, Column { depth, steps }))?;
     Ok(())
 }
 
 // Adds the columns of the pattern and of those below it.
 fn add_columns<'a, T: Copy>(
+    hulls: &Hulls,
     trying: &mut Trying,
     p: &'a DePat<'a, T>,
     depth: usize,
@@ -221,13 +236,13 @@ fn add_columns<'a, T: Copy>(
     if trying.left == 0 || trying.trials.len() >= TRIED {
         return Ok(());
     }
-    if has_own_number(&p.form.ctor) {
+    if has_own_numbers(hulls, p) {
         add_column(trying, depth)?;
     }
     for j in 0..p.form.subs.len() {
         if stands_first(&p.form.ctor, j) {
             trying.steps.push(j)?;
-            add_columns(trying, &p.form.subs[j], depth)?;
+            add_columns(hulls, trying, &p.form.subs[j], depth)?;
             trying.steps.pop();
         }
     }
@@ -236,6 +251,7 @@ fn add_columns<'a, T: Copy>(
 
 // Adds the columns below the pattern, but not those of the part with the number `i`.
 fn add_others<'a, T: Copy>(
+    hulls: &Hulls,
     trying: &mut Trying,
     p: &'a DePat<'a, T>,
     i: usize,
@@ -244,7 +260,7 @@ fn add_others<'a, T: Copy>(
     for j in 0..p.form.subs.len() {
         if j != i && stands_first(&p.form.ctor, j) {
             trying.steps.push(j)?;
-            add_columns(trying, &p.form.subs[j], depth)?;
+            add_columns(hulls, trying, &p.form.subs[j], depth)?;
             trying.steps.pop();
         }
     }
@@ -253,6 +269,7 @@ fn add_others<'a, T: Copy>(
 
 // Adds the columns beside the path, the pattern being at the depth.
 fn add_beside<'a, T: Copy>(
+    hulls: &Hulls,
     trying: &mut Trying,
     p: &'a DePat<'a, T>,
     path: &[usize],
@@ -265,18 +282,19 @@ fn add_beside<'a, T: Copy>(
         return Ok(());
     };
     if is_or(&p.form.ctor) {
-        return add_beside(trying, sub, rest, depth);
+        return add_beside(hulls, trying, sub, rest, depth);
     }
-    add_others(trying, p, *i, depth)?;
-    add_beside(trying, sub, rest, depth.saturating_add(1))
+    add_others(hulls, trying, p, *i, depth)?;
+    add_beside(hulls, trying, sub, rest, depth.saturating_add(1))
 }
 
-// The columns beside the compared ranges, each once.
+// The columns beside the ranges with these indices, each once.
 fn columns_beside<'a, T: Copy>(
     alloc: Global,
     arms: &'a [CheckedArm<'a, T>],
     found: &[FoundRange],
-    compared: &[usize],
+    hulls: &Hulls,
+    asked: &[usize],
 ) -> Result<Vec<Trial>, NoMemory> {
     let mut trying = Trying {
         alloc,
@@ -285,94 +303,50 @@ fn columns_beside<'a, T: Copy>(
         earlier: 0,
         left: LOOKED_AT,
     };
-    for index in compared {
+    for index in asked {
         if let Some(range) = found.get(*index)
             && let Some(arm) = arms.get(range.arm)
         {
-            add_beside(&mut trying, &arm.pat, &range.path, 0)?;
+            add_beside(hulls, &mut trying, &arm.pat, &range.path, 0)?;
             trying.earlier = trying.trials.len();
         }
     }
     Ok(trying.trials)
 }
 
-// How many columns are counted at each place.
-fn count_kept(crowds: &[Crowd]) -> usize {
-    let mut crowded: usize = 0;
-    for crowd in crowds {
-        if is_crowded(crowd) {
-            crowded = crowded.saturating_add(1);
-        }
-    }
-    if crowded == 0 {
-        return TRIED;
-    }
-    (COUNTED / crowded).max(COUNTED_AT_LEAST)
-}
-
-// Takes the columns that are counted at each place.
-fn take_columns<'a, T: Copy>(
+// The columns for a place with these ranges.
+fn columns_for<'a, T: Copy>(
     alloc: Global,
     arms: &'a [CheckedArm<'a, T>],
     found: &[FoundRange],
-    crowds: &mut [Crowd],
-) -> Result<(), NoMemory> {
-    let most = count_kept(crowds);
-    for i in 0..crowds.len() {
-        let crowd = &mut crowds[i];
-        crowd.trials = columns_beside(alloc, arms, found, &crowd.compared)?;
-        keep_best(alloc, arms, found, &crowd.compared, &mut crowd.trials, most)?;
-    }
-    Ok(())
-}
-
-// Counts what each range has in the columns of its place.
-fn count_numbers<'a, T: Copy>(
-    arms: &'a [CheckedArm<'a, T>],
-    found: &[FoundRange],
-    crowds: &mut [Crowd],
-) {
-    for range in found {
-        if let Some(crowd) = crowds.get_mut(range.place)
-            && let Some(arm) = arms.get(range.arm)
-        {
-            count_range(&mut crowd.trials, &arm.pat, &range.path);
-        }
+    hulls: &Hulls,
+    members: &[usize],
+) -> Result<Columns, NoMemory> {
+    let compared = spread(alloc, members, 0)?;
+    let asked = all_asked(alloc, members)?;
+    let mut trials = columns_beside(alloc, arms, found, hulls, &asked)?;
+    keep_best(alloc, arms, found, hulls, &compared, &mut trials)?;
+    tell_each(arms, found, hulls, members, &mut trials)?;
+    sort_steady_first(&mut trials)?;
+    let (own, known) = best_columns(alloc, &trials, members.len())?;
+    let other = steady_columns(alloc, &trials, members.len())?;
+    let by_own = told_by(alloc, arms, found, hulls, &own, &compared)?;
+    let by_other = told_by(alloc, arms, found, hulls, &other, &compared)?;
+    if is_better((by_other, members.len()), (by_own, known)) {
+        Ok(other)
+    } else {
+        Ok(own)
     }
 }
 
-// The columns for each place.
-fn choose_each<'a, T: Copy>(
+/// The ranges of each place, by its number; none at all where no place is worth a column. The ends are those of the
+/// ranges, by place and number. The only error is want of memory.
+pub(crate) fn find_crowds(
     alloc: Global,
-    arms: &'a [CheckedArm<'a, T>],
-    found: &[FoundRange],
-    crowds: &mut [Crowd],
-) -> Result<Vec<Columns>, NoMemory> {
-    let mut columns = Vec::new(alloc);
-    for i in 0..crowds.len() {
-        let crowd = &mut crowds[i];
-        let chosen = choose(
-            alloc,
-            arms,
-            found,
-            &crowd.compared,
-            crowd.count,
-            &mut crowd.trials,
-        )?;
-        columns.push(chosen)?;
-    }
-    Ok(columns)
-}
-
-/// The columns for each place of a range, by its number; none at all where no place is worth any. The ends are those of
-/// the ranges, by place and number. The only error is want of memory.
-pub(crate) fn choose_columns<'a, T: Copy>(
-    alloc: Global,
-    arms: &'a [CheckedArm<'a, T>],
     found: &[FoundRange],
     highs: &[RangeEnd],
     lows: &[RangeEnd],
-) -> Result<Vec<Columns>, NoMemory> {
+) -> Result<Vec<Crowd>, NoMemory> {
     if found.len() < CROWD {
         return Ok(Vec::new(alloc));
     }
@@ -382,8 +356,26 @@ pub(crate) fn choose_columns<'a, T: Copy>(
     if !some_is_crowded(&crowds) {
         return Ok(Vec::new(alloc));
     }
-    take_compared(&mut crowds, found)?;
-    take_columns(alloc, arms, found, &mut crowds)?;
-    count_numbers(arms, found, &mut crowds);
-    choose_each(alloc, arms, found, &mut crowds)
+    add_members(&mut crowds, found)?;
+    Ok(crowds)
+}
+
+/// The columns for each place, by its number. The only error is want of memory.
+pub(crate) fn choose_columns<'a, T: Copy>(
+    alloc: Global,
+    arms: &'a [CheckedArm<'a, T>],
+    found: &[FoundRange],
+    hulls: &Hulls,
+    crowds: &[Crowd],
+) -> Result<Vec<Columns>, NoMemory> {
+    let mut columns = Vec::new(alloc);
+    for i in 0..crowds.len() {
+        let chosen = if crowds[i].members.is_empty() {
+            no_columns(alloc)
+        } else {
+            columns_for(alloc, arms, found, hulls, &crowds[i].members)?
+        };
+        columns.push(chosen)?;
+    }
+    Ok(columns)
 }

@@ -1,5 +1,5 @@
 // The ends of ranges, in order, so that those that touch an end of the other side stand together.
-ghost use Rattle.std.specs.Prelude.{◌≡◌, [], map, IfOk};
+ghost use Rattle.std.specs.Prelude.{◌≡◌, map, IfOk};
 ghost use Rattle.pattern_arena.specs.Trees.{plain_arm, tree};
 ghost use Rattle.range_split.specs.Numbers.{num_value};
 ghost use Rattle.range_split.specs.Order.{key_by};
@@ -7,10 +7,12 @@ ghost use Rattle.range_split.specs.Ends.{plain_end};
 ghost use Rattle.range_split.specs.Ranges.{plain_range};
 ghost use Rattle.pattern_lints.specs.Finding.{AreFoundIn, range_view};
 ghost use Rattle.pattern_lints.specs.Ends.{end_at, is_high, is_under, AreBounded, AreEnds, IsBetween, IsCount, IsRun};
-ghost use Rattle.pattern_lints.specs.Ends.{Rise, is_before};
+ghost use Rattle.pattern_lints.specs.Ends.{KnowsColumns, Rise, is_before};
+ghost use Rattle.pattern_lints.specs.Hulls.{AreKnown, AreKnownIn};
 
-use crate::beside::{bounds, numbers_beside};
+use crate::beside::bounds;
 use crate::found::FoundRange;
+use crate::hulls::{Hulls, all_numbers};
 use crate::mixing::{Columns, numbers_in};
 use no_memory::NoMemory;
 use pattern_arena::{CheckedArm, DePat};
@@ -73,16 +75,18 @@ fn end_of(range: &Range, side: Side) -> End
 
 // Between which numbers lies the number in the columns of the range's place.
 fn bounds_beside<'a, T: Copy>(
+    hulls: &Hulls,
+    columns: &[Columns],
     p: &'a DePat<'a, T>,
     range: &FoundRange,
-    columns: &[Columns],
 ) -> (Num, Num)
+    requires { KnowsColumns columns.now (AreKnown hulls.now (tree p.now)) }
     ensures { IsBetween columns.now (tree p.entry.now) (range_view range.now) (num_value result.0)
         (num_value result.1) }
 {
     match columns.get(range.place) {
-        None => bounds(&numbers_beside(p, &range.path, 0, &[])),
-        Some(own) => bounds(&numbers_in(p, &range.path, own)),
+        None => bounds(&all_numbers()),
+        Some(own) => bounds(&numbers_in(hulls, p, &range.path, own)),
     }
 }
 
@@ -91,10 +95,12 @@ fn ends_found<'a, T: Copy>(
     alloc: Global,
     arms: &'a [CheckedArm<'a, T>],
     found: &[FoundRange],
+    hulls: &Hulls,
     columns: &[Columns],
     side: Side,
 ) -> Result<Vec<RangeEnd>, NoMemory>
-    requires { AreFoundIn (map plain_arm arms.now) (map range_view found.now) }
+    requires found { AreFoundIn (map plain_arm arms.now) (map range_view found.now) }
+    requires known { KnowsColumns columns.now (AreKnownIn hulls.now (map plain_arm arms.now)) }
     ensures ends { IfOk result (λ v. AreEnds side (map range_view found.now) v.items) }
     ensures bounded { IfOk result (λ v. AreBounded (map plain_arm arms.entry.now) columns.now
         (map range_view found.now) v.items) }
@@ -103,7 +109,7 @@ fn ends_found<'a, T: Copy>(
     for index in 0..found.len() {
         let range = &found[index];
         if let End::At(number) = end_of(&range.range, side) {
-            let (from, to) = bounds_beside(&arms[range.arm].pat, range, columns);
+            let (from, to) = bounds_beside(hulls, columns, &arms[range.arm].pat, range);
             ends.push(RangeEnd {
                 place: range.place,
                 number,
@@ -121,42 +127,20 @@ pub(crate) fn sorted_ends<'a, T: Copy>(
     alloc: Global,
     arms: &'a [CheckedArm<'a, T>],
     found: &[FoundRange],
+    hulls: &Hulls,
     columns: &[Columns],
     side: Side,
-) -> Result<Vec<RangeEnd>, NoMemory>
-    requires { AreFoundIn (map plain_arm arms.now) (map range_view found.now) }
-    ensures ends { IfOk result (λ v. AreEnds side (map range_view found.now) v.items) }
-    ensures bounded { IfOk result (λ v. AreBounded (map plain_arm arms.entry.now) columns.now
-        (map range_view found.now) v.items) }
-    ensures rise { IfOk result (λ v. Rise v.items) }
-{
-    let mut ends = ends_found(alloc, arms, found, columns, side)?;
-    ends.sort_by_key(|end| key(end))?;
-    Ok(ends)
-}
-
-// The same with the columns, of ends that are in order without any.
-pub(crate) fn sorted_again<'a, T: Copy>(
-    alloc: Global,
-    arms: &'a [CheckedArm<'a, T>],
-    found: &[FoundRange],
-    columns: &[Columns],
-    side: Side,
-    ends: Vec<RangeEnd>,
 ) -> Result<Vec<RangeEnd>, NoMemory>
     requires found { AreFoundIn (map plain_arm arms.now) (map range_view found.now) }
-    requires ends { AreEnds side (map range_view found.now) ends.items }
-    requires bounded { AreBounded (map plain_arm arms.now) [] (map range_view found.now) ends.items }
-    requires rise { Rise ends.items }
+    requires known { KnowsColumns columns.now (AreKnownIn hulls.now (map plain_arm arms.now)) }
     ensures ends { IfOk result (λ v. AreEnds side (map range_view found.now) v.items) }
     ensures bounded { IfOk result (λ v. AreBounded (map plain_arm arms.entry.now) columns.now
         (map range_view found.now) v.items) }
     ensures rise { IfOk result (λ v. Rise v.items) }
 {
-    if columns.is_empty() {
-        return Ok(ends);
-    }
-    sorted_ends(alloc, arms, found, columns, side)
+    let mut ends = ends_found(alloc, arms, found, hulls, columns, side)?;
+    ends.sort_by_key(|end| key(end))?;
+    Ok(ends)
 }
 
 // Tells whether the number is below the bound, or at it where that counts.

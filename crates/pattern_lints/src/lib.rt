@@ -16,6 +16,7 @@ mod beside;
 mod columns;
 mod ends;
 mod found;
+mod hulls;
 mod lengths;
 mod list;
 mod meeting;

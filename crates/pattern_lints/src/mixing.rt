@@ -11,10 +11,12 @@ ghost use Rattle.pattern_arena.specs.Trees.{tree};
 ghost use Rattle.range_split.specs.Ends.{plain_end};
 ghost use Rattle.range_split.specs.Ranges.{plain_range};
 ghost use Rattle.range_split.specs.Numbers.{num_value};
+ghost use Rattle.pattern_lints.specs.Hulls.{AreKnown};
 ghost use Rattle.pattern_lints.specs.Mixing.{mix, mixed_with, with_digit, last_digit, with_digits_of};
-ghost use Rattle.pattern_lints.specs.Mixing.{number_of, LiesAt};
+ghost use Rattle.pattern_lints.specs.Mixing.{first_number, number_of, LiesAt};
 
-use crate::beside::{Column, all_numbers, numbers_beside, one_number};
+use crate::beside::{Column, numbers_beside};
+use crate::hulls::{Hulls, all_numbers, one_number};
 use pattern_arena::DePat;
 use range_split::{End, Num, Range};
 
@@ -27,8 +29,8 @@ pub(crate) struct Group {
 // Columns that are taken together.
 #[derive(Drop)]
 pub(crate) struct Columns {
-    // The column by whose number rows are told apart first.
-    pub(crate) first: Column,
+    // The column by whose number rows are told apart first. Without one, all have the number 0.
+    pub(crate) first: Option<Column>,
     // Each gives one more digit.
     pub(crate) groups: Vec<Group>,
 }
@@ -46,13 +48,13 @@ fn only_number(range: &Range) -> Option<Num>
     }
 }
 
-// A number of both, of 64 bits.
+// A number of both, below the greatest prime of 64 bits.
 fn mix(one: &Num, other: &Num) -> u128
     ensures { result ≡ mix (num_value one.now) (num_value other.now) }
 {
-    let first = one.size % 18_446_744_073_709_551_616;
-    let second = other.size % 18_446_744_073_709_551_616;
-    (first * 1_099_511_628_211 + second) % 18_446_744_073_709_551_616
+    let first = one.size % 18_446_744_073_709_551_557;
+    let second = other.size % 18_446_744_073_709_551_557;
+    (first * 1_099_511_628_211 + second) % 18_446_744_073_709_551_557
 }
 
 // The numbers that are mixed of one of the first and one of the second.
@@ -71,18 +73,20 @@ fn mixed_numbers(one: &Range, other: &Range) -> Range
 
 // The numbers that are mixed of the given ones and those in the columns.
 fn mixed_with<'a, T: Copy>(
+    hulls: &Hulls,
     p: &'a DePat<'a, T>,
     path: &[usize],
     first: Range,
     others: &[Column],
 ) -> Range
-    ensures { (n : List ℕ → MValue → ℤ) → LiesAt (tree p.entry.now) path.now n (plain_range first)
+    ensures { AreKnown hulls.now (tree p.entry.now) → (n : List ℕ → MValue → ℤ)
+        → LiesAt (tree p.entry.now) path.now n (plain_range first)
         → LiesAt (tree p.entry.now) path.now (λ position v. mixed_with (n position v) others.now position v)
         (plain_range result) }
 {
     let mut numbers = first;
     for column in others {
-        let more = numbers_beside(p, path, column.depth, &column.steps);
+        let more = numbers_beside(hulls, p, path, column.depth, &column.steps);
         numbers = mixed_numbers(&numbers, &more);
     }
     numbers
@@ -153,31 +157,51 @@ fn numbers_with(numbers: &Range, further: &Range) -> Range
 
 // The numbers with one more digit for each group.
 fn with_groups<'a, T: Copy>(
+    hulls: &Hulls,
     p: &'a DePat<'a, T>,
     path: &[usize],
     first: Range,
     groups: &[Group],
 ) -> Range
-    ensures { (n : List ℕ → MValue → ℤ) → LiesAt (tree p.entry.now) path.now n (plain_range first)
+    ensures { AreKnown hulls.now (tree p.entry.now) → (n : List ℕ → MValue → ℤ)
+        → LiesAt (tree p.entry.now) path.now n (plain_range first)
         → LiesAt (tree p.entry.now) path.now (λ position v. with_digits_of (n position v) groups.now position v)
         (plain_range result) }
 {
     let mut numbers = first;
     for group in groups {
-        let further = mixed_with(p, path, one_number(0), &group.columns);
+        let further = mixed_with(hulls, p, path, one_number(0), &group.columns);
         numbers = numbers_with(&numbers, &further);
     }
     numbers
 }
 
+// The number in the first column, or 0 where there is none.
+fn first_numbers<'a, T: Copy>(
+    hulls: &Hulls,
+    p: &'a DePat<'a, T>,
+    path: &[usize],
+    first: &Option<Column>,
+) -> Range
+    ensures { AreKnown hulls.now (tree p.entry.now)
+        → LiesAt (tree p.entry.now) path.now (first_number first.now) (plain_range result) }
+{
+    match first {
+        Some(column) => numbers_beside(hulls, p, path, column.depth, &column.steps),
+        None => one_number(0),
+    }
+}
+
 /// The number in the columns, in the values that the pattern matches along the path to a range. It takes no memory.
 pub(crate) fn numbers_in<'a, T: Copy>(
+    hulls: &Hulls,
     p: &'a DePat<'a, T>,
     path: &[usize],
     columns: &Columns,
 ) -> Range
-    ensures { LiesAt (tree p.entry.now) path.now (number_of columns.now) (plain_range result) }
+    ensures { AreKnown hulls.now (tree p.entry.now)
+        → LiesAt (tree p.entry.now) path.now (number_of columns.now) (plain_range result) }
 {
-    let first = numbers_beside(p, path, columns.first.depth, &columns.first.steps);
-    with_groups(p, path, first, &columns.groups)
+    let first = first_numbers(hulls, p, path, &columns.first);
+    with_groups(hulls, p, path, first, &columns.groups)
 }

@@ -3,16 +3,18 @@ ghost use Rattle.std.specs.Prelude.{◌≡◌, ◌<◌, [], map, length, slice_g
 ghost use Rattle.match_model.specs.Overlaps.{MeetAt};
 ghost use Rattle.match_model.specs.WellTyped.{IsWellTyped};
 ghost use Rattle.pattern_arena.specs.Trees.{plain_match};
-ghost use Rattle.pattern_lints.specs.Ends.{AreEnds, IsEnd, Rise, across};
+ghost use Rattle.pattern_lints.specs.Ends.{AreApart, AreEnds, IsEnd, Rise, across};
+ghost use Rattle.pattern_lints.specs.declared.ends.Side.TheVariants.{Low, High};
 ghost use Rattle.pattern_lints.specs.Finding.{AreFoundIn, range_view};
 ghost use Rattle.pattern_lints.specs.Pairing.{Adds, IsInArm, IsPair, IsPairFacing, IsPairFrom, IsPairIn, pair_at};
 ghost use Rattle.pattern_lints.specs.Views.{plain_overlap, plain_overlaps};
 ghost use Rattle.range_split.specs.Numbers.{num_value};
 
 use crate::along::along;
-use crate::columns::choose_columns;
-use crate::ends::{RangeEnd, Side, run_across, sorted_again, sorted_ends};
+use crate::columns::{Crowd, choose_columns, find_crowds};
+use crate::ends::{RangeEnd, Side, run_across, sorted_ends};
 use crate::found::FoundRange;
+use crate::hulls::{find_hulls, no_hulls};
 use no_memory::NoMemory;
 use pat_context::PatCx;
 use pattern_arena::CheckedMatch;
@@ -125,6 +127,51 @@ fn add_from<'a, C: PatCx>(
     Ok(())
 }
 
+// The overlaps of the ranges of two lists of ends, in no order.
+fn pairs_across<'a, C: PatCx>(
+    alloc: Global,
+    cx: &C,
+    m: &CheckedMatch<'a, C::Ty>,
+    found: &[FoundRange],
+    highs: &[RangeEnd],
+    lows: &[RangeEnd],
+) -> Result<Vec<Overlap>, NoMemory>
+    requires typed { IsWellTyped (C.is_type cx.now) (C.context cx.now) (plain_match m.now) }
+    requires found { AreFoundIn (plain_match m.now).arms (map range_view found.now) }
+    requires highs { AreEnds High (map range_view found.now) highs.now }
+    requires lows { AreEnds Low (map range_view found.now) lows.now }
+    requires high_rise { Rise highs.now }
+    requires low_rise { Rise lows.now }
+    requires apart { AreApart (plain_match m.now).arms (map range_view found.now) highs.now lows.now }
+    ensures { IfOk result (λ v. Adds (IsPairIn (C.is_value cx.now) (plain_match m.now) (map range_view found.now)) []
+        (plain_overlaps v.items)) }
+{
+    let mut overlaps = Vec::new(alloc);
+    add_from(cx, m, &mut overlaps, found, Side::High, highs, lows)?;
+    add_from(cx, m, &mut overlaps, found, Side::Low, lows, highs)?;
+    Ok(overlaps)
+}
+
+// The overlaps of the ranges, in no order, where columns keep some of them apart.
+fn pairs_apart<'a, C: PatCx>(
+    alloc: Global,
+    cx: &C,
+    m: &CheckedMatch<'a, C::Ty>,
+    found: &[FoundRange],
+    crowds: &[Crowd],
+) -> Result<Vec<Overlap>, NoMemory>
+    requires typed { IsWellTyped (C.is_type cx.now) (C.context cx.now) (plain_match m.now) }
+    requires found { AreFoundIn (plain_match m.now).arms (map range_view found.now) }
+    ensures { IfOk result (λ v. Adds (IsPairIn (C.is_value cx.now) (plain_match m.now) (map range_view found.now)) []
+        (plain_overlaps v.items)) }
+{
+    let hulls = find_hulls(alloc, m.arms)?;
+    let columns = choose_columns(alloc, m.arms, found, &hulls, crowds)?;
+    let highs = sorted_ends(alloc, m.arms, found, &hulls, &columns, Side::High)?;
+    let lows = sorted_ends(alloc, m.arms, found, &hulls, &columns, Side::Low)?;
+    pairs_across(alloc, cx, m, found, &highs, &lows)
+}
+
 // The overlaps of the ranges, in no order.
 pub(crate) fn all_pairs<'a, C: PatCx>(
     alloc: Global,
@@ -137,13 +184,12 @@ pub(crate) fn all_pairs<'a, C: PatCx>(
     ensures { IfOk result (λ v. Adds (IsPairIn (C.is_value cx.now) (plain_match m.now) (map range_view found.now)) []
         (plain_overlaps v.items)) }
 {
-    let high_ends = sorted_ends(alloc, m.arms, found, &[], Side::High)?;
-    let low_ends = sorted_ends(alloc, m.arms, found, &[], Side::Low)?;
-    let columns = choose_columns(alloc, m.arms, found, &high_ends, &low_ends)?;
-    let highs = sorted_again(alloc, m.arms, found, &columns, Side::High, high_ends)?;
-    let lows = sorted_again(alloc, m.arms, found, &columns, Side::Low, low_ends)?;
-    let mut overlaps = Vec::new(alloc);
-    add_from(cx, m, &mut overlaps, found, Side::High, &highs, &lows)?;
-    add_from(cx, m, &mut overlaps, found, Side::Low, &lows, &highs)?;
-    Ok(overlaps)
+    let none = no_hulls(alloc);
+    let highs = sorted_ends(alloc, m.arms, found, &none, &[], Side::High)?;
+    let lows = sorted_ends(alloc, m.arms, found, &none, &[], Side::Low)?;
+    let crowds = find_crowds(alloc, found, &highs, &lows)?;
+    if crowds.is_empty() {
+        return pairs_across(alloc, cx, m, found, &highs, &lows);
+    }
+    pairs_apart(alloc, cx, m, found, &crowds)
 }

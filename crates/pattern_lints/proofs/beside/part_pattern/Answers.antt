@@ -6,7 +6,7 @@ use Rattle.pattern_lints.specs.Meeting.{plain_head}
 use Rattle.pattern_lints.proofs.BesideLaws.{head-part}
 use Rattle.pattern_lints.proofs.beside.part_pattern.Goals as goal
 
-pub returns-then-stands_first : goal.returns-then-stands_first
-returns-then-stands_first g c =
+pub returns-then-stands_first-clause-matches : goal.returns-then-stands_first-clause-matches
+returns-then-stands_first-clause-matches g c =
     let p = c.args.p.now in
     head-part (tree p) c.args.i (plain_head c.nth.result) (ap (λ x. stands_first x c.args.i) (ctor_of-tree p) ∙ sym c.stands_first.ensures ∙ c.if-stands_first.true) c.nth.ensures

@@ -15,7 +15,7 @@ offset_bounds-arms-range g c =
     let fs = map range_view c.args.found.now in
     let r = c.index-found-index.result in
     let at = mapped-at range_view c.args.found.now c.loop-index.index r c.loop-index-test.true ∙ ap (λ z. Some (range_view z)) (sym c.index-found-index.is) in
-    let arm = in-arm (map plain_arm c.args.arms.now) fs (range_view r) c.requires (in-at fs c.loop-index.index (range_view r) at) in
+    let arm = in-arm (map plain_arm c.args.arms.now) fs (range_view r) c.requires.found (in-at fs c.loop-index.index (range_view r) at) in
     let less = below-mapped plain_arm c.args.arms.now r.arm arm.arm arm.there in
     omega (arith, less)
 
@@ -24,7 +24,7 @@ bounds-arms-range g c =
     let fs = map range_view c.args.found.now in
     let r = c.index-found-index.result in
     let at = mapped-at range_view c.args.found.now c.loop-index.index r c.loop-index-test.true ∙ ap (λ z. Some (range_view z)) (sym c.index-found-index.is) in
-    let arm = in-arm (map plain_arm c.args.arms.now) fs (range_view r) c.requires (in-at fs c.loop-index.index (range_view r) at) in
+    let arm = in-arm (map plain_arm c.args.arms.now) fs (range_view r) c.requires.found (in-at fs c.loop-index.index (range_view r) at) in
     below-mapped plain_arm c.args.arms.now r.arm arm.arm arm.there
 
 pub loop-index-preserved : goal.loop-index-preserved
@@ -36,7 +36,7 @@ loop-index-preserved g c =
     let i = c.loop-index.index in
     let r = c.index-found-index.result in
     let at = mapped-at range_view c.args.found.now i r c.loop-index-test.true ∙ ap (λ z. Some (range_view z)) (sym c.index-found-index.is) in
-    let arm = in-arm arms fs (range_view r) c.requires (in-at fs i (range_view r) at) in
+    let arm = in-arm arms fs (range_view r) c.requires.found (in-at fs i (range_view r) at) in
     let less = below-mapped plain_arm c.args.arms.now r.arm arm.arm arm.there in
     elim c.match-end_of.branch [
       | in-At+in_ok-push w ↦
@@ -56,3 +56,13 @@ pub returns-clause-ends : goal.returns-clause-ends
 returns-clause-ends g c =
     ends-all c.args.side (map range_view c.args.found.now) c.loop-index.index c.loop-index.ends.items
     (mapped-below range_view c.args.found.now c.loop-index.index (search rules)) c.loop-index.invariant.0
+
+pub bounds_beside-requires : goal.bounds_beside-requires
+bounds_beside-requires g c = λ place own e.
+    let fs = map range_view c.args.found.now in
+    let arms = c.args.arms.now in
+    let r = c.index-found-index.result in
+    let at = mapped-at range_view c.args.found.now c.loop-index.index r c.loop-index-test.true ∙ ap (λ z. Some (range_view z)) (sym c.index-found-index.is) in
+    let arm = in-arm (map plain_arm arms) fs (range_view r) c.requires.found (in-at fs c.loop-index.index (range_view r) at) in
+    let less = below-mapped plain_arm arms r.arm arm.arm arm.there in
+    c.requires.known place own e r.arm (plain_arm (get_or arms r.arm c.index-arms-range.result)) (mapped-at plain_arm arms r.arm c.index-arms-range.result less)

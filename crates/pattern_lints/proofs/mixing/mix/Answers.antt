@@ -9,5 +9,5 @@ returns c =
     let one = c.args.one.now in
     let other = c.args.other.now in
     mix-ends one.size other.size
-    ∙ ap (λ (a : ℕ). (a * 1099511628211 + other.size) % 18446744073709551616) (sym (size-signed one.negative one.size))
-    ∙ ap (λ (b : ℕ). (nat_abs (num_value one) * 1099511628211 + b) % 18446744073709551616) (sym (size-signed other.negative other.size))
+    ∙ ap (λ (a : ℕ). (a * 1099511628211 + other.size) % 18446744073709551557) (sym (size-signed one.negative one.size))
+    ∙ ap (λ (b : ℕ). (nat_abs (num_value one) * 1099511628211 + b) % 18446744073709551557) (sym (size-signed other.negative other.size))
