@@ -20,6 +20,7 @@ import tempfile
 
 sys.path.insert(0, os.path.dirname(os.path.dirname(os.path.abspath(__file__))))
 import shapes  # noqa: F401 (puts its families, and those of families.py, into the list)
+import touching  # noqa: F401 (puts its families into the list)
 import goals
 from limits import GUARD, MEGABYTE, Limits, least, limited, rustc
 from measuring import LONGEST, TOP
