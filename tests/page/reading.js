@@ -19,12 +19,13 @@ const PLACE = `(source, span) => {
   return line + ":" + column;
 }`;
 
-/* The findings of a report, each as a list. */
-function findings(text, report) {
+/* The findings of a report, each as a list; the report of `arms`, or null. */
+function findings(text, report, arms) {
   const source = call("(text) => new Source(text)", text);
-  return call("(source, report) => findingsOf(source, report)", source, report).map((it) => {
+  return call("(...given) => findingsOf(...given)", source, report, arms).map((it) => {
     const [place, other] = [it.span, it.other].map((span) => call(PLACE, source, span));
-    return [it.isError ? "error" : "warning", it.title, place, it.label, other, it.notes];
+    const toAdd = it.toAdd && [it.toAdd.text, ...it.toAdd.lines];
+    return [it.isError ? "error" : "warning", it.title, place, it.label, other, it.notes, toAdd];
   });
 }
 

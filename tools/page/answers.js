@@ -2,6 +2,8 @@
 /* Answers of the checker as elements of the page: findings, arms to add, trees, and what one value does. */
 
 const MOST_FINDINGS = 200, MOST_ARMS = 100;
+// The rules that a function breaks, and not a file.
+const isOfFunction = ({ rule }) => rule >= 20 && rule <= 35;
 // How many trees are shown, and how many nodes are drawn in one picture and in all of them.
 const MOST_TREES = 200, MOST_NODES = 250, MOST_DRAWN = 1000;
 
@@ -41,22 +43,24 @@ function codeLine(source, span) {
 }
 
 /* A broken rule in words: its title and label, and its number with its name. */
-function ruleText({ rule, name }) {
-  const [title, label] = RULES[rule] ?? [name, name];
-  return `${title}: ${label} (rule ${rule}, ${name})`;
+function ruleText(source, refused) {
+  const span = isOfFunction(refused) ? brokenAt(source, refused) : refusedAt(source, refused);
+  const [title, label] = ruleWords(source, span, refused);
+  return `${title}: ${label} (rule ${refused.rule}, ${refused.name})`;
 }
 
-/* The arms to add to a match, and a button that puts them in. */
-function armsToAdd(arms, number, insert) {
-  if (!arms) return [];
-  if (arms.refused) return [made("p", {}, "The arms cannot be written: ", ...worded(ruleText(arms.refused)))];
-  const items = arms.arms.slice(0, MOST_ARMS).map((pattern) => made("li", {}, code(`${pattern} => todo!(),`)));
-  if (arms.arms.length > MOST_ARMS) items.push(made("li", {}, `and ${arms.arms.length - MOST_ARMS} more`));
-  const isOne = arms.arms.length === 1, what = isOne ? "this arm" : `these ${arms.arms.length} arms`;
+/* The help with the arms to add to a match, and a button that puts all of them in. */
+function armsToAdd({ text, lines }, arms, number, insert) {
+  const what = arms.arms.length === 1 ? "this arm" : `all ${arms.arms.length} arms`;
   const properties = { type: "button", className: "insert", onclick: () => insert(number, arms.arms) };
-  const head = made("p", {}, isOne ? "The arm to add:" : "The arms to add, in this order:");
-  const list = made("ul", { className: "arms" }, ...items);
-  return [head, list, made("button", properties, `Insert ${what} into ${arms.name}`)];
+  const list = made("ul", { className: "arms" }, ...lines.map((line) => made("li", {}, code(line))));
+  return [made("p", {}, text), list, made("button", properties, `Insert ${what} into ${arms.name}`)];
+}
+
+/* Why arms cannot be written, where a rule refuses them. */
+function armsRefused(source, arms) {
+  if (!arms?.refused) return [];
+  return [made("p", {}, "The arms cannot be written: ", ...worded(ruleText(source, arms.refused)))];
 }
 
 /* A place with its line. */
@@ -71,11 +75,11 @@ function findingItem(source, finding, arms, on) {
   const item = made("li", { className: `finding ${level}` }, head, ...placed(source, finding.span, on.go));
   item.append(made("p", { className: "label" }, ...worded(finding.label)));
   item.append(...placed(source, finding.other, on.go, "... with this range, "));
-  const toAdd = finding.missing === undefined ? null : arms?.functions?.[finding.missing];
-  // Where the arms are shown, they stand for the helps.
-  const notes = finding.notes.filter((note) => !toAdd || !note.startsWith("help: "));
-  item.append(made("ul", { className: "notes" }, ...notes.map((note) => made("li", {}, ...worded(note)))));
-  item.append(...armsToAdd(toAdd, finding.missing, on.insert));
+  item.append(made("ul", { className: "notes" }, ...finding.notes.map((note) => made("li", {}, ...worded(note)))));
+  if (finding.missing === undefined) return item;
+  const entry = arms?.functions?.[finding.missing];
+  item.append(...armsRefused(source, entry));
+  if (finding.toAdd) item.append(...armsToAdd(finding.toAdd, entry, finding.missing, on.insert));
   return item;
 }
 
@@ -91,8 +95,9 @@ function findingItems(source, findings, arms, on) {
 function armsOfAll(source, answer, on) {
   return answer.functions.map((entry, number) => {
     const part = made("section", { className: "arms-of" }, made("h3", {}, "Arms of ", code(entry.name)));
-    if (entry.arms?.length === 0) part.append(made("p", {}, "The match is exhaustive: there is no arm to add."));
-    else part.append(...armsToAdd(entry, number, on.insert));
+    if (entry.refused) part.append(...armsRefused(source, entry));
+    else if (entry.arms.length === 0) part.append(made("p", {}, "The match is exhaustive: there is no arm to add."));
+    else part.append(...armsToAdd(armsHelp(entry.arms, MOST_ARMS), entry, number, on.insert));
     return part;
   });
 }
@@ -145,7 +150,7 @@ function bindings(list) {
 
 /* What one value does, by the answer of `eval`. */
 function outcomeOf(source, answer, name) {
-  if (answer.refused) return [made("p", { className: "outcome" }, ...worded(ruleText(answer.refused)))];
+  if (answer.refused) return [made("p", { className: "outcome" }, ...worded(ruleText(source, answer.refused)))];
   const lines = source.armLinesOf(name);
   const said = {
     took: () => `The value takes ${armText(answer.arm, lines)}.`,

@@ -5,8 +5,14 @@ NODE = re.compile(r'  (\w+) \[label="((?:[^"\\]|\\.)*)"(?:, shape=(\w+))?\];')
 EDGE = re.compile(r'  (\w+) -> (\w+) \[label="((?:[^"\\]|\\.)*)"\];')
 
 
+def to_add(lines):
+    """The help with arms to add: its words and then its lines, or None."""
+    at = next((at for at, line in enumerate(lines) if line.startswith("help: ")), None)
+    return None if at is None else [lines[at], *(line.removeprefix("        ") for line in lines[at + 1 :])]
+
+
 def finding(block):
-    """A finding: its level, title, place, label, the place of another range, and its notes."""
+    """A finding: its level, title, place, label, the place of another range, its notes, and the arms to add."""
     first, *lines = block.split("\n")
     level, title = re.fullmatch(r"(error|warning): (.*)", first, re.S).groups()
     places = [it[1] for line in lines for it in re.finditer(r"^ *--> .*?(?::(\d+:\d+))?$", line)]
@@ -14,7 +20,7 @@ def finding(block):
     notes = [line.strip()[2:] for line in lines if line.strip().startswith("= ")]
     if places[0] is None:
         labels.insert(0, notes.pop(0).removeprefix("note: "))
-    return [level, title, places[0], labels[0], places[1] if len(places) > 1 else None, notes]
+    return [level, title, places[0], labels[0], places[1] if len(places) > 1 else None, notes, to_add(lines)]
 
 
 def findings(text):

@@ -125,7 +125,7 @@ function clear() {
 
 /* Shows the answers of `check` or `trees`, and of `arms`. */
 function showFindings(report, arms) {
-  const source = shown.source, on = { go, insert }, findings = findingsOf(source, report);
+  const source = shown.source, on = { go, insert }, findings = findingsOf(source, report, arms);
   at("found").replaceChildren(...findingItems(source, findings, arms, on));
   at("trees").replaceChildren(...treesOf(source, report));
   markFindings(findings);

@@ -17,6 +17,12 @@ const TOKEN = new RegExp(
   ].join("|"),
   "uy",
 );
+// The keywords, which are no names, and `_`.
+const KEYWORDS = new Set(
+  `Self as async await abstract break become box const continue crate dyn do else enum extern false fn for final if
+   impl in let loop match mod move mut macro override pub priv ref return self static struct super trait true type try
+   typeof unsafe use unsized virtual where while yield _`.split(/\s+/),
+);
 const COMMENT_PART = /\/\*|\*\//g;
 
 /* The end of a block comment that begins at a place; comments stand in one another. */
@@ -48,6 +54,7 @@ const opens = (token) => token.kind === "mark" && "([{".includes(token.text);
 const closes = (token) => token.kind === "mark" && ")]}".includes(token.text);
 const isMark = (token, text) => token.kind === "mark" && token.text === text;
 const isWord = (token, text) => token.kind === "name" && token.text === text;
+const isName = (token) => token?.kind === "name" && !KEYWORDS.has(token.text);
 
 /* What stands where in the match of a function, whose body opens at this token: from where to where its scrutinee does,
    where the `=>` of its arms do, and the numbers of the tokens that open and close the match. Nothing where there is no
@@ -80,7 +87,7 @@ function matchesOf(tokens) {
       }
       depth++;
     } else if (closes(token)) depth--;
-    else if (depth === 0 && name === null && isWord(token, "fn") && tokens[at + 1]?.kind === "name") {
+    else if (depth === 0 && name === null && isWord(token, "fn") && isName(tokens[at + 1])) {
       name = tokens[at + 1].text.replace(/^r#/, "").normalize("NFC");
     }
   });

@@ -9,7 +9,9 @@ function seen() {
     const [first = null, other = null] = [...it.querySelectorAll(".place")].map(place);
     const title = text(it.querySelector("h3")).replace(/^\w+: /, "");
     const notes = [...it.querySelectorAll(".notes > li")].map(text);
-    return [text(it.querySelector(".level")), title, first, text(it.querySelector(".label")), other, notes];
+    const help = it.querySelector(".arms")?.previousElementSibling, lines = [...it.querySelectorAll(".arms > li")];
+    const toAdd = help ? [text(help), ...lines.map(text)] : null;
+    return [text(it.querySelector(".level")), title, first, text(it.querySelector(".label")), other, notes, toAdd];
   });
   const graphs = [...document.querySelectorAll(".tree-of")].map((it) => {
     const shape = (node) => [node.dataset.name, node.dataset.text, node.classList[1]];
